@@ -1,10 +1,9 @@
 -- Re-exports the names of std and of specs/ that many proofs cite. Declares nothing.
-pub use Rattle.std.proofs.Common.{ap, ◌++◌, ◌∙◌, arith, drop, inl, inr, sym, ◌≡◌, ◌+◌, ◌-◌, ◌/◌, ◌%◌, ◌<◌, ℕ, List, [], ◌∷◌, refl, length}
-pub use Rattle.std.proofs.Common.{length-append, true, lit≤, lit<, get_or, Bool, false, cond, Some, subst, append_assoc, ◌≤◌, take, Result}
-pub use Rattle.std.proofs.Common.{Ok, Err, OnOk, OnErr, ◌≢◌, ◌↔◌, IsTrue, ◌*◌, zero, suc, None, ◌⊎◌, ◌&&◌, leb, not, w8, map, ltb}
-pub use Rattle.std.proofs.Common.{replicate, Option, IfSome, rules, vec_len, vec_capacity, length-take, length-drop, take-add, nat_eq, ◌^◌}
-pub use Rattle.std.proofs.Common.{eqb, ◌||◌, bit_or, Fits, MatchResult, bit_and, is_ok, codes, drop-cons, length-take-le, min, slice_index}
-pub use Rattle.std.proofs.Common.{w16}
+pub use Rattle.std.proofs.Common.{length-append, append_assoc, vec_len, vec_capacity, length-take, length-drop, MatchResult, length-take-le}
+pub use Rattle.std.proofs.Common.{◌∙◌, length, get_or, Result, IsTrue, replicate, Option, IfSome, take-add, bit_and, drop-cons, slice_index}
+pub use Rattle.std.proofs.Common.{◌++◌, arith, drop, List, refl, true, lit≤, lit<, false, subst, OnErr, rules, nat_eq, bit_or, is_ok, codes}
+pub use Rattle.std.proofs.Common.{inl, inr, sym, ◌≡◌, ◌+◌, ◌-◌, ◌/◌, ◌%◌, ◌<◌, Bool, cond, Some, take, OnOk, zero, None, ◌&&◌, ◌||◌, Fits}
+pub use Rattle.std.proofs.Common.{ap, ℕ, [], ◌∷◌, ◌≤◌, Ok, Err, ◌≢◌, ◌↔◌, ◌*◌, suc, ◌⊎◌, leb, not, w8, map, ltb, ◌^◌, eqb, min, w16}
 pub use Rattle.std.proofs.Math.Seq.{get_or-append_seam, take-append-add, drop-append-add}
 pub use Rattle.std.proofs.Output.{has_written_styled_nil, writes_in_calls_append}
 pub use Rattle.std.proofs.lemmas.Bool.{cases_order, cases_Bool, cases_lt, le-leb, lt-leb, false≢true, lt-ltb, le-ltb, leb-true, and_parts}
@@ -12,10 +11,9 @@ pub use Rattle.std.proofs.lemmas.Bool.{both_ways, and_from, eq-eqb, eqb-true, no
 pub use Rattle.std.proofs.lemmas.Bool.Decides.{nat_tests}
 pub use Rattle.std.proofs.lemmas.Grind.{common_steps}
 pub use Rattle.std.proofs.lemmas.Iterator.Consumers.{YieldsList-from_first}
-pub use Rattle.std.proofs.lemmas.List.{take-append-drop, map-append, append-nil, take_at, drop_at, get_or-append_right, drop_all}
-pub use Rattle.std.proofs.lemmas.List.{get_or-append-add, take_all, same_from_push, append_cancel_left, drop-drop, drop-append-le}
-pub use Rattle.std.proofs.lemmas.List.{drop-take, get_or-drop, get_or_append_left, length-map, length-replicate, map-id, take-take}
-pub use Rattle.std.proofs.lemmas.List.{take_rest}
+pub use Rattle.std.proofs.lemmas.List.{take-append-drop, get_or-append_right, get_or-append-add, append_cancel_left, get_or_append_left}
+pub use Rattle.std.proofs.lemmas.List.{map-append, append-nil, same_from_push, drop-append-le, get_or-drop, length-map, length-replicate}
+pub use Rattle.std.proofs.lemmas.List.{take_at, drop_at, drop_all, take_all, drop-drop, drop-take, map-id, take-take, take_rest}
 pub use Rattle.std.proofs.lemmas.List.Concat.{flat_map-append}
 pub use Rattle.std.proofs.lemmas.List.Elements.{All-drop, All-same, All-cons, All-head, All-nil, All-tail, All-from_get_or, All-get_or}
 pub use Rattle.std.proofs.lemmas.List.Elements.{All-pop, All-take}
@@ -62,8 +60,7 @@ pub use Rattle.wtf8.specs.declared.strings.unit_counts.UnitCursor.{UnitCursor}
 pub use Rattle.wtf8.specs.declared.strings.view.Wtf8.{Wtf8}
 pub use Rattle.wtf8.specs.private.ConvertedPrefix.{IsKnownForm, DividesNoPair, AreAscii}
 pub use Rattle.wtf8.specs.private.Decoding.{point_of_item, points_of_items, units_left, decode_steps, ReadsAll}
-pub use Rattle.wtf8.specs.private.EncodedBytes.{ExtendsForm, ExtendsFormOrKeeps, BeginsWithPoint, FirstPointByLead}
-pub use Rattle.wtf8.specs.private.EncodedBytes.{FirstPointIs}
+pub use Rattle.wtf8.specs.private.EncodedBytes.{ExtendsForm, ExtendsFormOrKeeps, BeginsWithPoint, FirstPointByLead, FirstPointIs}
 pub use Rattle.wtf8.specs.private.EncodedRuns.{BeginsWithUnits, HasBitPrefix, Writes, unit_of_three, unit_of_two}
 pub use Rattle.wtf8.specs.private.FirstIndex.{IsFirst, IsLeast, NoneIn, IsFirstIn, IsFirstSet, IsSet}
 pub use Rattle.wtf8.specs.private.Mismatch.{IsMismatch, SupplementaryBegins, DifferAt, DecidesNone}

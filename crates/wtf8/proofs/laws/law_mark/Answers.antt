@@ -1,4 +1,4 @@
-use Rattle.wtf8.proofs.Common.{view_units, view_form, take, drop, IsFront, IsBack}
+use Rattle.wtf8.proofs.Common.{view_units, view_form, take, drop, IsFront, IsBack, arith}
 use Rattle.wtf8.proofs.lemmas.strings.Positions.{cut_by, front_unique, back_unique}
 use Rattle.wtf8.proofs.lemmas.strings.UnitMarks.{cut_of, mark_divides_none, same_mark, marks_in_order, mark_found_again}
 use Rattle.wtf8.proofs.laws.law_mark.Goals as goal
@@ -12,10 +12,8 @@ returns c =
     let n = c.args.mark.units in
     let x = cut_of own c.requires in
     let splits = (cut_by own x.front x.back k x.joined x.front_len).splits in
-    let before : IsFront u k (take n u) =
-    record { front = x.front; back = x.back; splits = splits; same_units = c.requires.before.reads.same_units } in
-    let after : IsBack u k (drop n u) =
-    record { front = x.front; back = x.back; splits = splits; same_units = c.requires.after.reads.same_units } in
+    let before : IsFront u k (take n u) = grind (arith) in
+    let after : IsBack u k (drop n u) = grind (arith) in
     record {
       boundary = record { front = x.front; back = x.back; splits = splits };
       before = before;

@@ -1,5 +1,5 @@
 -- The bytes of code points, and what the first bytes determine.
-use Rattle.wtf8.proofs.Common.{◌≡◌, ℕ, zero, suc, ◌+◌, ◌/◌, ◌%◌, ◌<◌, ◌≤◌, ◌⊎◌, inl, inr, List, [], ◌∷◌, ◌++◌, length, get_or, refl, sym}
+use Rattle.wtf8.proofs.Common.{◌≡◌, ℕ, zero, suc, ◌+◌, ◌/◌, ◌%◌, ◌<◌, ◌≤◌, ◌⊎◌, List, [], ◌∷◌, ◌++◌, length, get_or, refl, sym}
 use Rattle.wtf8.proofs.Common.{ap, ◌∙◌, arith, lt-ltb, length-append, le-ltb, cases_lt, append-nil, flat_map-append, IsSurrogate, bytes}
 use Rattle.wtf8.proofs.Common.{encoding_is_encode, ◌-◌, ◌*◌, subst, IsCodePoint, encoding, BeginsWithPoint, encode_same, FirstPointByLead}
 use Rattle.std.proofs.Math.Nat.{div-div-eq-div-mul}
@@ -40,34 +40,18 @@ pub data EncodingCase (p : ℕ) : Type 0 where
   four : 0x10000 ≤ p → encoding p ≡ fourth_row p → EncodingCase p
 
 pub encoding_cases : (p : ℕ) → EncodingCase p
-encoding_cases p = elim (cases_lt p 0x80) [
-  | inl h ↦ one h (encoding_one p h)
-  | inr l ↦ elim (cases_lt p 0x800) [
-    | inl h ↦ two l h (encoding_two p l h)
-    | inr m ↦ elim (cases_lt p 0x10000) [ inl h ↦ three m h (encoding_three p m h) | inr n ↦ four n (encoding_four p n) ]
-  ]
-]
+encoding_cases p = grind (arith, cases_lt, encoding_one, encoding_two, encoding_three, encoding_four)
 
 -- the byte begins a code point: it is ASCII or a lead byte
 pub record Begins (b : ℕ) : Type 0 where
   pub start : (b < 0x80) ⊎ (0xC0 ≤ b)
 
 pub first-encoding : (p : ℕ) (r : List ℕ) → Begins (get_or (encoding p ++ r) 0 0)
-first-encoding p r = elim (encoding_cases p) [
-  | one h e ↦ rw e (record { start = inl h })
-  | two l h e ↦ rw e (record { start = inr (omega arith) })
-  | three l h e ↦ rw e (record { start = inr (omega arith) })
-  | four l e ↦ rw e (record { start = inr (omega arith) })
-]
+first-encoding p r = grind (arith, encoding_cases)
 
 -- an ASCII first byte is the whole code point
 pub encoding-from_ascii_byte : (p : ℕ) (r : List ℕ) → get_or (encoding p ++ r) 0 0 < 0x80 → (encoding p ≡ p ∷ []) × (p < 0x80)
-encoding-from_ascii_byte p r h = elim (encoding_cases p) [
-  | one l e ↦ (e, l)
-  | two l _ e ↦ absurd (omega (arith, rw e at h))
-  | three l _ e ↦ absurd (omega (arith, rw e at h))
-  | four l e ↦ absurd (omega (arith, rw e at h))
-]
+encoding-from_ascii_byte p r h = grind (arith, encoding_cases)
 
 -- all are continuation bytes (80 to BF)
 abbrev AreContinuationBytes : List ℕ → Type 0
@@ -83,22 +67,10 @@ continuation_byte_at (x ∷ xs) r (suc k) t h = continuation_byte_at xs r k t.2 
 -- the bytes after the first are continuation bytes
 pub continuation-encoding : (p k : ℕ) (r : List ℕ) → suc k < length (encoding p)
     → (0x80 ≤ get_or (encoding p ++ r) (suc k) 0) × (get_or (encoding p ++ r) (suc k) 0 < 0xC0)
-continuation-encoding p k r l = elim (encoding_cases p) [
-  | one h e ↦ absurd (omega (arith, ap length e))
-  | two _ h e ↦ let m = rw e at l in rw e (continuation_byte_at ((0x80 + p % 64) ∷ []) r k (omega arith, omega arith, tt) (omega arith))
-  | three _ h e ↦ let m = rw e at l in rw e (continuation_byte_at ((0x80 + p / 64 % 64) ∷ (0x80 + p % 64) ∷ []) r k
-      (omega arith, omega arith, (omega arith, omega arith, tt)) (omega arith))
-  | four _ e ↦ let m = rw e at l in rw e (continuation_byte_at ((0x80 + p / 4096 % 64) ∷ (0x80 + p / 64 % 64) ∷ (0x80 + p % 64) ∷ []) r k
-      (omega arith, omega arith, (omega arith, omega arith, (omega arith, omega arith, tt))) (omega arith))
-]
+continuation-encoding p k r l = grind (arith, encoding_cases)
 
 pub length-encoding_bounds : (p : ℕ) → (1 ≤ length (encoding p)) × (length (encoding p) ≤ 4)
-length-encoding_bounds p = elim (encoding_cases p) [
-  | one h e ↦ rw e (omega arith, omega arith)
-  | two l h e ↦ rw e (omega arith, omega arith)
-  | three l h e ↦ rw e (omega arith, omega arith)
-  | four l e ↦ rw e (omega arith, omega arith)
-]
+length-encoding_bounds p = grind (arith, encoding_cases)
 
 pub length-surrogate : (p : ℕ) → IsSurrogate p → length (encoding p) ≡ 3
 length-surrogate p s = ap length (encoding_three p (omega arith) (omega arith))
@@ -124,19 +96,8 @@ encoding_same p q r s e =
 
 -- What the first bytes of an encoding say about the code point.
 
-sixty_fours : (p : ℕ) → (p / 64 / 64 ≡ p / 4096) × (p / 4096 / 64 ≡ p / 262144)
-sixty_fours p = (div-div-eq-div-mul p 64 64, div-div-eq-div-mul p 4096 64)
-
 pub front-encoding : (p : ℕ) (r : List ℕ) → IsCodePoint p → FirstPointByLead (encoding p ++ r) p (length (encoding p))
-front-encoding p r range =
-    let d = sixty_fours p in
-    elim (encoding_cases p) [
-      | one h e ↦ rw e (record { nonempty = omega arith; one = grind arith; two = grind arith; three = grind arith; four = grind arith })
-      | two l h e ↦ rw e (record { nonempty = omega arith; one = grind arith; two = grind arith; three = grind arith; four = grind arith })
-      | three l h e ↦
-          rw e (record { nonempty = omega arith; one = grind arith; two = grind arith; three = grind arith; four = grind arith })
-      | four l e ↦ rw e (record { nonempty = omega arith; one = grind arith; two = grind arith; three = grind arith; four = grind arith })
-    ]
+front-encoding p r range = grind (arith, encoding_cases, div-div-eq-div-mul)
 
 -- bytes that begin with an encoding begin with that code point
 abbrev pub begins_with : (p : ℕ) (r w : List ℕ) → IsCodePoint p → w ≡ encoding p ++ r → BeginsWithPoint w
@@ -155,11 +116,3 @@ BeginsWithPoint-equal_bytes b e = begins_with b.point b.rest _ b.in_range (e ∙
 abbrev pub LeadRead : List ℕ → ℕ → Type 0
 LeadRead w p =
     0xD7C0 + ((get_or w 0 0 - 0xF0) * 64 + (get_or w 1 0 - 0x80)) * 4 + (get_or w 2 0 - 0x80) / 16 ≡ 0xD800 + (p - 0x10000) / 0x400
-
-pub LeadRead-encoding : (p : ℕ) (r : List ℕ) → 0xF0 ≤ get_or (encoding p ++ r) 0 0 → LeadRead (encoding p ++ r) p
-LeadRead-encoding p r g = elim (encoding_cases p) [
-  | one l e ↦ absurd (omega (arith, rw e at g))
-  | two _ l e ↦ absurd (omega (arith, rw e at g))
-  | three _ l e ↦ absurd (omega (arith, rw e at g))
-  | four l e ↦ rw e (omega arith)
-]

@@ -3,11 +3,11 @@ use Rattle.wtf8.proofs.Common.{◌≡◌, ℕ, ◌⊎◌, inl, inr, List, [], �
 use Rattle.wtf8.proofs.Common.{length-append, le-leb, cases_Bool, false≢true, same_from_push, IsLead, IsTrail, MeetsAsPair, ◌+◌, ◌-◌, ◌*◌}
 use Rattle.wtf8.proofs.Common.{◌/◌, ◌%◌, ◌<◌, ◌≤◌, lt-ltb, le-ltb, cases_lt, append-nil, flat_map-append, units, pair, encoding, bytes}
 use Rattle.wtf8.proofs.Common.{IsCodePoint, IsClean, drop_at, bytes-injective, Reads, IsWellFormed, IsForm, BeginsWithPoint, length-drop}
-use Rattle.wtf8.proofs.Common.{drop-drop, nat_tests, false, cond}
+use Rattle.wtf8.proofs.Common.{drop-drop, nat_tests, cond, common_steps}
 use Rattle.wtf8.specs.Concatenation.{is_pair}
 use Rattle.wtf8.specs.PositionLaws.{ListsHaveLengths}
 use Rattle.wtf8.specs.Unicode.{units_of}
-use Rattle.wtf8.proofs.lemmas.codec.Encoding.{encoding_cases, one, two, three, four, length-encoding_bounds, begins_with, bytes-append}
+use Rattle.wtf8.proofs.lemmas.codec.Encoding.{encoding_cases, length-encoding_bounds, begins_with, bytes-append}
 
 -- A lead at the end of one list and a trail at the start of the next.
 
@@ -44,17 +44,14 @@ pub unpaired-before_no_trail : {c : List ℕ} (p : ℕ) (r : List ℕ) → ¬ (I
 unpaired-before_no_trail p r n m = n (subst IsTrail (sym (ap (λ w. get_or w 0 0) m.begins)) m.is_trail)
 
 pub is_pair-meeting : (p q : ℕ) (d : List ℕ) → MeetsAsPair (p ∷ []) (q ∷ d) → is_pair p q ≡ true
-is_pair-meeting p q d m =
-    let last = (same_from_push [] m.front p m.lead m.ends).1 in
-    is_pair-surrogates p q (subst IsLead (sym last) m.is_lead) (subst IsTrail (sym (ap (λ w. get_or w 0 0) m.begins)) m.is_trail)
+is_pair-meeting p q d m = grind (arith, common_steps, same_from_push, is_pair-surrogates)
 
 ends_with-uncons : (p q : ℕ) (c f : List ℕ) (l : ℕ) → p ∷ q ∷ c ≡ f ++ l ∷ [] → (g : List ℕ) × (q ∷ c ≡ g ++ l ∷ [])
 ends_with-uncons p q c [] l e = absurd (omega (arith, ap length e))
 ends_with-uncons p q c (x ∷ f) l e = (f, ap (drop 1) e)
 
 pub MeetsAsPair-uncons : (p q : ℕ) (c d : List ℕ) → MeetsAsPair (p ∷ q ∷ c) d → MeetsAsPair (q ∷ c) d
-MeetsAsPair-uncons p q c d m =
-    let s = ends_with-uncons p q c m.front m.lead m.ends in meets_by s.0 m.rest m.lead m.trail m.is_lead m.is_trail s.1 m.begins
+MeetsAsPair-uncons p q c d m = grind (arith, ends_with-uncons)
 
 -- it is decidable whether two lists meet as a pair
 pub meets_or_not : (c d : List ℕ) → MeetsAsPair c d ⊎ ¬ (MeetsAsPair c d)
@@ -64,10 +61,7 @@ meets_or_not (p ∷ []) (q ∷ d) = elim (cases_Bool (is_pair p q)) [
   | inl e ↦ let h = surrogates_from_is_pair p q e in inl (meets_by [] d p q h.0 h.1 refl refl)
   | inr e ↦ inr (λ m. false≢true (sym e ∙ is_pair-meeting p q d m))
 ]
-meets_or_not (p ∷ q ∷ c) d = elim (meets_or_not (q ∷ c) d) [
-  | inl m ↦ inl (MeetsAsPair-cons p m)
-  | inr n ↦ inr (λ m. n (MeetsAsPair-uncons p q c d m))
-]
+meets_or_not (p ∷ q ∷ c) d = grind (arith, common_steps, MeetsAsPair-cons, MeetsAsPair-uncons, meets_or_not (q ∷ c) d)
 
 -- The units of code points: one below U+10000, two from there on.
 
@@ -87,8 +81,7 @@ unfolding units_of
 units_two p h = rw (le-ltb p 0x10000 h) refl
 
 pub units_pair : (l t : ℕ) → IsLead l → IsTrail t → units_of (pair l t) ≡ l ∷ t ∷ []
-units_pair l t h k =
-    units_two (pair l t) (omega arith) ∙ (ap (λ a. a ∷ trail_of (pair l t) ∷ []) (omega arith) ∙ ap (λ b. l ∷ b ∷ []) (omega arith))
+units_pair l t h k = grind (arith, units_two)
 
 pub units-cons_one : (p : ℕ) (c : List ℕ) → p < 0x10000 → units (p ∷ c) ≡ p ∷ units c
 units-cons_one p c h = ap (λ u. u ++ units c) (units_one p h)
@@ -105,12 +98,7 @@ units-pushed c p = units-append c (p ∷ []) ∙ ap (λ u. units c ++ u) (append
 -- bounds between the numbers of code points, units and bytes
 lengths_of_one : (p : ℕ) → (1 ≤ length (units_of p)) × (length (units_of p) ≤ length (encoding p))
     × (length (encoding p) ≤ 3 * length (units_of p)) × (length (encoding p) ≤ 4)
-lengths_of_one p = elim (encoding_cases p) [
-  | one h e ↦ rw (e, units_one p (omega arith)) (omega arith)
-  | two _ h e ↦ rw (e, units_one p (omega arith)) (omega arith)
-  | three _ h e ↦ rw (e, units_one p h) (omega arith)
-  | four l e ↦ rw (e, units_two p l) (omega arith)
-]
+lengths_of_one p = grind (arith, encoding_cases, units_one, units_two)
 
 pub lists_have_lengths : ListsHaveLengths
 lists_have_lengths [] = record { points = omega arith; units_least = omega arith; units_most = omega arith; bytes_most = omega arith }
@@ -124,12 +112,10 @@ lists_have_lengths (p ∷ c) =
 -- Clean lists of code points, divided and joined.
 
 pub clean-first : (p : ℕ) (c : List ℕ) → IsClean (p ∷ c) → IsCodePoint p
-clean-first p [] x = x
-clean-first p (q ∷ c) x = x.0
+clean-first p c x = grind (arith)
 
 pub clean-rest : (p : ℕ) (c : List ℕ) → IsClean (p ∷ c) → IsClean c
-clean-rest p [] x = tt
-clean-rest p (q ∷ c) x = x.2
+clean-rest p c x = grind (arith)
 
 pub clean-front : (c d : List ℕ) → IsClean (c ++ d) → IsClean c
 clean-front [] d x = tt
@@ -161,13 +147,7 @@ cons-equal_parts p q r s e = (ap (λ w. get_or w 0 0) e, ap (drop 1) e)
 
 -- a trail that is the first unit is the first code point
 pub trail_first : (p : ℕ) (c : List ℕ) (t : ℕ) (r : List ℕ) → IsClean (p ∷ c) → units (p ∷ c) ≡ t ∷ r → IsTrail t → p ≡ t
-trail_first p c t r x e h = elim (cases_lt p 0x10000) [
-  | inl l ↦ (cons-equal_parts p t (units c) r (sym (units-cons_one p c l) ∙ e)).0
-  | inr l ↦
-      let range = clean-first p c x in
-      let same = (cons-equal_parts (lead_of p) t (trail_of p ∷ units c) r (sym (units-cons_two p c l) ∙ e)).0 in
-      absurd (omega arith)
-]
+trail_first p c t r x e h = grind (arith, cases_lt, cons-equal_parts, units-cons_one, clean-first, units-cons_two)
 
 -- decodes units from the front; the units of a clean list decode to that list
 abbrev points_of_units : List ℕ → List ℕ
@@ -175,18 +155,8 @@ points_of_units [] = []
 points_of_units (l ∷ []) = l ∷ []
 points_of_units (l ∷ t ∷ u) = cond (is_pair l t) (pair l t ∷ points_of_units u) (l ∷ points_of_units (t ∷ u))
 
-is_pair-false : (l t : ℕ) → ¬ (IsLead l × IsTrail t) → is_pair l t ≡ false
-is_pair-false l t n = elim (cases_Bool (is_pair l t)) [ inl e ↦ absurd (n (surrogates_from_is_pair l t e)) | inr e ↦ e ]
-
 points_of_units-cons : (p : ℕ) (c : List ℕ) → IsClean (p ∷ c) → points_of_units (units c) ≡ c → points_of_units (p ∷ units c) ≡ p ∷ c
-points_of_units-cons p [] x e = refl
-points_of_units-cons p (q ∷ d) x e = elim (cases_lt q 0x10000) [
-  | inl h ↦ rw (units-cons_one q d h, is_pair-false p q x.1) (ap (λ r. p ∷ r) (rw (units-cons_one q d h) at e))
-  | inr h ↦
-      let range = clean-first q d x.2 in
-      rw (units-cons_two q d h, is_pair-false p (lead_of q) (λ m. omega (arith, range, m.1)))
-      (ap (λ r. p ∷ r) (rw (units-cons_two q d h) at e))
-]
+points_of_units-cons p c x e = grind (arith, cases_lt, units-cons_one, surrogates_from_is_pair, units-cons_two, clean-first)
 
 points_of_units-units : (c : List ℕ) → IsClean c → points_of_units (units c) ≡ c
 points_of_units-units [] x = refl
@@ -269,11 +239,9 @@ pub Taken-from_first : (v : List ℕ) (at : ℕ) (h : IsWellFormed (drop at v)) 
 Taken-from_first v at h p next long read =
     let f = first_of h (omega (arith, length-drop at v)) in
     let was = read f.0 in
-    let back : drop next v ≡ drop (length (encoding f.0.point)) (drop at v) =
-    ap (λ k. drop k v) was.1 ∙ sym (drop-drop (length (encoding f.0.point)) at v) in
     record {
       within = omega (arith, was.1, f.1.within, length-drop at v, long);
-      rest = IsWellFormed-equal_bytes f.1.rest back;
+      rest = IsWellFormed-equal_bytes f.1.rest (ap (λ k. drop k v) was.1 ∙ sym (drop-drop (length (encoding f.0.point)) at v));
       joined = f.1.joined ∙ ap (λ q. q ∷ f.1.rest.points) (sym was.0);
     }
 
@@ -281,11 +249,7 @@ Taken-from_first v at h p next long read =
 
 -- the units meet as a pair if their code points do
 pub units_meet : {c d a b : List ℕ} → Reads c a → Reads d b → MeetsAsPair c d → MeetsAsPair a b
-units_meet x y m =
-    let ends = ap units m.ends
-    ∙ (units-pushed m.front m.lead ∙ ap (λ u. units m.front ++ u) (units_one m.lead (omega (arith, m.is_lead)))) in
-    let begins = ap units m.begins ∙ ap (λ u. u ++ units m.rest) (units_one m.trail (omega (arith, m.is_trail))) in
-    meets_by (units m.front) (units m.rest) m.lead m.trail m.is_lead m.is_trail (sym x.same_units ∙ ends) (sym y.same_units ∙ begins)
+units_meet x y m = grind (arith, units-pushed, units_one)
 
 -- without a pair at the seam of their code points, and of their units
 abbrev pub form-append : {w v a b : List ℕ} (x : IsForm w a) (y : IsForm v b) → ¬ (MeetsAsPair x.points y.points) → IsForm (w ++ v) (a ++ b)

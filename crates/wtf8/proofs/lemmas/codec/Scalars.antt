@@ -1,7 +1,6 @@
 -- Scalar values among code points and units, and U+FFFD for each surrogate.
-use Rattle.wtf8.proofs.Common.{◌≡◌, ℕ, ◌<◌, List, [], ◌∷◌, ◌++◌, inl, inr, true, refl, ap, ◌∙◌, arith, cases_lt, lt-leb, le-leb}
-use Rattle.wtf8.proofs.Common.{Each1-weaker, AreAscii, bytes, units, IsClean, IsSurrogate, AreScalar, IsKnownForm}
-use Rattle.wtf8.proofs.Common.{Wtf8, view_form, view_units}
+use Rattle.wtf8.proofs.Common.{◌≡◌, ℕ, List, [], ◌∷◌, ◌++◌, true, refl, ap, ◌∙◌, arith, cases_lt, lt-leb, le-leb, Each1-weaker, AreAscii}
+use Rattle.wtf8.proofs.Common.{bytes, units, IsClean, IsSurrogate, AreScalar, IsKnownForm, Wtf8, view_form, view_units}
 use Rattle.wtf8.specs.Surrogates.{replace_surrogate}
 use Rattle.wtf8.specs.private.ConvertedPrefix.{AreScalarUnits}
 use Rattle.wtf8.proofs.lemmas.codec.Encoding.{encoding_one}
@@ -37,8 +36,7 @@ bytes-ascii [] h = refl
 bytes-ascii (p ∷ u) h = ap (λ w. w ++ bytes u) (encoding_one p h.0) ∙ ap (λ v. p ∷ v) (bytes-ascii u h.1)
 
 AreScalarUnits-ascii : (u : List ℕ) → AreAscii u → AreScalarUnits u
-AreScalarUnits-ascii u h =
-    Each1-weaker (λ n. n < 0x80) (λ n. (n < 0x10000) × ¬ (IsSurrogate n)) (λ n l. (omega (arith, l), λ s. omega (arith, l, s.0))) u h
+AreScalarUnits-ascii u h = grind (arith, Each1-weaker)
 
 pub units-ascii : (u : List ℕ) → AreAscii u → units u ≡ u
 units-ascii u h = units-scalar_units u (AreScalarUnits-ascii u h)
@@ -68,16 +66,7 @@ pub data Kind (p : ℕ) : Type 0 where
 
 pub kind_by_surrogates : (p : ℕ) → Kind p
 unfolding replace_surrogate
-kind_by_surrogates p = elim (cases_lt p 0xD800) [
-  | inl h ↦ scalar_value (λ s. omega arith) (rw (lt-leb 0xD800 p h) refl)
-  | inr h ↦ elim (cases_lt p 0xE000) [
-    | inl k ↦ surrogate (h, omega arith) (rw (le-leb 0xD800 p h, le-leb p 0xDFFF (omega arith)) refl)
-    | inr k ↦ scalar_value (λ s. omega arith) (rw (le-leb 0xD800 p h, lt-leb p 0xDFFF (omega arith)) refl)
-  ]
-]
+kind_by_surrogates p = grind (arith, cases_lt, lt-leb, le-leb)
 
 pub replace_surrogate-surrogate : (p : ℕ) → IsSurrogate p → replace_surrogate p ≡ 0xFFFD
 replace_surrogate-surrogate p s = elim (kind_by_surrogates p) [ surrogate k e ↦ e | scalar_value n e ↦ absurd (n s) ]
-
-pub replace_surrogate-scalar : (p : ℕ) → ¬ (IsSurrogate p) → replace_surrogate p ≡ p
-replace_surrogate-scalar p n = elim (kind_by_surrogates p) [ surrogate k e ↦ absurd (n k) | scalar_value m e ↦ e ]

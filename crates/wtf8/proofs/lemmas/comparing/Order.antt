@@ -3,7 +3,7 @@ use Rattle.wtf8.proofs.Common.{◌≡◌, ℕ, ◌<◌, inl, inr, List, [], ◌�
 use Rattle.wtf8.proofs.Common.{nat_cmp, MatchOrdering, slice_cmp, cases_lt, Before, cases_order, ◌↔◌, encoding, bytes, Bool, IsTrue, nat_eq}
 use Rattle.wtf8.proofs.Common.{pointwise, bytes_decides, units, Reads, IsWellFormed, bytes-injective, ◌≢◌, zero, suc, drop, get_or}
 use Rattle.wtf8.proofs.Common.{units_of, IsMismatch, SupplementaryBegins, true, false, ◌⊎◌, length, take, length-append, append_assoc}
-use Rattle.wtf8.proofs.Common.{false≢true, take-append-drop, slice_get, option_cmp, true≢false}
+use Rattle.wtf8.proofs.Common.{false≢true, take-append-drop, slice_get, option_cmp, true≢false, common_steps}
 use Rattle.wtf8.proofs.lemmas.lanes.ListOrder.{cmp_less, cmp_greater, slice_cmp-less, slice_cmp-greater, cmp-append_left, mismatch-cons}
 use Rattle.wtf8.proofs.lemmas.lanes.ListOrder.{order_at_mismatch}
 use Rattle.std.proofs.lemmas.Cmp.{nat_cmp_total, tied_itself}
@@ -17,26 +17,19 @@ use Rattle.wtf8.proofs.lemmas.strings.Positions.{cut_at, boundary_from_byte, poi
 
 MatchOrdering-cons : (x y : ℕ) (xs ys : List ℕ) → x ≡ y → (o : Ordering) → MatchOrdering o (Before xs ys) (xs ≡ ys) (Before ys xs)
     → MatchOrdering o (Before (x ∷ xs) (y ∷ ys)) (x ∷ xs ≡ y ∷ ys) (Before (y ∷ ys) (x ∷ xs))
-MatchOrdering-cons x y xs ys e Less h = inr (e, h)
-MatchOrdering-cons x y xs ys e Equal h = ap (λ z. z ∷ xs) e ∙ ap (λ zs. y ∷ zs) h
-MatchOrdering-cons x y xs ys e Greater h = inr (sym e, h)
+MatchOrdering-cons x y xs ys e o h = grind (arith)
 
 -- a comparison decides which list is before the other
 pub order_of : (c d : List ℕ) → MatchOrdering (slice_cmp nat_cmp c d) (Before c d) (c ≡ d) (Before d c)
 order_of [] [] = refl
 order_of [] (y ∷ ys) = tt
 order_of (x ∷ xs) [] = tt
-order_of (x ∷ xs) (y ∷ ys) = elim (cases_order x y) [
-  | inl same ↦ rw (same, tied_itself nat_cmp_total y) (MatchOrdering-cons y y xs ys refl (slice_cmp nat_cmp xs ys) (order_of xs ys))
-  | inr (inl l) ↦ rw (cmp_less x y l) (inl l)
-  | inr (inr l) ↦ rw (cmp_greater x y l) (inl l)
-]
+order_of (x ∷ xs) (y ∷ ys) =
+    grind (arith, common_steps, cases_order, tied_itself, nat_cmp_total, MatchOrdering-cons, cmp_less, cmp_greater, order_of xs ys)
 
 -- the result `o` of a comparison decides which list is before the other
 pub order_of_result : (o : Ordering) (c d : List ℕ) → o ≡ slice_cmp nat_cmp c d → MatchOrdering o (Before c d) (c ≡ d) (Before d c)
-order_of_result o c d e =
-    let P : Ordering → Type 0 = λ p. MatchOrdering p (Before c d) (c ≡ d) (Before d c) in
-    subst P (sym e) (order_of c d)
+order_of_result o c d e = grind (arith, order_of)
 
 pub Before-from_less : (c d : List ℕ) → slice_cmp nat_cmp c d ≡ Less → Before c d
 Before-from_less c d e = order_of_result Less c d (sym e)
@@ -66,32 +59,7 @@ at_least_test Greater c d e = (λ _ h. false≢true (ap is_lt (e ∙ slice_cmp-l
 
 -- the encoding of a smaller code point comes first, whatever follows it
 before_encoding : (p q : ℕ) (r s : List ℕ) → p < q → Before (encoding p ++ r) (encoding q ++ s)
-before_encoding p q r s l = elim (encoding_cases p) [
-  | one h e ↦ elim (encoding_cases q) [
-    | one k f ↦ rw (e, f) (inl l)
-    | two k _ f ↦ rw (e, f) (grind arith)
-    | three k _ f ↦ rw (e, f) (grind arith)
-    | four k f ↦ rw (e, f) (grind arith)
-  ]
-  | two m h e ↦ elim (encoding_cases q) [
-    | one k f ↦ absurd (omega arith)
-    | two k _ f ↦ rw (e, f) (grind arith)
-    | three k _ f ↦ rw (e, f) (grind arith)
-    | four k f ↦ rw (e, f) (grind arith)
-  ]
-  | three m h e ↦ elim (encoding_cases q) [
-    | one k f ↦ absurd (omega arith)
-    | two _ k f ↦ absurd (omega arith)
-    | three k _ f ↦ rw (e, f) (grind arith)
-    | four k f ↦ rw (e, f) (grind arith)
-  ]
-  | four m e ↦ elim (encoding_cases q) [
-    | one k f ↦ absurd (omega arith)
-    | two _ k f ↦ absurd (omega arith)
-    | three _ k f ↦ absurd (omega arith)
-    | four k f ↦ rw (e, f) (grind arith)
-  ]
-]
+before_encoding p q r s l = grind (arith, encoding_cases)
 
 Before-nil_encoding : (q : ℕ) (s : List ℕ) → Before [] (encoding q ++ s)
 Before-nil_encoding q s = elim (encoding_cases q) [ one _ f ↦ rw f tt | two _ _ f ↦ rw f tt | three _ _ f ↦ rw f tt | four _ f ↦ rw f tt ]
@@ -101,20 +69,11 @@ pub cmp-bytes : (c d : List ℕ) → slice_cmp nat_cmp (bytes c) (bytes d) ≡ s
 cmp-bytes [] [] = refl
 cmp-bytes [] (q ∷ d) = slice_cmp-less [] (bytes (q ∷ d)) (Before-nil_encoding q (bytes d))
 cmp-bytes (p ∷ c) [] = slice_cmp-greater (bytes (p ∷ c)) [] (Before-nil_encoding p (bytes c))
-cmp-bytes (p ∷ c) (q ∷ d) = elim (cases_order p q) [
-  | inl same ↦ rw (← same) (cmp-append_left (encoding p) (bytes c) (bytes d) ∙ cmp-bytes c d ∙ sym (cmp-append_left (p ∷ []) c d))
-  | inr (inl l) ↦ slice_cmp-less (bytes (p ∷ c)) (bytes (q ∷ d)) (before_encoding p q (bytes c) (bytes d) l)
-      ∙ sym (slice_cmp-less (p ∷ c) (q ∷ d) (inl l))
-  | inr (inr l) ↦ slice_cmp-greater (bytes (p ∷ c)) (bytes (q ∷ d)) (before_encoding q p (bytes d) (bytes c) l)
-      ∙ sym (slice_cmp-greater (p ∷ c) (q ∷ d) (inl l))
-]
+cmp-bytes (p ∷ c) (q ∷ d) = grind (arith, cases_order, cmp-append_left, slice_cmp-less, before_encoding, slice_cmp-greater, cmp-bytes c d)
 
 -- one encoding is before another exactly if its code points are
 pub before_bytes : (c d : List ℕ) → Before (bytes c) (bytes d) ↔ Before c d
-before_bytes c d = (
-  λ h. Before-from_less c d (sym (cmp-bytes c d) ∙ slice_cmp-less (bytes c) (bytes d) h),
-  λ h. Before-from_less (bytes c) (bytes d) (cmp-bytes c d ∙ slice_cmp-less c d h),
-)
+before_bytes c d = grind (arith, Before-from_less, cmp-bytes, slice_cmp-less)
 
 -- Strings compared by their bytes: the code points and units.
 
@@ -125,11 +84,7 @@ equal_points r c d {w} {v} e f h =
 
 pub equal_units : (r : Bool) {c d u t w v : List ℕ} → Reads c u → Reads d t → bytes c ≡ w → bytes d ≡ v → r ≡ pointwise nat_eq w v
     → IsTrue r ↔ (u ≡ t)
-equal_units r {c} {d} {u} {t} x y e f h =
-    let points = equal_points r c d e f h in (
-      λ s. sym x.same_units ∙ (ap units (points.0 s) ∙ y.same_units),
-      λ s. points.1 (same_reading c d x.clean y.clean (x.same_units ∙ (s ∙ sym y.same_units))),
-    )
+equal_units r {c} {d} {u} {t} x y e f h = grind (arith, equal_points, same_reading)
 
 -- byte strings compare as their code points
 pub cmp_points : (c d : List ℕ) {w v : List ℕ} → bytes c ≡ w → bytes d ≡ v → slice_cmp nat_cmp w v ≡ slice_cmp nat_cmp c d
@@ -148,11 +103,7 @@ BothBelow n x y = (x < n) ↔ (y < n)
 
 -- two code points of one unit each, or of two each, compare as their units
 before_units : (p q : ℕ) (c d : List ℕ) → p < q → BothBelow 0x10000 p q → Before (units (p ∷ c)) (units (q ∷ d))
-before_units p q c d l both = elim (cases_lt p 0x10000) [
-  | inl h ↦ rw (units-cons_one p c h, units-cons_one q d (both.0 h)) (inl l)
-  | inr h ↦ rw (units-cons_two p c h, units-cons_two q d (omega arith))
-      (grind arith)
-]
+before_units p q c d l both = grind (arith, cases_lt, units-cons_one, units-cons_two)
 
 -- at the first difference both bytes are below F0 or neither is
 abbrev pub SameSideOfF0 : List ℕ → List ℕ → Type 0
@@ -164,29 +115,8 @@ SameSideOfF0-cancel_left : (f w v : List ℕ) → SameSideOfF0 (f ++ w) (f ++ v)
 SameSideOfF0-cancel_left [] w v h = h
 SameSideOfF0-cancel_left (x ∷ f) w v h = SameSideOfF0-cancel_left f w v (h.0 refl)
 
--- a lead byte is below F0 exactly if its code point is one unit
-lead_byte-below_F0 : (p : ℕ) (r : List ℕ) → (0 < length (encoding p ++ r)) × ((p < 0x10000) ↔ (get_or (encoding p ++ r) 0 0 < 0xF0))
-lead_byte-below_F0 p r = elim (encoding_cases p) [
-  | one h e ↦ rw e (omega arith, (λ _. omega arith, λ _. omega arith))
-  | two l h e ↦ rw e (omega arith, (λ _. omega arith, λ _. omega arith))
-  | three l h e ↦ rw e (omega arith, (λ _. omega arith, λ _. omega arith))
-  | four l e ↦ rw e (omega arith, (λ m. absurd (omega arith), λ m. absurd (omega arith)))
-]
-
-SameSideOfF0-first : (w v : List ℕ) → 0 < length w → 0 < length v → SameSideOfF0 w v → BothBelow 0xF0 (get_or w 0 0) (get_or v 0 0)
-SameSideOfF0-first [] v m n h = absurd (omega arith)
-SameSideOfF0-first (x ∷ w) [] m n h = absurd (omega arith)
-SameSideOfF0-first (x ∷ w) (y ∷ v) m n h = elim (cases_order x y) [
-  | inl e ↦ (λ k. omega arith, λ k. omega arith)
-  | inr n ↦ h.1 (λ e. omega (arith, n))
-]
-
 SameSideOfF0-encoding : (p q : ℕ) (r s : List ℕ) → SameSideOfF0 (encoding p ++ r) (encoding q ++ s) → BothBelow 0x10000 p q
-SameSideOfF0-encoding p q r s h =
-    let x = lead_byte-below_F0 p r in
-    let y = lead_byte-below_F0 q s in
-    let both = SameSideOfF0-first _ _ x.0 y.0 h in
-    (λ k. y.1.1 (both.0 (x.1.0 k)), λ k. x.1.1 (both.1 (y.1.0 k)))
+SameSideOfF0-encoding p q r s h = grind (arith, encoding_cases)
 
 Before-nil_units : (q : ℕ) (d : List ℕ) → Before [] (units (q ∷ d))
 Before-nil_units q d = elim (cases_lt q 0x10000) [ inl h ↦ rw (units-cons_one q d h) tt | inr h ↦ rw (units-cons_two q d h) tt ]
@@ -215,13 +145,7 @@ pub same_side_at_mismatch : (w v : List ℕ) (at : ℕ)
     → IsMismatch w v at → SupplementaryBegins w at ↔ SupplementaryBegins v at → SameSideOfF0 w v
 same_side_at_mismatch [] v at d both = tt
 same_side_at_mismatch (x ∷ w) [] at d both = tt
-same_side_at_mismatch (x ∷ w) (y ∷ v) zero d both = (
-  λ e. absurd (d.differ_there (omega arith) (omega arith) e),
-  λ n. (
-    λ h. elim (cases_lt y 0xF0) [ inl m ↦ m | inr m ↦ let back = both.1 (omega arith, m) in absurd (omega (arith, back.1)) ],
-    λ h. elim (cases_lt x 0xF0) [ inl m ↦ m | inr m ↦ let there = both.0 (omega arith, m) in absurd (omega (arith, there.1)) ],
-  ),
-)
+same_side_at_mismatch (x ∷ w) (y ∷ v) zero d both = grind (arith, cases_lt)
 same_side_at_mismatch (x ∷ w) (y ∷ v) (suc n) d both =
     let own = supplementary_begins-cons x w n in
     let others = supplementary_begins-cons y v n in (
@@ -271,14 +195,7 @@ common_front_at_lead_byte {w} {v} h k at same pair =
     }
 
 CommonFront-swap : {c d : List ℕ} {at : ℕ} → CommonFront c d at → CommonFront d c at
-CommonFront-swap p = record {
-  front = p.front;
-  own = p.others;
-  others = p.own;
-  own_joined = p.others_joined;
-  others_joined = p.own_joined;
-  front_len = p.front_len;
-}
+CommonFront-swap p = grind (arith)
 
 -- the rests compare by units as the whole strings do
 pub rests_order : {w v x y : List ℕ} (h : IsWellFormed w) (k : IsWellFormed v) (at : ℕ) → CommonFront h.points k.points at
@@ -292,30 +209,21 @@ rests_order h k at p i j e f =
     cc (own, others, cmp-append_left (units p.front) (units i.points) (units j.points))
 
 pub iff_from_equal : {P Q : Type 0} (a b : Bool) → IsTrue a ↔ P → IsTrue b ↔ Q → beq a b ≡ true → P ↔ Q
-iff_from_equal true true p q e = (λ _. q.0 refl, λ _. p.0 refl)
-iff_from_equal false false p q e = (λ h. absurd (false≢true (p.1 h)), λ h. absurd (false≢true (q.1 h)))
-iff_from_equal _ _ p q e = absurd (grind arith)
+iff_from_equal a b p q e = grind (arith, false≢true)
 
 either_from_unequal : {P Q : Type 0} (a b : Bool) → IsTrue a ↔ P → IsTrue b ↔ Q → beq a b ≡ false → P ⊎ Q
-either_from_unequal true b p q e = inl (p.0 refl)
-either_from_unequal false true p q e = inr (q.0 refl)
-either_from_unequal false false p q e = absurd (true≢false e)
+either_from_unequal a b p q e = grind (arith, true≢false)
 
 -- if a code point of two units begins at the first difference in exactly one string, that is a boundary of both
 pub common_front_at_mismatch : {w v : List ℕ} (h : IsWellFormed w) (k : IsWellFormed v) (at : ℕ) → IsMismatch w v at → (a b : Bool)
-    → IsTrue a ↔ SupplementaryBegins w at
-    → IsTrue b ↔ SupplementaryBegins v at → beq a b ≡ false → CommonFront h.points k.points at
-common_front_at_mismatch h k at d a b p q e = elim (either_from_unequal a b p q e) [
-  | inl l ↦ common_front_at_lead_byte h k at d.same_before l
-  | inr l ↦ CommonFront-swap (common_front_at_lead_byte k h at (sym d.same_before) l)
-]
+    → IsTrue a ↔ SupplementaryBegins w at → IsTrue b ↔ SupplementaryBegins v at → beq a b ≡ false → CommonFront h.points k.points at
+common_front_at_mismatch h k at d a b p q e = grind (arith, either_from_unequal, common_front_at_lead_byte, CommonFront-swap)
 
 -- if one begins there in both strings or in neither, the bytes at the first difference compare as the units
 pub bytes_order : {w v : List ℕ} (h : IsWellFormed w) (k : IsWellFormed v) (at : ℕ)
     → IsMismatch w v at → SupplementaryBegins w at ↔ SupplementaryBegins v at
     → option_cmp nat_cmp (slice_get w at) (slice_get v at) ≡ slice_cmp nat_cmp (units h.points) (units k.points)
 bytes_order {w} {v} h k at d both =
-    let rows : SameSideOfF0 (bytes h.points) (bytes k.points) =
-    subst (λ x. SameSideOfF0 x (bytes k.points)) (sym h.encoded)
+    let rows : SameSideOfF0 (bytes h.points) (bytes k.points) = subst (λ x. SameSideOfF0 x (bytes k.points)) (sym h.encoded)
     (subst (SameSideOfF0 w) (sym k.encoded) (same_side_at_mismatch w v at d both)) in
     order_at_mismatch w v at d ∙ (cmp_points h.points k.points h.encoded k.encoded ∙ points_as_units h.points k.points rows)

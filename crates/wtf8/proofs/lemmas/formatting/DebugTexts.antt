@@ -1,5 +1,5 @@
 -- Debug texts: consecutive writes, and the digits of a code point.
-use Rattle.wtf8.proofs.Common.{◌≡◌, ℕ, ◌/◌, ◌%◌, ◌<◌, ◌≤◌, List, [], ◌∷◌, ◌++◌, inl, inr, refl, sym, ap, ◌∙◌, subst, arith, lt-ltb, le-ltb}
+use Rattle.wtf8.proofs.Common.{◌≡◌, ℕ, ◌/◌, ◌%◌, ◌<◌, ◌≤◌, List, [], ◌∷◌, ◌++◌, refl, sym, ap, ◌∙◌, subst, arith, lt-ltb, le-ltb}
 use Rattle.wtf8.proofs.Common.{lt-leb, le-leb, cases_lt, IsFlush, has_written_styled_nil, encoding, digit, encoding_is_encode, IsSurrogate}
 use Rattle.wtf8.proofs.Common.{codes, writes_in_calls_append}
 use Rattle.std.specs.Fmt.{HasWrittenStyled}
@@ -31,8 +31,7 @@ module _ {W : Type 0} {took : W → List ℕ → W → Type 0} where
   Continues-start whole flush = record { flush = flush; ends = λ h w. w }
 
   pub Continues-write : {f g h : Formatter W} {whole rest a b : List ℕ} → Continues took f whole g rest → HasWrittenStyled took g a h
-      → rest ≡ a ++ b
-      → Continues took f whole h b
+      → rest ≡ a ++ b → Continues took f whole h b
   Continues-write c w e = record { flush = w.flush; ends = λ h v. c.ends h (written_as (sym e) (then_written w v)) }
 
   pub Continues-end : {f g : Formatter W} {whole rest : List ℕ} → Continues took f whole g rest → rest ≡ []
@@ -59,10 +58,7 @@ escape_surrogate-surrogate n p h e = rw (e, le-leb 0xD800 p h.0, le-leb p 0xDFFF
 
 escape_surrogate-encoding : (p : ℕ) → ¬ IsSurrogate p → escape_surrogate p ≡ encoding p
 unfolding escape_surrogate
-escape_surrogate-encoding p h = elim (cases_lt p 0xD800) [
-  | inl l ↦ rw (lt-leb 0xD800 p l) refl
-  | inr l ↦ elim (cases_lt 0xDFFF p) [ inl m ↦ rw (le-leb 0xD800 p l, lt-leb p 0xDFFF m) refl | inr m ↦ absurd (h (l, m)) ]
-]
+escape_surrogate-encoding p h = grind (arith, cases_lt, lt-leb, le-leb)
 
 pub escape_surrogate-scalar : (c p : ℕ) → ¬ IsSurrogate p → c ≡ p → encode c ≡ escape_surrogate p
 escape_surrogate-scalar c p h e = ap encode e ∙ (sym (encoding_is_encode p) ∙ sym (escape_surrogate-encoding p h))

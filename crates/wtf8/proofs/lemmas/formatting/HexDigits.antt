@@ -1,8 +1,8 @@
 -- Hexadecimal digits in lanes.
-use Rattle.wtf8.proofs.Common.{◌≡◌, ℕ, zero, suc, ◌+◌, ◌*◌, ◌/◌, ◌%◌, ◌<◌, ◌≤◌, false, cond, leb, ltb, inl, inr, List, [], ◌∷◌, ◌++◌, map}
-use Rattle.wtf8.proofs.Common.{length, get_or, take, drop, replicate, refl, sym, ap, ◌∙◌, subst, arith, w8, append_assoc, flat_map-append}
-use Rattle.wtf8.proofs.Common.{lt-leb, cases_Bool, pick_l_whole, Each1, zip2, hex_of, hex, spaced_hex, flat_map, take-append-drop, take-add}
-use Rattle.wtf8.proofs.Common.{swz_l, zip2_splat, IsAscii-append, range_with_len, IsAscii}
+use Rattle.wtf8.proofs.Common.{◌≡◌, ℕ, zero, suc, ◌+◌, ◌*◌, ◌/◌, ◌%◌, ◌<◌, ◌≤◌, cond, leb, ltb, inl, inr, List, [], ◌∷◌, ◌++◌, map, length}
+use Rattle.wtf8.proofs.Common.{get_or, take, drop, replicate, refl, sym, ap, ◌∙◌, subst, arith, w8, append_assoc, flat_map-append, lt-leb}
+use Rattle.wtf8.proofs.Common.{cases_Bool, pick_l_whole, Each1, zip2, hex_of, hex, spaced_hex, flat_map, take-append-drop, take-add, swz_l}
+use Rattle.wtf8.proofs.Common.{zip2_splat, IsAscii-append, range_with_len, IsAscii, IsClean, bytes}
 use Rattle.std.proofs.lemmas.List.FromFn.{get_or-map-range_with_len}
 use Rattle.std.proofs.lemmas.Nat.{and_mask}
 use borrow.Rule.Simd.Lanes.{act2}
@@ -10,8 +10,7 @@ use borrow.Table.Row.{s_int}
 use mir.Syntax.{shr, unsigned, bit_and as bit_and_op}
 use mir.Val.{Fits}
 use Rattle.wtf8.specs.Hex.{digit}
-use Rattle.wtf8.proofs.Common.{IsClean, bytes}
-use Rattle.wtf8.proofs.lemmas.codec.Encoding.{encoding_cases, one, two, three, four}
+use Rattle.wtf8.proofs.lemmas.codec.Encoding.{encoding_cases}
 use Rattle.wtf8.proofs.lemmas.codec.Readings.{clean-first, clean-rest}
 
 -- the ASCII digits of 0 to 15
@@ -30,10 +29,9 @@ pub swz_l-digit_table : (i : ℕ) (values : List ℕ) → i + length values ≤ 
     → swz_l w8 16 digit_table i values ≡ map digit values
 swz_l-digit_table i [] p h = refl
 swz_l-digit_table i (v ∷ values) p h =
-    let kept : leb 128 v ≡ false = lt-leb 128 v (omega (arith, h.0)) in
     let here : 16 * (i / 16) + v ≡ v = omega arith in
     let one : cond (leb 128 v) zero (get_or digit_table (16 * (i / 16) + v) zero) ≡ digit v =
-    rw kept (ap (λ n. get_or digit_table n 0) here ∙ digit_at v h.0) in
+    rw (lt-leb 128 v (omega (arith, h.0))) (ap (λ n. get_or digit_table n 0) here ∙ digit_at v h.0) in
     λ j. one j ∷ swz_l-digit_table (suc i) values (omega arith) h.1 j
 
 high_digits-map : (bytes : List ℕ) → length bytes ≡ 16
@@ -69,17 +67,11 @@ highs_below bytes p h = subst (Each1 (λ v. v < 16)) (sym (high_digits-map bytes
 pub lows_below : (bytes : List ℕ) → length bytes ≡ 16 → Each1 (λ v. v < 16) (low_digits bytes)
 lows_below bytes p = subst (Each1 (λ v. v < 16)) (sym (low_digits-map bytes p)) (map-mod_16_below bytes)
 
-interleave_digits-spaced : (bytes : List ℕ) → length bytes ≡ 16
-    → interleave_digits (map digit (map (λ b. b / 16) bytes) ++ map digit (map (λ b. b % 16) bytes)) ≡ flat_map spaced_hex bytes
-interleave_digits-spaced bytes p =
-    subst (λ bs. interleave_digits (map digit (map (λ b. b / 16) bs) ++ map digit (map (λ b. b % 16) bs)) ≡ flat_map spaced_hex bs)
-    (pick_l_whole 0 bytes 16 p) refl
-
 -- the interleaved digits of the halves are the spaced text of 16 bytes
 pub block_text : (bytes first second : List ℕ) → length bytes ≡ 16 → first ≡ map digit (high_digits bytes)
-    → second ≡ map digit (low_digits bytes)
-    → interleave_digits (first ++ second) ≡ flat_map spaced_hex bytes
-block_text bytes first second p f s = rw (f, s, high_digits-map bytes p, low_digits-map bytes p) (interleave_digits-spaced bytes p)
+    → second ≡ map digit (low_digits bytes) → interleave_digits (first ++ second) ≡ flat_map spaced_hex bytes
+block_text bytes first second p f s = rw (f, s, high_digits-map bytes p, low_digits-map bytes p) (subst (λ bs. interleave_digits
+    (map digit (map (λ b. b / 16) bs) ++ map digit (map (λ b. b % 16) bs)) ≡ flat_map spaced_hex bs) (pick_l_whole 0 bytes 16 p) refl)
 
 -- the text of the first `at` bytes and of the next `n` is the text of the first `at + n`
 pub spaced_hex-append_take : (text start bytes : List ℕ) (at n : ℕ) → text ≡ start ++ flat_map spaced_hex (take at bytes)
@@ -96,10 +88,7 @@ unfolding digit
 digit_ascii n h = elim (cases_Bool (ltb n 10)) [ inl less ↦ rw less (omega arith) | inr more ↦ rw more (omega arith) ]
 
 spaced_ascii : (b : ℕ) → b < 256 → IsAscii (spaced_hex b)
-spaced_ascii b h zero = omega arith
-spaced_ascii b h (suc zero) = digit_ascii (b / 16) (omega arith)
-spaced_ascii b h (suc (suc zero)) = digit_ascii (b % 16) (omega arith)
-spaced_ascii b h (suc (suc (suc i))) = omega arith
+spaced_ascii b h k = grind (arith, digit_ascii)
 
 all_spaced_ascii : (bytes : List ℕ) → Each1 (λ b. b < 256) bytes → IsAscii (flat_map spaced_hex bytes)
 all_spaced_ascii [] h = λ i. omega arith
@@ -113,12 +102,4 @@ hex_ascii (b ∷ bytes) h = IsAscii-append (hex_of b) _ (λ i. spaced_ascii b h.
 -- well-formed bytes are below 256
 pub bytes_below_256 : (c : List ℕ) → IsClean c → Each1 (λ b. b < 256) (bytes c)
 bytes_below_256 [] x = tt
-bytes_below_256 (p ∷ c) x =
-    let range = clean-first p c x in
-    let rest = bytes_below_256 c (clean-rest p c x) in
-    elim (encoding_cases p) [
-      | one l e ↦ rw e (omega (arith, l), rest)
-      | two _ l e ↦ rw e (omega arith, (omega arith, rest))
-      | three _ l e ↦ rw e (omega arith, (omega arith, (omega arith, rest)))
-      | four l e ↦ rw e (omega (arith, range), (omega arith, (omega arith, (omega arith, rest))))
-    ]
+bytes_below_256 (p ∷ c) x = grind (arith, clean-rest, encoding_cases, clean-first, bytes_below_256 c (clean-rest p c x))

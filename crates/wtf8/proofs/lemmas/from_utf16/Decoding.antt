@@ -3,14 +3,14 @@ use Rattle.wtf8.proofs.Common.{◌≡◌, ◌+◌, ◌-◌, ◌<◌, length, tak
 use Rattle.wtf8.proofs.Common.{None, Some, Result, Ok, Err, refl, sym, ap, ◌∙◌, subst, arith, Drains, peekable_steps, peekable_peeked}
 use Rattle.wtf8.proofs.Common.{point_of_item, points_of_items, units_left, decode_steps, ReadsAll, IsClean, IsCodePoint, IsLead, IsTrail}
 use Rattle.wtf8.proofs.Common.{IsSurrogate, MatchResult, units, pair, MatchOption, IfSome, Bool, IsTrue, ◌≢◌, AreScalar, IsKnownForm, bytes}
-use Rattle.wtf8.proofs.Common.{encoding, map-append, take-append-drop, suc, ◌≤◌, cases_lt, lt-ltb, le-ltb, append_assoc, length-append}
-use Rattle.wtf8.proofs.Common.{length-drop, take_all, DividesNoPair, MeetsAsPair, copied_steps, iter_steps, iter_rest}
+use Rattle.wtf8.proofs.Common.{encoding, map-append, take-append-drop, ◌≤◌, cases_lt, lt-ltb, le-ltb, append_assoc, length-append}
+use Rattle.wtf8.proofs.Common.{length-drop, take_all, DividesNoPair, MeetsAsPair, copied_steps, iter_steps, iter_rest, common_steps}
 use Rattle.std.proofs.lemmas.List.{drop_more, nil_from_length}
 use Rattle.std.specs.Iterator.{Yields}
 use Rattle.std.specs.Iterator.Adapters.{peekable_source, PeekedOrNext, PeeksNext, copied_source}
 use Rattle.std.specs.declared.iter.Copied.{Copied}
 use Rattle.std.specs.declared.slice.Iter.{Iter}
-use Rattle.std.proofs.Common.{Bor, option_copied}
+use Rattle.std.proofs.Common.{option_copied}
 use Rattle.std.specs.Prelude.{IsSomeAnd}
 use Rattle.std.specs.declared.iter.Ahead.{Ahead}
 use Rattle.wtf8.specs.Unicode.{units_of}
@@ -18,7 +18,6 @@ use Rattle.wtf8.specs.private.Decoding.{DecodesItem}
 use Rattle.wtf8.specs.declared.from_utf16.decode.DecodeUtf16.{DecodeUtf16}
 use Rattle.wtf8.specs.private.ConvertedPrefix.{IsReadTo}
 use Rattle.wtf8.proofs.lemmas.codec.Encoding.{bytes-append}
-use Rattle.wtf8.proofs.lemmas.codec.Scalars.{scalar-append}
 use Rattle.wtf8.proofs.lemmas.from_utf16.Transcode.{IsKnownForm-append, DividesNoPair-after_no_lead}
 use Rattle.wtf8.proofs.lemmas.codec.Readings.{units_one, units_pair, unpaired-nil_right, unpaired-before_no_trail}
 
@@ -36,8 +35,7 @@ module _ {S A : Type 0} (steps : S → Option A → S → Type 0) where
 
 module _ {S : Type 0} (steps : S → Option ℕ → S → Type 0) where
   MatchOption-equal_step : (p : Option (Option ℕ)) (a b c : S) (r o : Option ℕ) → MatchOption p (steps a o b) (λ k. (o ≡ k) × (b ≡ a))
-      → r ≡ o → c ≡ b
-      → MatchOption p (steps a r c) (λ k. (r ≡ k) × (c ≡ a))
+      → r ≡ o → c ≡ b → MatchOption p (steps a r c) (λ k. (r ≡ k) × (c ≡ a))
   MatchOption-equal_step None a b c r o h e f = subst (λ k. steps a k c) (sym e) (subst (λ k. steps a o k) (sym f) h)
   MatchOption-equal_step (Some k) a b c r o h e f = (e ∙ h.0, f ∙ h.1)
 
@@ -66,8 +64,7 @@ module _ {S : Type 0} (steps : S → Option ℕ → S → Type 0) where
       (r.0, (r.1.0, (peekable_source next, unpeeked_call s next (Some x) e d.1.1.1.1, r.1.1), r.1.2))
 
   yielded_no_trail : (p : Option (Option ℕ)) (a b : Type 0) (q : ℕ) → IsSomeAnd p (λ o. IfSome o (λ u. ¬ (IsTrail u)))
-      → MatchOption p a (λ o. (Some q ≡ o) × b)
-      → ¬ (IsTrail q)
+      → MatchOption p a (λ o. (Some q ≡ o) × b) → ¬ (IsTrail q)
   yielded_no_trail None a b q h e = absurd h
   yielded_no_trail (Some o) a b q h e = subst (λ k. IfSome k (λ u. ¬ (IsTrail u))) (sym e.0) h
 
@@ -84,8 +81,7 @@ module _ {S : Type 0} (steps : S → Option ℕ → S → Type 0) where
   lone_lead : (s : Ahead S ℕ) (q : ℕ) (d : List ℕ) → IsSomeAnd (peekable_peeked s) (λ o. IfSome o (λ u. ¬ (IsTrail u)))
       → Drains (peekable_steps steps) s (units (q ∷ d)) → ¬ (IsTrail q)
   lone_lead s q d lone drains trail =
-      let front : units (q ∷ d) ≡ q ∷ units d = ap (λ u. u ++ units d) (units_one q (omega (arith, trail))) in
-      let first = subst (λ u. Drains (peekable_steps steps) s u) front drains in
+      let first = subst (λ u. Drains (peekable_steps steps) s u) (ap (λ u. u ++ units d) (units_one q (omega (arith, trail)))) drains in
       yielded_no_trail (peekable_peeked s) _ _ q lone first.1.1.1.1 trail
 
   pub record ReadsLeft (s : Ahead S ℕ) (items : List (Result ℕ ℕ)) : Type 0 where
@@ -112,8 +108,7 @@ module _ {S : Type 0} (steps : S → Option ℕ → S → Type 0) where
       }
 
   pub reads_all : (items : List (Result ℕ ℕ)) (s : DecodeUtf16 S) → peekable_peeked (units_left s) ≡ None
-      → Drains (decode_steps steps) s items
-      → ReadsAll steps (peekable_source (units_left s)) items
+      → Drains (decode_steps steps) s items → ReadsAll steps (peekable_source (units_left s)) items
   reads_all items s e d =
       let r = reads_left items s d in
       record { clean = r.clean; all_units = drains_source (units_left s) (units (points_of_items items)) e r.all_units }
@@ -124,16 +119,13 @@ module _ {S : Type 0} (steps : S → Option ℕ → S → Type 0) where
   takes_one s t u p e h k = subst (λ us. Yields (peekable_steps steps) s us t) (sym (ap units_of e ∙ units_one u h)) (t, k, refl)
 
   pub takes_two : (s m t : Ahead S ℕ) (l u p : ℕ) → p ≡ pair l u → IsLead l → IsTrail u → peekable_steps steps s (Some l) m
-      → peekable_steps steps m (Some u) t
-      → Yields (peekable_steps steps) s (units_of p) t
+      → peekable_steps steps m (Some u) t → Yields (peekable_steps steps) s (units_of p) t
   takes_two s m t l u p e lead trail h k =
-      subst (λ us. Yields (peekable_steps steps) s us t) (sym (ap units_of e ∙ units_pair l u lead trail))
-      (m, h, (t, k, refl))
+      subst (λ us. Yields (peekable_steps steps) s us t) (sym (ap units_of e ∙ units_pair l u lead trail)) (m, h, (t, k, refl))
 
   -- a unit that is no lead is one item
   pub item_of_unit : (s t : Ahead S ℕ) (u : ℕ) (x : Result ℕ ℕ) → MatchResult x (λ c. IsCodePoint c × ¬ (IsSurrogate c)) IsSurrogate
-      → point_of_item x ≡ u → u < 0x10000 → ¬ (IsLead u)
-      → peekable_steps steps s (Some u) t → DecodesItem steps s x t
+      → point_of_item x ≡ u → u < 0x10000 → ¬ (IsLead u) → peekable_steps steps s (Some u) t → DecodesItem steps s x t
   item_of_unit s t u x kind point range not_lead k = record {
     kind = kind;
     after = t;
@@ -145,9 +137,7 @@ module _ {S : Type 0} (steps : S → Option ℕ → S → Type 0) where
 -- the peeked unit is no trail if it failed a test that every trail passes
 pub peeked_no_trail : (p : Option (Option ℕ)) (o : Option ℕ) (Failed : ℕ → Type 0) → p ≡ Some o → IfSome p (λ o. IfSome o Failed)
     → ((u : ℕ) → Failed u → ¬ (IsTrail u)) → IsSomeAnd p (λ o. IfSome o (λ u. ¬ (IsTrail u)))
-peeked_no_trail None o Failed e h excludes_trails = absurd cc
-peeked_no_trail (Some None) o Failed e h excludes_trails = tt
-peeked_no_trail (Some (Some u)) o Failed e h excludes_trails = excludes_trails u h
+peeked_no_trail p o Failed e h excludes_trails = grind (arith)
 
 -- The first call of a decoder over a slice.
 
@@ -163,31 +153,20 @@ slice_left s = iter_rest (copied_source (peekable_source s))
 -- a call yields the first of the units left, and `None` only if none is left
 unit_left : (s t : Copied (Iter ℕ)) (r : Option ℕ) → steps s r t
     → MatchOption r (iter_rest (copied_source s) ≡ []) (λ x. iter_rest (copied_source s) ≡ x ∷ iter_rest (copied_source t))
-unit_left s t r k = from k.0 k.1 r k.2
-  where
-    from : (o : Option (Bor ℕ)) → iter_steps (copied_source s) o (copied_source t) → (r : Option ℕ) → r ≡ option_copied o
-        → MatchOption r (iter_rest (copied_source s) ≡ []) (λ x. iter_rest (copied_source s) ≡ x ∷ iter_rest (copied_source t))
-    from None k None e = nil_from_length (iter_rest (copied_source s)) k.0
-    from None k (Some x) e = absurd cc
-    from (Some y) k None e = absurd cc
-    from (Some y) k (Some x) e = let same : x ≡ y.now = cc in k ∙ ap (λ n. n ∷ iter_rest (copied_source t)) (sym same)
+unit_left s t r k = grind (arith, common_steps, option_copied, nil_from_length)
 
 pub slice_left-yields : (us : List ℕ) (s t : PeekableUnits) → peekable_peeked s ≡ None → Yields (peekable_steps steps) s us t
     → (slice_left s ≡ us ++ slice_left t) × (peekable_peeked t ≡ None)
 slice_left-yields [] s t n y = (ap slice_left y, ap peekable_peeked (sym y) ∙ n)
 slice_left-yields (x ∷ us) s t n y =
     let m = y.0 in
-    let here = unit_left (peekable_source s) (peekable_source m) (Some x) (unpeeked_call steps s m (Some x) n y.1.1) in
     let r = slice_left-yields us m t y.1.0 y.2 in
-    (here ∙ ap (λ w. x ∷ w) r.0, r.1)
+    (unit_left (peekable_source s) (peekable_source m) (Some x) (unpeeked_call steps s m (Some x) n y.1.1) ∙ ap (λ w. x ∷ w) r.0, r.1)
 
 -- the number of units of a code point
 pub length-units_of : (p n : ℕ) → (p < 0x10000 → n ≡ 1) → (0x10000 ≤ p → n ≡ 2) → n ≡ length (units_of p)
 unfolding units_of
-length-units_of p n one two = elim (cases_lt p 0x10000) [
-  | inl l ↦ rw (lt-ltb p 0x10000 l) (one l)
-  | inr g ↦ rw (le-ltb p 0x10000 g) (two g)
-]
+length-units_of p n one two = grind (arith, cases_lt, lt-ltb, le-ltb)
 
 -- the first code point `p` of the units from index `at` on, and the index `end` after its units
 pub record IsFirstRead (v : List ℕ) (at end p : ℕ) : Type 0 where
@@ -196,9 +175,7 @@ pub record IsFirstRead (v : List ℕ) (at end p : ℕ) : Type 0 where
   pub reads : Reads (p ∷ []) (take (end - at) (drop at v))
 
 divides_no_pair_after_no_lead : (v : List ℕ) (at : ℕ) → at < length v → ¬ (IsLead (get_or v at 0)) → DividesNoPair v (at + 1)
-divides_no_pair_after_no_lead v at l no_lead =
-    let next : suc at ≡ at + 1 = omega arith in
-    subst (DividesNoPair v) next (DividesNoPair-after_no_lead v at l no_lead)
+divides_no_pair_after_no_lead v at l no_lead = grind (arith, DividesNoPair-after_no_lead)
 
 divides_no_pair_before_no_trail : (v : List ℕ) (at : ℕ) → (at + 1 < length v → ¬ (IsTrail (get_or v (at + 1) 0))) → DividesNoPair v (at + 1)
 divides_no_pair_before_no_trail v at no_trail = elim (cases_lt (at + 1) (length v)) [
@@ -211,21 +188,12 @@ divides_no_pair_before_no_trail v at no_trail = elim (cases_lt (at + 1) (length 
 -- a unit after which no pair is divided is read alone
 IsFirstRead-single : (v : List ℕ) (at : ℕ) → at < length v → get_or v at 0 < 0x10000 → DividesNoPair v (at + 1)
     → IsFirstRead v at (at + 1) (get_or v at 0)
-IsFirstRead-single v at l h divides =
-    let count : at + 1 - at ≡ 1 = omega arith in
-    let whole : take (at + 1 - at) (drop at v) ≡ get_or v at 0 ∷ [] =
-    ap (λ k. take k (drop at v)) count ∙ ap (take 1) (drop_more v at 0 l) in
-    record {
-      within = omega (arith, l);
-      divides_no_pair = divides;
-      reads = record { clean = omega (arith, h); same_units = append-nil _ ∙ (units_one (get_or v at 0) h ∙ sym whole) };
-    }
+IsFirstRead-single v at l h divides = grind (arith, drop_more, append-nil, units_one)
 
 -- a unit that is no surrogate is one code point
 pub IsFirstRead-unit : (v : List ℕ) (at : ℕ) → at < length v → get_or v at 0 < 0x10000 → ¬ (IsSurrogate (get_or v at 0))
     → IsFirstRead v at (at + 1) (get_or v at 0)
-IsFirstRead-unit v at l h not_surrogate =
-    IsFirstRead-single v at l h (divides_no_pair_after_no_lead v at l (λ k. not_surrogate (k.0, omega (arith, k.1))))
+IsFirstRead-unit v at l h not_surrogate = grind (arith, IsFirstRead-single, divides_no_pair_after_no_lead)
 
 -- a lone surrogate is read alone: a trail, or a lead that no trail follows
 pub IsFirstRead-lone : (v : List ℕ) (at : ℕ) → at < length v → get_or v at 0 < 0x10000
@@ -241,21 +209,7 @@ IsFirstRead-lone v at l h lone = IsFirstRead-single v at l h (elim (cases_lt (ge
 -- a lead and the trail after it are read together
 pub IsFirstRead-pair : (v : List ℕ) (at : ℕ) → at + 1 < length v → IsLead (get_or v at 0) → IsTrail (get_or v (at + 1) 0)
     → IsFirstRead v at (at + 2) (pair (get_or v at 0) (get_or v (at + 1) 0))
-IsFirstRead-pair v at l lead trail =
-    let count : at + 2 - at ≡ 2 = omega arith in
-    let next : suc (at + 1) ≡ at + 2 = omega arith in
-    let first : drop at v ≡ get_or v at 0 ∷ drop (at + 1) v = drop_more v at 0 (omega (arith, l)) in
-    let second : drop (at + 1) v ≡ get_or v (at + 1) 0 ∷ drop (at + 1 + 1) v = drop_more v (at + 1) 0 l in
-    let whole : take (at + 2 - at) (drop at v) ≡ get_or v at 0 ∷ get_or v (at + 1) 0 ∷ [] =
-    ap (λ k. take k (drop at v)) count ∙ ap (take 2) (first ∙ ap (λ w. get_or v at 0 ∷ w) second) in
-    record {
-      within = omega (arith, l);
-      divides_no_pair = subst (DividesNoPair v) next (DividesNoPair-after_no_lead v (at + 1) l (λ k. omega (arith, k.1, trail.0)));
-      reads = record {
-        clean = omega (arith, lead.0, lead.1, trail.0, trail.1);
-        same_units = append-nil _ ∙ (units_pair (get_or v at 0) (get_or v (at + 1) 0) lead trail ∙ sym whole);
-      };
-    }
+IsFirstRead-pair v at l lead trail = grind (arith, drop_more, DividesNoPair-after_no_lead, append-nil, units_pair)
 
 -- All items of a decoder over a slice.
 
@@ -268,9 +222,8 @@ drained_units (x ∷ us) s d =
 
 -- an empty slice yields no item
 pub no_item : (v : List ℕ) (at : ℕ) (items : List (Result ℕ ℕ)) (s k t : DecodeUtf16 (Copied (Iter ℕ))) (x : Result ℕ ℕ)
-    → peekable_peeked (units_left s) ≡ None
-    → slice_left (units_left s) ≡ take (length v - at) (drop at v) → Yields (decode_steps steps) s items k
-    → DecodesItem steps (units_left k) x (units_left t) → v ≢ []
+    → peekable_peeked (units_left s) ≡ None → slice_left (units_left s) ≡ take (length v - at) (drop at v)
+    → Yields (decode_steps steps) s items k → DecodesItem steps (units_left k) x (units_left t) → v ≢ []
 no_item v at items s k t x none rest y item nothing = from items y
   where
     whole : slice_left (units_left s) ≡ drop at v
@@ -281,8 +234,7 @@ no_item v at items s k t x none rest y item nothing = from items y
         let us = units_of (point_of_item q) in
         let got = slice_left-yields us (units_left s) i.after none i.taken in
         let one = length-units_of (point_of_item q) in
-        let none_left : length us + length (slice_left i.after) ≡ 0 =
-        sym (length-append us (slice_left i.after)) ∙ ap length (sym got.0 ∙ whole) ∙ length-drop at v ∙ omega (arith, ap length nothing) in
+        let none_left : length us + length (slice_left i.after) ≡ 0 = grind (arith, length-append, length-drop) in
         elim (cases_lt (point_of_item q) 0x10000) [
           | inl l ↦ omega (arith, none_left, one 1 (λ _. refl) (λ g. omega (arith, g, l)))
           | inr g ↦ omega (arith, none_left, one 2 (λ l. omega (arith, g, l)) (λ _. refl))
@@ -296,22 +248,12 @@ no_item v at items s k t x none rest y item nothing = from items y
 pub encoded_item : (w : List ℕ) {now new : List ℕ} (items : List (Result ℕ ℕ)) (x : Result ℕ ℕ) {p : ℕ}
     → now ≡ w ++ bytes (points_of_items items) → new ≡ now ++ encoding p → point_of_item x ≡ p
     → new ≡ w ++ bytes (points_of_items (items ++ x ∷ []))
-encoded_item w {now} {new} items x {p} before added same =
-    added ∙ ap (λ b. b ++ encoding p) before ∙ append_assoc w (bytes (points_of_items items)) (encoding p)
-    ∙ ap (λ b. w ++ b) (ap (λ b. bytes (points_of_items items) ++ b) (ap encoding (sym same)
-    ∙ sym (append-nil (encoding (point_of_item x)))) ∙ sym (bytes-append (points_of_items items) (point_of_item x ∷ []))
-    ∙ ap bytes (sym (map-append point_of_item items (x ∷ []))))
-
-pub scalar_item : (items : List (Result ℕ ℕ)) (x : Result ℕ ℕ) → AreScalar (points_of_items items) → ¬ (IsSurrogate (point_of_item x))
-    → AreScalar (points_of_items (items ++ x ∷ []))
-scalar_item items x before not_surrogate = subst AreScalar (sym (map-append point_of_item items (x ∷ [])))
-    (scalar-append (points_of_items items) (point_of_item x ∷ []) before (not_surrogate, tt))
+encoded_item w {now} {new} items x {p} before added same = grind (arith, append_assoc, append-nil, bytes-append, map-append)
 
 -- the form of all units: the bytes so far, and the encodings of the decoder's items for the rest
 pub rest_read : {w new u : List ℕ} {at : ℕ} {known more : Bool} (items : List (Result ℕ ℕ)) (iter : Copied (Iter ℕ)) → IsReadTo w u at known
     → iter_rest (copied_source iter) ≡ take (length u - at) (drop at u) → ReadsAll steps iter items
-    → new ≡ w ++ bytes (points_of_items items)
-    → (IsTrue more → IsTrue known × AreScalar (points_of_items items)) → IsKnownForm new u more
+    → new ≡ w ++ bytes (points_of_items items) → (IsTrue more → IsTrue known × AreScalar (points_of_items items)) → IsKnownForm new u more
 rest_read {w} {new} {u} {at} {known} {more} items iter x rest reads appended flags =
     let points = points_of_items items in
     let all : units points ≡ drop at u =

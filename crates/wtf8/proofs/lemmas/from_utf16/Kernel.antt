@@ -1,6 +1,6 @@
 -- Blocks of units of mixed kinds: three candidate bytes of each unit in lanes, and the shuffle that packs them.
 use Rattle.wtf8.proofs.Common.{◌≡◌, ℕ, suc, ◌+◌, ◌-◌, ◌*◌, ◌/◌, ◌%◌, ◌^◌, ◌<◌, ◌≤◌, List, [], ◌∷◌, ◌++◌, length, take, drop, get_or, map}
-use Rattle.wtf8.proofs.Common.{replicate, zip2, Each1, cond, ltb, leb, eqb, top, Bool, true, false, length-append, false≢true, refl, sym}
+use Rattle.wtf8.proofs.Common.{replicate, zip2, Each1, cond, ltb, leb, eqb, top, Bool, false, length-append, false≢true, refl, sym}
 use Rattle.wtf8.proofs.Common.{ap, ◌∙◌, arith, lt-ltb, le-ltb, subst, cases_lt, cases_Bool, inl, inr, Fits, append-nil, append_assoc}
 use Rattle.wtf8.proofs.Common.{map-append, rules, ◌&&◌, mask_l-mod, eq-eqb, pick_l_whole, IsSurrogate, sel_l, mask_l, w8, w16, bit_and}
 use Rattle.wtf8.proofs.Common.{bit_or, nat_tests, swz_l, IsLead, IsUnit, length-take-le, take-take}
@@ -10,7 +10,7 @@ use Rattle.std.proofs.lemmas.List.{take-map, drop-map, get_or-take}
 use Rattle.std.proofs.lemmas.Simd.{get_or-swz_l_below}
 use Rattle.wtf8.specs.private.ConvertedPrefix.{AreScalarUnits}
 use Rattle.wtf8.specs.private.PackedUnits.{first_byte, scalar_second_byte, second_byte, scalar_last_byte, last_byte, multi_byte_bit}
-use Rattle.wtf8.specs.private.PackedUnits.{three_byte_bit, byte_count, byte_lanes, table_index, units_table_index, source_lanes}
+use Rattle.wtf8.specs.private.PackedUnits.{three_byte_bit, byte_count, byte_lanes, units_table_index, source_lanes}
 use Rattle.wtf8.specs.private.PackedUnits.{IsByteCount, packed_unit, packed_units, tagged, tagged_units, tagged_block, AreLaterBytes}
 use Rattle.wtf8.proofs.lemmas.lanes.AsciiFronts.{Each1-map_all}
 use Rattle.wtf8.proofs.lemmas.from_utf16.PackedUnits.{packed_unit-lead, IsTag, IsTag-tagged, tagged-scalar, tagged-lead_before_trail}
@@ -88,10 +88,7 @@ abbrev scalar_second_byte_lanes : List ℕ → List ℕ
 scalar_second_byte_lanes u = lanes_add (select_by ltb 0x800 u (replicate 8 0xC0) (replicate 8 0x80)) (lanes_rem 64 (lanes_div 64 u))
 
 scalar_second_byte-lane : (x : ℕ) → (cond (top 15 (cond (ltb x 0x800) 0xFFFF 0)) 0xC0 0x80 + x / 64 % 64) % 65536 ≡ scalar_second_byte x
-scalar_second_byte-lane x = elim (cases_lt x 0x800) [
-  | inl l ↦ rw (lt-ltb x 0x800 l) (omega arith)
-  | inr g ↦ rw (le-ltb x 0x800 g) (omega arith)
-]
+scalar_second_byte-lane x = grind (arith, cases_lt, lt-ltb, le-ltb)
 
 pub scalar_second_byte_lanes-map : (u : List ℕ) → length u ≡ 8 → scalar_second_byte_lanes u ≡ map scalar_second_byte u
 scalar_second_byte_lanes-map u l = of_eight (λ u. scalar_second_byte_lanes u ≡ map scalar_second_byte u) u l (map-same (λ x. (cond
@@ -131,10 +128,7 @@ record ArePairHalves (u leads trails : List ℕ) : Type 0 where
   pub trail : trails ≡ map trail_mask u
 
 and_lanes : (s t : Bool) → bit_and (cond s 0xFFFF 0) (cond t 0xFFFF 0) ≡ cond (s && t) 0xFFFF 0
-and_lanes true true = refl
-and_lanes true false = refl
-and_lanes false true = refl
-and_lanes false false = refl
+and_lanes s t = grind (arith)
 
 lead_mask-lane : (b x n : ℕ) → bit_and (cond (eqb (x / 1024) 54) 0xFFFF 0) (cond (eqb (n / 1024) 55) 0xFFFF 0) ≡ lead_mask (tagged b x n)
 lead_mask-lane b x n = and_lanes (eqb (x / 1024) 54) (eqb (n / 1024) 55) ∙ grind (arith, nat_tests)
@@ -183,9 +177,7 @@ trail_second_byte b x = ((0x80 + b % 4 * 16 % 65536) % 65536 + x / 64 % 16) % 65
 
 second_byte-lane : (b x d t : ℕ) → IsTag b d → IsTag x t → cond (top 15 (lead_mask t)) (lead_second_byte x)
     (cond (top 15 (trail_mask t)) (trail_second_byte b x) (scalar_second_byte x)) ≡ second_byte d t
-second_byte-lane b x d t k m =
-    let low : b % 4 ≡ d % 4 = elim k [ inl e ↦ omega (arith, e) | inr e ↦ omega (arith, e.0) ] in
-    elim m [ inl e ↦ grind (arith, nat_tests, low, e) | inr e ↦ grind (arith, nat_tests, low, e.0, e.1.0, e.1.1) ]
+second_byte-lane b x d t k m = grind (arith)
 
 abbrev second_byte_lanes : List ℕ → List ℕ → List ℕ → List ℕ → List ℕ
 second_byte_lanes leads trails own u =
@@ -196,13 +188,12 @@ second_byte_lanes leads trails own u =
 
 second_byte_lanes-zip2 : (leads trails own u : List ℕ) → length u ≡ 8 → ArePairHalves (tagged_block u) leads trails
     → own ≡ map scalar_second_byte u → second_byte_lanes leads trails own u ≡ zip2 second_byte (0 ∷ tagged_block u) (tagged_block u)
-second_byte_lanes-zip2 leads trails own u l p e = rw (e, p.lead, p.trail) (of_eight (λ u. second_byte_lanes (map lead_mask (tagged_block u))
-    (map trail_mask (tagged_block u)) (map scalar_second_byte u) u ≡ zip2 second_byte (0 ∷ tagged_block u) (tagged_block u)) u l
-    (λ i. second_byte-lane 0 (unit 0) 0 (tag 0 (unit 0) (unit 1)) (inl refl) (IsTag-tagged 0 (unit 0) (unit 1)) i
-    ∷ lane 0 (unit 0) (unit 1) (unit 2) i ∷ lane (unit 0) (unit 1) (unit 2) (unit 3) i ∷ lane (unit 1) (unit 2) (unit 3) (unit 4) i ∷ lane
-    (unit 2) (unit 3) (unit 4) (unit 5) i
-    ∷ lane (unit 3) (unit 4) (unit 5) (unit 6) i ∷ lane (unit 4) (unit 5) (unit 6) (unit 7) i ∷ lane (unit 5) (unit 6)
-    (unit 7) 0xDC00 i ∷ []))
+second_byte_lanes-zip2 leads trails own u l p e = rw (e, p.lead, p.trail)
+    (of_eight (λ u. second_byte_lanes (map lead_mask (tagged_block u)) (map trail_mask (tagged_block u)) (map scalar_second_byte u) u
+    ≡ zip2 second_byte (0 ∷ tagged_block u) (tagged_block u)) u l (λ i. second_byte-lane 0 (unit 0) 0 (tag 0 (unit 0) (unit 1)) (inl refl)
+    (IsTag-tagged 0 (unit 0) (unit 1)) i ∷ lane 0 (unit 0) (unit 1) (unit 2) i ∷ lane (unit 0) (unit 1) (unit 2) (unit 3) i
+    ∷ lane (unit 1) (unit 2) (unit 3) (unit 4) i ∷ lane (unit 2) (unit 3) (unit 4) (unit 5) i ∷ lane (unit 3) (unit 4) (unit 5) (unit 6) i
+    ∷ lane (unit 4) (unit 5) (unit 6) (unit 7) i ∷ lane (unit 5) (unit 6) (unit 7) 0xDC00 i ∷ []))
   where
     unit : ℕ → ℕ
     unit k = get_or u k 0
@@ -226,12 +217,10 @@ last_byte_lanes leads own u = sel_l (map (top 15) leads)
 
 last_byte_lanes-map : (leads own u : List ℕ) → length u ≡ 8 → leads ≡ map lead_mask (tagged_block u) → own ≡ map scalar_last_byte u
     → last_byte_lanes leads own u ≡ map last_byte (tagged_block u)
-last_byte_lanes-map leads own u l p e = rw (e, p)
-    (of_eight (λ u. last_byte_lanes (map lead_mask (tagged_block u)) (map scalar_last_byte u) u ≡ map last_byte (tagged_block u)) u l
-    (λ i. lane 0 (unit 0) (unit 1) i ∷ lane (unit 0) (unit 1) (unit 2) i ∷ lane (unit 1) (unit 2) (unit 3) i ∷ lane (unit 2)
-    (unit 3) (unit 4) i
-    ∷ lane (unit 3) (unit 4) (unit 5) i ∷ lane (unit 4) (unit 5) (unit 6) i ∷ lane (unit 5) (unit 6) (unit 7) i ∷ lane (unit 6)
-    (unit 7) 0xDC00 i ∷ []))
+last_byte_lanes-map leads own u l p e = rw (e, p) (of_eight (λ u. last_byte_lanes (map lead_mask (tagged_block u)) (map scalar_last_byte u)
+    u ≡ map last_byte (tagged_block u)) u l (λ i. lane 0 (unit 0) (unit 1) i ∷ lane (unit 0) (unit 1) (unit 2) i
+    ∷ lane (unit 1) (unit 2) (unit 3) i ∷ lane (unit 2) (unit 3) (unit 4) i ∷ lane (unit 3) (unit 4) (unit 5) i
+    ∷ lane (unit 4) (unit 5) (unit 6) i ∷ lane (unit 5) (unit 6) (unit 7) i ∷ lane (unit 6) (unit 7) 0xDC00 i ∷ []))
   where
     unit : ℕ → ℕ
     unit k = get_or u k 0
@@ -246,15 +235,12 @@ three_byte_flag-lane : (x t : ℕ) → IsTag x t → cond (top 15 (bit_or (lead_
 three_byte_flag-lane x t m = elim m [ inl e ↦ grind (arith, nat_tests, e) | inr e ↦ grind (arith, nat_tests, e.0, e.1.0, e.1.1) ]
 
 three_byte_flag_lanes-map : (leads trails m u : List ℕ) → length u ≡ 8 → ArePairHalves (tagged_block u) leads trails
-    → m ≡ map (flag_from 0x800) u
-    → sel_l (map (top 15) (zip2 bit_or leads trails)) (replicate 8 0) m ≡ map three_byte_flag (tagged_block u)
+    → m ≡ map (flag_from 0x800) u → sel_l (map (top 15) (zip2 bit_or leads trails)) (replicate 8 0) m ≡ map three_byte_flag (tagged_block u)
 three_byte_flag_lanes-map leads trails m u l p e = rw (e, p.lead, p.trail)
     (of_eight (λ u. sel_l (map (top 15) (zip2 bit_or (map lead_mask (tagged_block u)) (map trail_mask (tagged_block u)))) (replicate 8 0)
-    (map (flag_from 0x800) u) ≡ map three_byte_flag (tagged_block u)) u l
-    (λ i. lane 0 (unit 0) (unit 1) i ∷ lane (unit 0) (unit 1) (unit 2) i ∷ lane (unit 1) (unit 2) (unit 3) i ∷ lane (unit 2)
-    (unit 3) (unit 4) i
-    ∷ lane (unit 3) (unit 4) (unit 5) i ∷ lane (unit 4) (unit 5) (unit 6) i ∷ lane (unit 5) (unit 6) (unit 7) i ∷ lane (unit 6)
-    (unit 7) 0xDC00 i ∷ []))
+    (map (flag_from 0x800) u) ≡ map three_byte_flag (tagged_block u)) u l (λ i. lane 0 (unit 0) (unit 1) i ∷ lane (unit 0) (unit 1) (unit 2)
+    i ∷ lane (unit 1) (unit 2) (unit 3) i ∷ lane (unit 2) (unit 3) (unit 4) i ∷ lane (unit 3) (unit 4) (unit 5) i
+    ∷ lane (unit 4) (unit 5) (unit 6) i ∷ lane (unit 5) (unit 6) (unit 7) i ∷ lane (unit 6) (unit 7) 0xDC00 i ∷ []))
   where
     unit : ℕ → ℕ
     unit k = get_or u k 0
@@ -266,27 +252,14 @@ three_byte_flag_lanes-map leads trails m u l p e = rw (e, p.lead, p.trail)
 -- a unit that is no surrogate has the same bytes by both computations
 candidate_bytes-scalar : (x : ℕ) → ¬ (IsSurrogate x) → (b : ℕ)
     → (scalar_second_byte x ≡ second_byte b x) × (scalar_last_byte x ≡ last_byte x) × (flag_from 0x800 x ≡ three_byte_flag x)
-candidate_bytes-scalar x n b = elim (cases_lt x 0xD800) [
-  | inl l ↦ (rw (lt-ltb x 0xD800 l) refl, rw (lt-ltb x 0xD800 l) refl, rw (lt-ltb x 0xD800 l) refl)
-  | inr g ↦ elim (cases_lt x 0xE000) [
-    | inl l ↦ absurd (n (g, omega (arith, l)))
-    | inr h ↦ (
-      rw (le-ltb x 0xD800 g, le-ltb x 0xDC00 (omega (arith, h)), le-ltb x 0xE000 h) refl,
-      rw (le-ltb x 0xD800 g, le-ltb x 0xDC00 (omega (arith, h))) refl,
-      rw (le-ltb x 0xD800 g, le-ltb x 0xE000 h) refl,
-    )
-  ]
-]
+candidate_bytes-scalar x n b = grind (arith, cases_lt, lt-ltb, le-ltb)
 
 scalar_candidates : (b u : List ℕ) → length u ≤ length b → AreScalarUnits u → (map scalar_second_byte u ≡ zip2 second_byte b u)
     × (map scalar_last_byte u ≡ map last_byte u) × (map (flag_from 0x800) u ≡ map three_byte_flag u)
 scalar_candidates [] [] l h = (refl, refl, refl)
 scalar_candidates (y ∷ b) [] l h = (refl, refl, refl)
 scalar_candidates [] (x ∷ u) l h = absurd (omega (arith, l))
-scalar_candidates (y ∷ b) (x ∷ u) l h =
-    let own = candidate_bytes-scalar x h.0.1 y in
-    let more = scalar_candidates b u (omega (arith, l)) h.1 in
-    ((λ i. own.0 i ∷ more.0 i), (λ i. own.1 i ∷ more.1 i), (λ i. own.2 i ∷ more.2 i))
+scalar_candidates (y ∷ b) (x ∷ u) l h = grind (arith, candidate_bytes-scalar, scalar_candidates b u (omega (arith, l)) h.1)
 
 -- units of which none is a surrogate are not changed by tags
 pub tagged_units-scalar : (b : ℕ) (u : List ℕ) (a : ℕ) → AreScalarUnits u → tagged_units b u a ≡ u
@@ -308,32 +281,13 @@ units-scalar_block u h = subst (Each1 IsUnit) (sym (tagged_units-scalar 0 u 0xDC
 abbrev lone_lane : ℕ → ℕ → Bool
 lone_lane x t = top 15 (bit_xor (cond (eqb (x / 2048) 27) 0xFFFF 0) (bit_or (lead_mask t) (trail_mask t)))
 
-lone_lane-tagged : (x : ℕ) → IsSurrogate x → lone_lane x (x + 0x10000) ≡ true
-lone_lane-tagged x s =
-    let kind = eq-eqb (x / 2048) 27 (omega (arith, s)) in
-    rw (
-      kind,
-      le-ltb (x + 0x10000) 0xD800 (omega (arith, s)),
-      le-ltb (x + 0x10000) 0xDC00 (omega (arith, s)),
-      le-ltb (x + 0x10000) 0xE000 (omega (arith, s)),
-    ) refl
-
 unit-from_lane : (x t : ℕ) → x < 0x10000 → IsTag x t → lone_lane x t ≡ false → IsUnit t
-unit-from_lane x t h m e = elim m [
-  | inl same ↦ omega (arith, same, h)
-  | inr lone ↦ absurd (false≢true (sym e ∙ ap (lone_lane x) lone.0 ∙ lone_lane-tagged x lone.1))
-]
+unit-from_lane x t h m e = grind (arith, false≢true, eq-eqb, le-ltb)
 
 units-from_mask : (b : ℕ) (u : List ℕ) (a : ℕ) → Each1 (Fits w16) u → mask_l (zip2 lone_lane u (tagged_units b u a)) ≡ 0
     → Each1 IsUnit (tagged_units b u a)
 units-from_mask b [] a f e = tt
-units-from_mask b (x ∷ u) a f e = elim (cases_Bool (lone_lane x (tagged b x (get_or u 0 a)))) [
-  | inl t ↦ absurd (omega (arith, rw t at e))
-  | inr n ↦ (
-    unit-from_lane x (tagged b x (get_or u 0 a)) f.0.fits (IsTag-tagged b x (get_or u 0 a)) n,
-    units-from_mask x u a f.1 (omega (arith, e)),
-  )
-]
+units-from_mask b (x ∷ u) a f e = grind (arith, cases_Bool, unit-from_lane, IsTag-tagged, units-from_mask x u a f.1 (omega (arith, e)))
 
 abbrev lone_mask : List ℕ → List ℕ → List ℕ → List Bool
 lone_mask leads trails u =
@@ -341,11 +295,9 @@ lone_mask leads trails u =
 
 units-from_zero_mask : (leads trails u : List ℕ) → length u ≡ 8 → Each1 (Fits w16) u → ArePairHalves (tagged_block u) leads trails
     → mask_l (lone_mask leads trails u) % 2 ^ 64 ≡ 0 → Each1 IsUnit (tagged_block u)
-units-from_zero_mask leads trails u l f p e =
-    of_eight (λ u. Each1 (Fits w16) u → mask_l (lone_mask (map lead_mask (tagged_block u)) (map trail_mask (tagged_block u)) u) % 2 ^ 64 ≡ 0
-    → Each1 IsUnit (tagged_block u)) u l
-    (λ f e. units-from_mask 0 (eight_lanes u) 0xDC00 f
-    (sym (mask_l-mod (zip2 lone_lane (eight_lanes u) (tagged_block (eight_lanes u))) 64 (omega arith)) ∙ e)) f (rw (p.lead, p.trail) at e)
+units-from_zero_mask leads trails u l f p e = of_eight (λ u. Each1 (Fits w16) u → mask_l (lone_mask (map lead_mask (tagged_block u))
+    (map trail_mask (tagged_block u)) u) % 2 ^ 64 ≡ 0 → Each1 IsUnit (tagged_block u)) u l (λ f e. units-from_mask 0 (eight_lanes u) 0xDC00
+    f (sym (mask_l-mod (zip2 lone_lane (eight_lanes u) (tagged_block (eight_lanes u))) 64 (omega arith)) ∙ e)) f (rw (p.lead, p.trail) at e)
 
 pub later_lanes : (own lasts m u : List ℕ) → length u ≡ 8 → own ≡ map scalar_second_byte u → lasts ≡ map scalar_last_byte u
     → m ≡ map (flag_from 0x800) u
@@ -365,19 +317,13 @@ units-from_lone_mask u l f = units-from_zero_mask (pair_lead_lanes u) (pair_trai
 
 -- The candidate bytes as 8-bit lanes, four units at a time, and the table index of their lengths.
 
-second_byte_bound : (b x : ℕ) → second_byte b x < 256
-second_byte_bound b x = grind (arith, nat_tests)
-
 pub second_bytes_fit : (P : ℕ → Type 0) → ((x : ℕ) → x < 256 → P x) → (b u : List ℕ) → Each1 P (zip2 second_byte b u)
 second_bytes_fit P h [] u = tt
 second_bytes_fit P h (y ∷ b) [] = tt
-second_bytes_fit P h (y ∷ b) (x ∷ u) = (h _ (second_byte_bound y x), second_bytes_fit P h b u)
-
-last_byte_bound : (x : ℕ) → last_byte x < 256
-last_byte_bound x = grind (arith, nat_tests)
+second_bytes_fit P h (y ∷ b) (x ∷ u) = (h _ (grind (arith, nat_tests)), second_bytes_fit P h b u)
 
 pub last_bytes_fit : (P : ℕ → Type 0) → ((x : ℕ) → x < 256 → P x) → (u : List ℕ) → Each1 P (map last_byte u)
-last_bytes_fit P h = Each1-map_all P last_byte (λ x. h _ (last_byte_bound x))
+last_bytes_fit P h = Each1-map_all P last_byte (λ x. h _ (grind (arith, nat_tests)))
 
 -- a unit that takes three bytes takes more than one
 byte_count_bits_bound : (n : ℕ) → (three_byte_bit n ≤ multi_byte_bit n) × (multi_byte_bit n ≤ 1)
@@ -404,17 +350,11 @@ picked_lanes f s l js ks = pick_l 0 (f ++ narrowed s) js ++ pick_l 0 (narrowed l
 
 pub front_lanes : (u f s l : List ℕ) → length u ≡ 8 → f ≡ map first_byte u → s ≡ zip2 second_byte (0 ∷ u) u → l ≡ map last_byte u
     → picked_lanes f s l (0 ∷ 1 ∷ 2 ∷ 3 ∷ 8 ∷ 9 ∷ 10 ∷ 11 ∷ []) (0 ∷ 1 ∷ 2 ∷ 3 ∷ []) ≡ byte_lanes 0 (take 4 u)
-front_lanes u f s l long x y z =
-    rw (x, y, z) (of_eight (λ u. picked_lanes (map first_byte u) (zip2 second_byte (0 ∷ u) u) (map last_byte u)
-    (0 ∷ 1 ∷ 2 ∷ 3 ∷ 8 ∷ 9 ∷ 10 ∷ 11 ∷ []) (0 ∷ 1 ∷ 2 ∷ 3 ∷ [])
-    ≡ byte_lanes 0 (take 4 u)) u long refl)
+front_lanes u f s l long x y z = grind (arith, of_eight)
 
 pub back_lanes : (u f s l : List ℕ) → length u ≡ 8 → f ≡ map first_byte u → s ≡ zip2 second_byte (0 ∷ u) u → l ≡ map last_byte u
     → picked_lanes f s l (4 ∷ 5 ∷ 6 ∷ 7 ∷ 12 ∷ 13 ∷ 14 ∷ 15 ∷ []) (4 ∷ 5 ∷ 6 ∷ 7 ∷ []) ≡ byte_lanes (get_or u 3 0) (drop 4 u)
-back_lanes u f s l long x y z =
-    rw (x, y, z) (of_eight (λ u. picked_lanes (map first_byte u) (zip2 second_byte (0 ∷ u) u) (map last_byte u)
-    (4 ∷ 5 ∷ 6 ∷ 7 ∷ 12 ∷ 13 ∷ 14 ∷ 15 ∷ []) (4 ∷ 5 ∷ 6 ∷ 7 ∷ [])
-    ≡ byte_lanes (get_or u 3 0) (drop 4 u)) u long refl)
+back_lanes u f s l long x y z = grind (arith, of_eight)
 
 abbrev flag_is_set : ℕ → Bool
 flag_is_set y = top 7 (cond (leb 128 y) 255 0)
@@ -423,26 +363,11 @@ abbrev flags_set : List ℕ → List ℕ → List Bool
 flags_set m n =
     map flag_is_set (pick_l 0 (narrowed m ++ narrowed n) (0 ∷ 1 ∷ 2 ∷ 3 ∷ 8 ∷ 9 ∷ 10 ∷ 11 ∷ 4 ∷ 5 ∷ 6 ∷ 7 ∷ 12 ∷ 13 ∷ 14 ∷ 15 ∷ []))
 
--- the mask bit of the flag `t * 0x80` is `t`
-flag_is_set-bit : (t : ℕ) → t ≤ 1 → cond (flag_is_set (t * 0x80)) 1 0 ≡ t
-flag_is_set-bit t h = elim (cases_lt t 1) [
-  | inl l ↦ let none : t ≡ 0 = omega (arith, l) in ap (λ k. cond {A = ℕ} (flag_is_set (k * 0x80)) 1 0) none ∙ sym none
-  | inr g ↦ let one : t ≡ 1 = omega (arith, g, h) in ap (λ k. cond {A = ℕ} (flag_is_set (k * 0x80)) 1 0) one ∙ sym one
-]
-
 flag_from-byte_count : (n : ℕ) → cond (flag_is_set (flag_from 0x80 n)) 1 0 ≡ byte_count n / 2
-flag_from-byte_count n =
-    let counts = byte_count_bits_bound n in
-    flag_is_set-bit (multi_byte_bit n) counts.1 ∙ omega (arith, counts.0, counts.1)
+flag_from-byte_count n = grind (arith, byte_count_bits_bound, cases_lt)
 
 three_byte_flag-byte_count : (n : ℕ) → cond (flag_is_set (three_byte_flag n)) 1 0 ≡ byte_count n / 3
-three_byte_flag-byte_count n =
-    let counts = byte_count_bits_bound n in
-    flag_is_set-bit (three_byte_bit n) (omega (arith, counts.0, counts.1)) ∙ omega (arith, counts.0, counts.1)
-
-number_l-sixteen : (a b c d e f g h i j k l m n o p : ℕ) → number_l 2 (a ∷ b ∷ c ∷ d ∷ e ∷ f ∷ g ∷ h ∷ i ∷ j ∷ k ∷ l ∷ m ∷ n ∷ o ∷ p ∷ [])
-    ≡ (a + b * 2 + c * 4 + d * 8 + (e + f * 2 + g * 4 + h * 8) * 16) + 256 * (i + j * 2 + k * 4 + l * 8 + (m + n * 2 + o * 4 + p * 8) * 16)
-number_l-sixteen a b c d e f g h i j k l m n o p = omega arith
+three_byte_flag-byte_count n = grind (arith, byte_count_bits_bound, cases_lt)
 
 mask_l-number_l : (bs : List Bool) → mask_l bs ≡ number_l 2 (map (λ b. cond b 1 0) bs)
 mask_l-number_l [] = refl
@@ -450,12 +375,9 @@ mask_l-number_l (b ∷ bs) = ap (λ n. cond b 1 0 + 2 * n) (mask_l-number_l bs)
 
 pub mask_l-table_indexes : (u m n : List ℕ) → length u ≡ 8 → m ≡ map (flag_from 0x80) u → n ≡ map three_byte_flag u
     → mask_l (flags_set m n) % 2 ^ 64 ≡ units_table_index (take 4 u) + 256 * units_table_index (drop 4 u)
-mask_l-table_indexes u m n long x y =
-    mask_l-mod (flags_set m n) 64 (omega arith) ∙ mask_l-number_l (flags_set m n)
+mask_l-table_indexes u m n long x y = mask_l-mod (flags_set m n) 64 (omega arith) ∙ mask_l-number_l (flags_set m n)
     ∙ rw (x, y) (of_eight (λ u. number_l 2 (map (λ b. cond {A = ℕ} b 1 0) (flags_set (map (flag_from 0x80) u) (map three_byte_flag u)))
-    ≡ units_table_index (take 4 u) + 256 * units_table_index (drop 4 u)) u long
-    (ap (number_l 2) listed ∙ number_l-sixteen (one 0) (one 1) (one 2) (one 3) (two 0) (two 1) (two 2) (two 3) (one 4) (one 5) (one 6)
-    (one 7) (two 4) (two 5) (two 6) (two 7)))
+    ≡ units_table_index (take 4 u) + 256 * units_table_index (drop 4 u)) u long (ap (number_l 2) listed ∙ omega arith))
   where
     one : ℕ → ℕ
     one k = byte_count (get_or u k 0) / 2
@@ -475,21 +397,14 @@ mask_l-table_indexes u m n long x y =
         ∷ low 4 i ∷ low 5 i ∷ low 6 i ∷ low 7 i ∷ high 4 i ∷ high 5 i ∷ high 6 i ∷ high 7 i ∷ []
 
 multi_byte_flag-tagged : (x t : ℕ) → IsTag x t → flag_from 0x80 x ≡ flag_from 0x80 t
-multi_byte_flag-tagged x t k = elim k [
-  | inl e ↦ ap (flag_from 0x80) (sym e)
-  | inr e ↦ rw (e.0, le-ltb x 0x80 (omega (arith, e.1.0)), le-ltb (x + 0x10000) 0x80 (omega arith)) refl
-]
+multi_byte_flag-tagged x t k = grind (arith, le-ltb)
 
 -- the flags of units that take more than one byte are those of the tagged units
 pub multi_byte_flags-tagged : (m u : List ℕ) → m ≡ map (flag_from 0x80) u → m ≡ map (flag_from 0x80) (tagged_block u)
 multi_byte_flags-tagged m u e = e ∙ map-tagged (flag_from 0x80) multi_byte_flag-tagged 0 u 0xDC00
 
-table_index_bound : (a b c d : ℕ) → IsByteCount a → IsByteCount b → IsByteCount c → IsByteCount d → table_index a b c d < 256
-table_index_bound a b c d i j k l = omega (arith, i, j, k, l)
-
 pub units_table_index_bound : (u : List ℕ) → units_table_index u < 256
-units_table_index_bound u = table_index_bound _ _ _ _ (IsByteCount-byte_count (get_or u 0 0)) (IsByteCount-byte_count (get_or u 1 0))
-    (IsByteCount-byte_count (get_or u 2 0)) (IsByteCount-byte_count (get_or u 3 0))
+units_table_index_bound u = grind (arith, IsByteCount-byte_count)
 
 -- The bytes that a row of the table picks are the pieces of the units.
 
@@ -503,11 +418,8 @@ swz_l-below_16 xs i (j ∷ js) l h =
     λ k. own k ∷ swz_l-below_16 xs (suc i) js (omega (arith, l)) h.1 k
 
 source_lanes-packed_unit : (xs : List ℕ) (k b n : ℕ) → get_or xs k 0 ≡ first_byte n → get_or xs (4 + k) 0 ≡ second_byte b n
-    → get_or xs (8 + k) 0 ≡ last_byte n
-    → map (λ j. get_or xs j 0) (source_lanes (byte_count n) k) ≡ packed_unit b n
-source_lanes-packed_unit xs k b n x y z =
-    sym (drop-map (λ j. get_or xs j 0) (3 - byte_count n) (k ∷ (4 + k) ∷ (8 + k) ∷ []))
-    ∙ ap (drop (3 - byte_count n)) (λ i. x i ∷ y i ∷ z i ∷ [])
+    → get_or xs (8 + k) 0 ≡ last_byte n → map (λ j. get_or xs j 0) (source_lanes (byte_count n) k) ≡ packed_unit b n
+source_lanes-packed_unit xs k b n x y z = grind (arith, drop-map)
 
 source_lanes-packed_units : (xs : List ℕ) (v a b c d : ℕ) → take 12 xs ≡ byte_lanes v (a ∷ b ∷ c ∷ d ∷ [])
     → map (λ j. get_or xs j 0) (source_lanes (byte_count a) 0 ++ source_lanes (byte_count b) 1 ++ source_lanes
@@ -533,23 +445,19 @@ abbrev four_lanes : List ℕ → List ℕ
 four_lanes u = pick_l 0 u (0 ∷ 1 ∷ 2 ∷ 3 ∷ [])
 
 pub swz_l-packed_units : (xs row : List ℕ) (b : ℕ) (u : List ℕ) → length row ≤ 16 → Each1 (λ j. j < 16) row → length u ≡ 4
-    → take 12 xs ≡ byte_lanes b u
-    → let count = λ (k : ℕ). byte_count (get_or u k 0) in
-    take (count 0 + count 1 + count 2 + count 3) row
-    ≡ source_lanes (count 0) 0 ++ source_lanes (count 1) 1 ++ source_lanes (count 2) 2 ++ source_lanes (count 3) 3
-    → take (count 0 + count 1 + count 2 + count 3) (swz_l w8 16 xs 0 row) ≡ packed_units b u
+    → take 12 xs ≡ byte_lanes b u → let count = λ (k : ℕ). byte_count (get_or u k 0) in
+    take (count 0 + count 1 + count 2 + count 3) row ≡ source_lanes (count 0) 0 ++ source_lanes (count 1) 1 ++ source_lanes (count 2) 2
+    ++ source_lanes (count 3) 3 → take (count 0 + count 1 + count 2 + count 3) (swz_l w8 16 xs 0 row) ≡ packed_units b u
 swz_l-packed_units xs row b u short within long lanes own =
     let n = byte_count (get_or u 0 0) + byte_count (get_or u 1 0) + byte_count (get_or u 2 0) + byte_count (get_or u 3 0) in
     let us : four_lanes u ≡ u = pick_l_whole 0 u 4 long in
     ap (take n) (swz_l-below_16 xs 0 row (omega (arith, short)) within) ∙ take-map (λ j. get_or xs j 0) n row
-    ∙ ap (map (λ j. get_or xs j 0)) own
-    ∙ source_lanes-packed_units xs b (get_or u 0 0) (get_or u 1 0) (get_or u 2 0) (get_or u 3 0) (lanes ∙ ap (byte_lanes b) (sym us))
-    ∙ ap (packed_units b) us
+    ∙ ap (map (λ j. get_or xs j 0)) own ∙ source_lanes-packed_units xs b (get_or u 0 0) (get_or u 1 0) (get_or u 2 0) (get_or u 3 0)
+    (lanes ∙ ap (byte_lanes b) (sym us)) ∙ ap (packed_units b) us
 
 pub packed_units-halves : (u : List ℕ) → length u ≡ 8
     → packed_units 0 (take 4 u) ++ packed_units (get_or u 3 0) (drop 4 u) ≡ packed_units 0 u
-packed_units-halves u long = of_eight
-    (λ u. packed_units 0 (take 4 u) ++ packed_units (get_or u 3 0) (drop 4 u) ≡ packed_units 0 u) u long (simp (append_assoc, append-nil))
+packed_units-halves u long = grind (arith, of_eight, append_assoc, append-nil)
 
 -- the last of eight units is not tagged if it is a lead
 last-tagged : (u : List ℕ) → length u ≡ 8 → IsLead (get_or u 7 0) → IsLead (get_or (tagged_block u) 7 0)

@@ -1,6 +1,6 @@
 -- Blocks of units of any kinds: their tags, and the piece of bytes that each unit contributes.
-use Rattle.wtf8.proofs.Common.{◌≡◌, ℕ, zero, suc, ◌+◌, ◌-◌, ◌*◌, ◌/◌, ◌%◌, ◌<◌, ◌≤◌, List, [], ◌∷◌, ◌++◌, length, take, get_or, refl, sym}
-use Rattle.wtf8.proofs.Common.{ap, ◌∙◌, arith, lt-ltb, le-ltb, subst, cases_lt, inl, inr, true, false, drop, append-nil, append_assoc}
+use Rattle.wtf8.proofs.Common.{◌≡◌, ℕ, zero, suc, ◌+◌, ◌-◌, ◌/◌, ◌%◌, ◌<◌, ◌≤◌, List, [], ◌∷◌, ◌++◌, length, take, get_or, refl, sym}
+use Rattle.wtf8.proofs.Common.{ap, ◌∙◌, arith, lt-ltb, le-ltb, subst, cases_lt, inl, inr, true, drop, append-nil, append_assoc}
 use Rattle.wtf8.proofs.Common.{IsSurrogate, encoding, IsKnownForm, Fits, Each1, Bool, IsTrue, ◌&&◌, MeetsAsPair, DividesNoPair}
 use Rattle.wtf8.proofs.Common.{length-chunk, take_all, w16, take-append-add, length-take-le, take-take, Each1-from_get_or, get_or-drop}
 use Rattle.wtf8.proofs.Common.{length-take, ◌⊎◌, IsUnit, IsLead, IsTrail, pair}
@@ -19,87 +19,28 @@ abbrev pub IsTag : ℕ → ℕ → Type 0
 IsTag x t = (t ≡ x) ⊎ ((t ≡ x + 0x10000) × IsSurrogate x)
 
 pub tagged-scalar : (b x n : ℕ) → ¬ (IsSurrogate x) → tagged b x n ≡ x
-tagged-scalar b x n s = elim (cases_lt x 0xD800) [
-  | inl l ↦ rw (lt-ltb x 0xD800 l) refl
-  | inr g ↦ elim (cases_lt x 0xE000) [
-    | inl l ↦ absurd (s (g, omega (arith, l)))
-    | inr h ↦ rw (le-ltb x 0xD800 g, le-ltb x 0xDC00 (omega (arith, h)), le-ltb x 0xE000 h) refl
-  ]
-]
+tagged-scalar b x n s = grind (arith, cases_lt, lt-ltb, le-ltb)
 
 pub tagged-lead_before_trail : (b x n : ℕ) → IsLead x → IsTrail n → tagged b x n ≡ x
-tagged-lead_before_trail b x n l t =
-    rw (le-ltb x 0xD800 l.0, lt-ltb x 0xDC00 (omega (arith, l.1)), le-ltb n 0xDC00 t.0, lt-ltb n 0xE000 (omega (arith, t.1))) refl
+tagged-lead_before_trail b x n l t = grind (arith, le-ltb, lt-ltb)
 
 tagged-lone_lead : (b x n : ℕ) → IsLead x → ¬ (IsTrail n) → tagged b x n ≡ x + 0x10000
-tagged-lone_lead b x n l t = elim (cases_lt n 0xDC00) [
-  | inl k ↦ rw (le-ltb x 0xD800 l.0, lt-ltb x 0xDC00 (omega (arith, l.1)), lt-ltb n 0xDC00 k) refl
-  | inr g ↦ elim (cases_lt n 0xE000) [
-    | inl k ↦ absurd (t (g, omega (arith, k)))
-    | inr h ↦ rw (le-ltb x 0xD800 l.0, lt-ltb x 0xDC00 (omega (arith, l.1)), le-ltb n 0xDC00 g, le-ltb n 0xE000 h) refl
-  ]
-]
+tagged-lone_lead b x n l t = grind (arith, cases_lt, le-ltb, lt-ltb)
 
 tagged-trail_after_lead : (b x n : ℕ) → IsTrail x → IsLead b → tagged b x n ≡ x
-tagged-trail_after_lead b x n t l =
-    rw (
-      le-ltb x 0xD800 (omega (arith, t.0)),
-      le-ltb x 0xDC00 t.0,
-      lt-ltb x 0xE000 (omega (arith, t.1)),
-      le-ltb b 0xD800 l.0,
-      lt-ltb b 0xDC00 (omega (arith, l.1)),
-    ) refl
+tagged-trail_after_lead b x n t l = grind (arith, le-ltb, lt-ltb)
 
 tagged-lone_trail : (b x n : ℕ) → IsTrail x → ¬ (IsLead b) → tagged b x n ≡ x + 0x10000
-tagged-lone_trail b x n t l = elim (cases_lt b 0xD800) [
-  | inl k ↦ rw (le-ltb x 0xD800 (omega (arith, t.0)), le-ltb x 0xDC00 t.0, lt-ltb x 0xE000 (omega (arith, t.1)), lt-ltb b 0xD800 k) refl
-  | inr g ↦ elim (cases_lt b 0xDC00) [
-    | inl k ↦ absurd (l (g, omega (arith, k)))
-    | inr h ↦ rw (
-      le-ltb x 0xD800 (omega (arith, t.0)),
-      le-ltb x 0xDC00 t.0,
-      lt-ltb x 0xE000 (omega (arith, t.1)),
-      le-ltb b 0xD800 g,
-      le-ltb b 0xDC00 h,
-    ) refl
-  ]
-]
+tagged-lone_trail b x n t l = grind (arith, cases_lt, le-ltb, lt-ltb)
 
 scalar_lead_or_trail : (x : ℕ) → (¬ (IsSurrogate x)) ⊎ (IsLead x ⊎ IsTrail x)
-scalar_lead_or_trail x = elim (cases_lt x 0xD800) [
-  | inl l ↦ inl (λ s. omega (arith, l, s.0))
-  | inr g ↦ elim (cases_lt x 0xE000) [
-    | inl l ↦ inr (elim (cases_lt x 0xDC00) [ inl h ↦ inl (g, omega (arith, h)) | inr h ↦ inr (h, omega (arith, l)) ])
-    | inr h ↦ inl (λ s. omega (arith, h, s.1))
-  ]
-]
+scalar_lead_or_trail x = grind (arith, cases_lt)
 
 trail_or_not : (x : ℕ) → IsTrail x ⊎ (¬ (IsTrail x))
-trail_or_not x = elim (cases_lt x 0xDC00) [
-  | inl l ↦ inr (λ t. omega (arith, l, t.0))
-  | inr g ↦ elim (cases_lt x 0xE000) [ inl l ↦ inl (g, omega (arith, l)) | inr h ↦ inr (λ t. omega (arith, h, t.1)) ]
-]
-
-lead_or_not : (x : ℕ) → IsLead x ⊎ (¬ (IsLead x))
-lead_or_not x = elim (cases_lt x 0xD800) [
-  | inl l ↦ inr (λ t. omega (arith, l, t.0))
-  | inr g ↦ elim (cases_lt x 0xDC00) [ inl l ↦ inl (g, omega (arith, l)) | inr h ↦ inr (λ t. omega (arith, h, t.1)) ]
-]
+trail_or_not x = grind (arith, cases_lt)
 
 pub IsTag-tagged : (b x n : ℕ) → IsTag x (tagged b x n)
-IsTag-tagged b x n = elim (scalar_lead_or_trail x) [
-  | inl o ↦ inl (tagged-scalar b x n o)
-  | inr s ↦ elim s [
-    | inl l ↦ elim (trail_or_not n) [
-      | inl t ↦ inl (tagged-lead_before_trail b x n l t)
-      | inr t ↦ inr (tagged-lone_lead b x n l t, (l.0, omega (arith, l.1)))
-    ]
-    | inr t ↦ elim (lead_or_not b) [
-      | inl l ↦ inl (tagged-trail_after_lead b x n t l)
-      | inr l ↦ inr (tagged-lone_trail b x n t l, (omega (arith, t.0), t.1))
-    ]
-  ]
-]
+IsTag-tagged b x n = grind (arith, cases_lt, le-ltb, lt-ltb)
 
 -- the first units, each tagged
 take-tagged_units : (k b : ℕ) (u : List ℕ) (a : ℕ) → take k (tagged_units b u a) ≡ tagged_units b (take k u) (get_or u k a)
@@ -111,66 +52,16 @@ take-tagged_units (suc (suc k)) b (x ∷ y ∷ u) a = ap (λ t. tagged b x y ∷
 
 -- The piece of a unit, by its range.
 
-pub packed_unit-one_byte : (b x : ℕ) → x < 0x80 → packed_unit b x ≡ x ∷ []
-packed_unit-one_byte b x h = rw (lt-ltb x 0x80 h, lt-ltb x 0x800 (omega (arith, h)), lt-ltb x 0xD800 (omega (arith, h))) refl
-
-pub packed_unit-two_bytes : (b x : ℕ) → 0x80 ≤ x → x < 0x800 → packed_unit b x ≡ (0xC0 + x / 64) ∷ (0x80 + x % 64) ∷ []
-packed_unit-two_bytes b x l h =
-    let few : x / 64 % 64 ≡ x / 64 = omega (arith, h) in
-    rw (le-ltb x 0x80 l, lt-ltb x 0x800 h, lt-ltb x 0xD800 (omega (arith, h)), few) refl
-
-pub packed_unit-below_leads : (b x : ℕ) → 0x800 ≤ x → x < 0xD800 → packed_unit b x ≡ third_row x
-packed_unit-below_leads b x l h =
-    let few : x / 4096 % 16 ≡ x / 4096 = omega (arith, h) in
-    rw (le-ltb x 0x80 (omega (arith, l)), le-ltb x 0x800 l, lt-ltb x 0xD800 h, few) refl
-
 pub packed_unit-lead : (b x : ℕ) → IsLead x → packed_unit b x ≡ (0xF0 + (x - 0xD7C0) / 256) ∷ (0x80 + (x - 0xD7C0) / 4 % 64) ∷ []
-packed_unit-lead b x l =
-    rw (
-      le-ltb x 0x80 (omega (arith, l.0)),
-      le-ltb x 0x800 (omega (arith, l.0)),
-      le-ltb x 0xD800 l.0,
-      lt-ltb x 0xE000 (omega (arith, l.1)),
-      lt-ltb x 0xDC00 (omega (arith, l.1)),
-    ) refl
-
-pub packed_unit-trail : (b x : ℕ) → IsTrail x → packed_unit b x ≡ (0x80 + b % 4 * 16 + x / 64 % 16) ∷ (0x80 + x % 64) ∷ []
-packed_unit-trail b x l =
-    rw (
-      le-ltb x 0x80 (omega (arith, l.0)),
-      le-ltb x 0x800 (omega (arith, l.0)),
-      le-ltb x 0xD800 (omega (arith, l.0)),
-      lt-ltb x 0xE000 (omega (arith, l.1)),
-      le-ltb x 0xDC00 l.0,
-    ) refl
-
-packed_unit-above : (b x : ℕ) → 0xE000 ≤ x → packed_unit b x ≡ (0xE0 + x / 4096 % 16) ∷ (0x80 + x / 64 % 64) ∷ (0x80 + x % 64) ∷ []
-packed_unit-above b x l = rw (
-  le-ltb x 0x80 (omega (arith, l)),
-  le-ltb x 0x800 (omega (arith, l)),
-  le-ltb x 0xD800 (omega (arith, l)),
-  le-ltb x 0xE000 l,
-  le-ltb x 0xDC00 (omega (arith, l)),
-) refl
-
-packed_unit-above_trails : (b x : ℕ) → 0xE000 ≤ x → x < 0x10000 → packed_unit b x ≡ third_row x
-packed_unit-above_trails b x l h =
-    let few : 0xE0 + x / 4096 % 16 ≡ 0xE0 + x / 4096 = omega (arith, h) in
-    packed_unit-above b x l ∙ (λ i. few i ∷ (0x80 + x / 64 % 64) ∷ (0x80 + x % 64) ∷ [])
+packed_unit-lead b x l = grind (arith, le-ltb, lt-ltb)
 
 -- a lone surrogate takes the three bytes of its own value
 packed_unit-lone : (b x : ℕ) → IsSurrogate x → packed_unit b (x + 0x10000) ≡ third_row x
-packed_unit-lone b x s =
-    let first : 0xE0 + (x + 0x10000) / 4096 % 16 ≡ 0xE0 + x / 4096 = omega (arith, s) in
-    let second : 0x80 + (x + 0x10000) / 64 % 64 ≡ 0x80 + x / 64 % 64 = omega arith in
-    let third : 0x80 + (x + 0x10000) % 64 ≡ 0x80 + x % 64 = omega arith in
-    packed_unit-above b (x + 0x10000) (omega (arith, s)) ∙ (λ i. first i ∷ second i ∷ third i ∷ [])
+packed_unit-lone b x s = grind (arith, le-ltb)
 
 -- a tag on the unit before changes no byte
 packed_unit-after_tag : (b d n : ℕ) → IsTag b d → packed_unit d n ≡ packed_unit b n
-packed_unit-after_tag b d n k =
-    let same : d % 4 ≡ b % 4 = elim k [ inl e ↦ omega (arith, e) | inr e ↦ omega (arith, e.0) ] in
-    rw same refl
+packed_unit-after_tag b d n k = grind (arith)
 
 packed_units-after_tag : (b d : ℕ) (u : List ℕ) → IsTag b d → packed_units d u ≡ packed_units b u
 packed_units-after_tag b d [] k = refl
@@ -179,28 +70,13 @@ packed_units-after_tag b d (n ∷ u) k = ap (λ w. w ++ packed_units n u) (packe
 -- a row written at index `n` of a block, of which the first `l` bytes count
 pub take-written_block : (block row rest : List ℕ) (n l : ℕ) → n ≤ length block → l ≤ length row
     → take (n + l) (take n block ++ (row ++ rest)) ≡ take n block ++ take l row
-take-written_block block row rest n l bound h =
-    let front : length (take n block) ≡ n = length-take-le n block bound in
-    ap (λ k. take (k + l) (take n block ++ (row ++ rest))) (sym front) ∙ take-append-add (take n block) (row ++ rest) l
-    ∙ ap (λ v. take n block ++ v) (take-append-le l row rest h)
+take-written_block block row rest n l bound h = grind (arith, length-take-le, take-append-add, take-append-le)
 
 -- The pieces of tagged units are the encodings of the code points that the units are read as.
 
 -- the piece of a unit that is no surrogate is its encoding
 encoding-packed_unit : (b x : ℕ) → x < 0x10000 → ¬ (IsSurrogate x) → encoding x ≡ packed_unit b x
-encoding-packed_unit b x h n = elim (cases_lt x 0x80) [
-  | inl l ↦ encoding_one x l ∙ sym (packed_unit-one_byte b x l)
-  | inr k ↦ elim (cases_lt x 0x800) [
-    | inl l ↦ encoding_two x k l ∙ sym (packed_unit-two_bytes b x k l)
-    | inr m ↦ elim (cases_lt x 0xD800) [
-      | inl l ↦ encoding_three x m h ∙ sym (packed_unit-below_leads b x m l)
-      | inr r ↦ elim (cases_lt x 0xE000) [
-        | inl l ↦ absurd (n (r, omega (arith, l)))
-        | inr l ↦ encoding_three x m h ∙ sym (packed_unit-above_trails b x l h)
-      ]
-    ]
-  ]
-]
+encoding-packed_unit b x h n = grind (arith, cases_lt, encoding_one, encoding_two, encoding_three, lt-ltb, le-ltb)
 
 packed_unit-form : (b x : ℕ) → x < 0x10000 → ¬ (IsSurrogate x) → IsKnownForm (packed_unit b x) (x ∷ []) true
 packed_unit-form b x h n = record {
@@ -214,13 +90,7 @@ packed_unit-form b x h n = record {
 
 -- the pieces of a lead and its trail are the encoding of the pair
 encoding-packed_pair : (b l t : ℕ) → IsLead l → IsTrail t → encoding (pair l t) ≡ packed_unit b l ++ packed_unit l t
-encoding-packed_pair b l t k m =
-    let first : 0xF0 + pair l t / 262144 ≡ 0xF0 + (l - 0xD7C0) / 256 = omega (arith, k, m) in
-    let second : 0x80 + pair l t / 4096 % 64 ≡ 0x80 + (l - 0xD7C0) / 4 % 64 = omega (arith, k, m) in
-    let third : 0x80 + pair l t / 64 % 64 ≡ 0x80 + l % 4 * 16 + t / 64 % 16 = omega (arith, k, m) in
-    let fourth : 0x80 + pair l t % 64 ≡ 0x80 + t % 64 = omega (arith, k, m) in
-    encoding_four (pair l t) (omega (arith, k, m)) ∙ (λ i. first i ∷ second i ∷ third i ∷ fourth i ∷ [])
-    ∙ sym (λ i. packed_unit-lead b l k i ++ packed_unit-trail l t m i)
+encoding-packed_pair b l t k m = grind (arith, encoding_four, le-ltb, lt-ltb)
 
 packed_pair-form : (b l t : ℕ) → IsLead l → IsTrail t → IsKnownForm (packed_unit b l ++ packed_unit l t) (l ∷ t ∷ []) true
 packed_pair-form b l t k m = record {
@@ -245,17 +115,15 @@ lone_unit-form b x known s n = record {
 
 scalar_first : (b x n : ℕ) (t : List ℕ) {u : List ℕ} {known : Bool} → x < 0x10000 → ¬ (IsSurrogate x)
     → IsKnownForm (packed_units x t) u known → IsKnownForm (packed_units b (tagged b x n ∷ t)) (x ∷ u) known
-scalar_first b x n t {u} {known} h s more =
-    subst (λ y. IsKnownForm (packed_units b (y ∷ t)) (x ∷ u) known) (sym (tagged-scalar b x n s))
+scalar_first b x n t {u} {known} h s more = subst (λ y. IsKnownForm (packed_units b (y ∷ t)) (x ∷ u) known) (sym (tagged-scalar b x n s))
     (IsKnownForm-append (packed_unit b x) (packed_units x t) (x ∷ []) u true known known (packed_unit-form b x h s) more
     (unpaired-after_no_lead [] x (λ l. s (l.0, omega (arith, l.1)))) (λ k. (refl, k)))
 
 lone_first : (b x y : ℕ) (t : List ℕ) {u : List ℕ} {known : Bool} → y ≡ x + 0x10000 → IsSurrogate x → ¬ (IsTrue known)
     → ¬ (MeetsAsPair (x ∷ []) u) → IsKnownForm (packed_units x t) u known → IsKnownForm (packed_units b (y ∷ t)) (x ∷ u) known
 lone_first b x y t {u} {known} e s none unpaired more =
-    subst (λ y. IsKnownForm (packed_units b (y ∷ t)) (x ∷ u) known) (sym e)
-    (IsKnownForm-append (packed_unit b (x + 0x10000)) (packed_units (x + 0x10000) t) (x ∷ []) u known known known
-    (lone_unit-form b x known s none)
+    subst (λ y. IsKnownForm (packed_units b (y ∷ t)) (x ∷ u) known) (sym e) (IsKnownForm-append (packed_unit b (x + 0x10000))
+    (packed_units (x + 0x10000) t) (x ∷ []) u known known known (lone_unit-form b x known s none)
     (subst (λ w. IsKnownForm w u known) (sym (packed_units-after_tag x (x + 0x10000) t (inr (refl, s)))) more) unpaired (λ k. (k, k)))
 
 -- a tag is no unit
@@ -286,10 +154,9 @@ packed_units-form b (x ∷ y ∷ u) a known f first last units = elim (scalar_le
   | inr s ↦ elim s [
     | inl l ↦ elim (trail_or_not y) [
       | inl t ↦
-          let z = tagged x y (get_or u 0 a) in
           let not_lead : ¬ (IsLead y) = λ k. omega (arith, k.1, t.0) in
           let rest = packed_units-form y u a known f.1.1 (λ k. not_lead k.0) last (λ k. (units k).1.1) in
-          subst (λ w. IsKnownForm (packed_units b (w ∷ z ∷ tagged_units y u a)) (x ∷ y ∷ u) known)
+          subst (λ w. IsKnownForm (packed_units b (w ∷ (tagged x y (get_or u 0 a)) ∷ tagged_units y u a)) (x ∷ y ∷ u) known)
           (sym (tagged-lead_before_trail b x y l t))
           (subst (λ w. IsKnownForm (packed_units b (x ∷ w ∷ tagged_units y u a)) (x ∷ y ∷ u) known)
           (sym (tagged-trail_after_lead x y (get_or u 0 a) t l))
@@ -299,16 +166,14 @@ packed_units-form b (x ∷ y ∷ u) a known f first last units = elim (scalar_le
           (packed_pair-form b x y l t) rest (unpaired-after_no_lead (x ∷ []) y not_lead) (λ k. (refl, k)))))
       | inr t ↦
           let lone = tagged-lone_lead b x y l t in
-          lone_first b x (tagged b x y) (tagged_units x (y ∷ u) a) lone (l.0, omega (arith, l.1))
-          (λ k. not_unit x (tagged b x y) lone (units k).0) (unpaired-before_no_trail y u t)
-          (packed_units-form x (y ∷ u) a known f.1 (λ k. t k.1) last (λ k. (units k).1))
+          lone_first b x (tagged b x y) (tagged_units x (y ∷ u) a) lone (l.0, omega (arith, l.1)) (λ k. not_unit x (tagged b x y) lone
+          (units k).0) (unpaired-before_no_trail y u t) (packed_units-form x (y ∷ u) a known f.1 (λ k. t k.1) last (λ k. (units k).1))
     ]
     | inr t ↦
         let lone = tagged-lone_trail b x y t (λ l. first (l, t)) in
         let not_lead : ¬ (IsLead x) = λ k. omega (arith, k.1, t.0) in
-        lone_first b x (tagged b x y) (tagged_units x (y ∷ u) a) lone (omega (arith, t.0), t.1)
-        (λ k. not_unit x (tagged b x y) lone (units k).0) (unpaired-after_no_lead [] x not_lead)
-        (packed_units-form x (y ∷ u) a known f.1 (λ k. not_lead k.0) last (λ k. (units k).1))
+        lone_first b x (tagged b x y) (tagged_units x (y ∷ u) a) lone (omega (arith, t.0), t.1) (λ k. not_unit x (tagged b x y) lone (units
+        k).0) (unpaired-after_no_lead [] x not_lead) (packed_units-form x (y ∷ u) a known f.1 (λ k. not_lead k.0) last (λ k. (units k).1))
   ]
 ]
 
@@ -340,8 +205,7 @@ block_read w kept {u = u} {at = at} {known = known} {more = more} k x few within
     (subst (λ v. IsKnownForm (packed_units 0 (tagged_units 0 own after)) v more) same form)
 
 pub and_assoc : (a b c : Bool) → ((a && b) && c) ≡ (a && (b && c))
-and_assoc true b c = refl
-and_assoc false b c = refl
+and_assoc a b c = grind (arith)
 
 -- eight units of which the last is no lead, or the seven before a lead, are encoded by appending their pieces
 pub packed_units-read : (w kept : List ℕ) {bytes u : List ℕ} {at : ℕ} {known more : Bool} (k : ℕ) → IsReadTo (w ++ kept) u at known
@@ -358,17 +222,12 @@ packed_units-read w kept {bytes} {u} {at} {known} {more} k x within fits taken u
           let no_lead : ¬ (IsLead (get_or u (at + 7) 0)) = subst (λ n. ¬ (IsLead n)) here t.1 in
           let end : suc (at + 7) ≡ at + k = omega (arith, t.0) in
           let all : take k eight ≡ eight = ap (λ k. take k eight) (t.0 ∙ sym whole) ∙ take_all (length eight) eight (omega arith) in
-          let last : ¬ (IsLead (get_or (0 ∷ take k eight) (length (take k eight)) 0)) = subst (λ v.
-          ¬ (IsLead (get_or (0 ∷ v) (length v) 0))) (sym all) (subst (λ n. ¬ (IsLead (get_or (0 ∷ eight) n 0))) (sym whole) t.1) in
+          let last : ¬ (IsLead (get_or (0 ∷ take k eight) (length (take k eight)) 0)) = grind (arith) in
           block_read w kept k x (omega (arith, t.0)) within fits units
           (subst (DividesNoPair u) end (DividesNoPair-after_no_lead u (at + 7) (omega (arith, within)) no_lead)) (λ l. last l.0) e
       | inr t ↦
-          let lead : IsLead (get_or u (at + 7) 0) = subst IsLead here t.1 in
-          let back : drop (at + k) u ≡ get_or u (at + 7) 0 ∷ drop (at + 7 + 1) u =
-          ap (λ k. drop (at + k) u) t.0 ∙ drop_more u (at + 7) 0 (omega (arith, within)) in
-          let divides : DividesNoPair u (at + k) = subst (λ d. ¬ (MeetsAsPair (take (at + k) u) d)) (sym back)
-          (unpaired-before_no_trail (get_or u (at + 7) 0) (drop (at + 7 + 1) u) (λ l. omega (arith, l.0, lead.1))) in
-          let next : get_or eight k 0xDC00 ≡ get_or eight 7 0 =
-          ap (λ k. get_or eight k 0xDC00) t.0 ∙ get_or_default_zero eight 7 0xDC00 (omega (arith, whole)) in
+          let back : drop (at + k) u ≡ get_or u (at + 7) 0 ∷ drop (at + 7 + 1) u = grind (arith, drop_more) in
+          let divides : DividesNoPair u (at + k) = grind (arith, unpaired-before_no_trail) in
+          let next : get_or eight k 0xDC00 ≡ get_or eight 7 0 = grind (arith, get_or_default_zero) in
           block_read w kept k x (omega (arith, t.0)) within fits units divides (λ l. omega (arith, next, l.1.0, t.1.1)) e
     ]

@@ -1,6 +1,6 @@
 -- The shuffle table, checked row by row: the lanes that a row picks, and the number of bytes.
 use Rattle.wtf8.proofs.Common.{◌≡◌, ℕ, ◌+◌, ◌<◌, ◌&&◌, List, [], ◌∷◌, ◌++◌, take, get_or, Each1, eqb, Bool, true, refl, sym, ap, ◌∙◌, arith}
-use Rattle.wtf8.proofs.Common.{subst, cases_lt, inl, inr, and_parts, eqb-true, nat_eq, pointwise}
+use Rattle.wtf8.proofs.Common.{cases_lt, and_parts, eqb-true, nat_eq, pointwise}
 use Rattle.std.proofs.lemmas.Bool.{ltb-true}
 use Rattle.std.proofs.lemmas.List.Recursion.{and_at}
 use Rattle.std.specs.Cmp.Lexicographic.{same_text}
@@ -14,13 +14,7 @@ abbrev each_length : (ℕ → Bool) → Bool
 each_length p = p 1 && (p 2 && p 3)
 
 of_length : (p : ℕ → Bool) (a : ℕ) → IsByteCount a → each_length p ≡ true → p a ≡ true
-of_length p a l e = elim (cases_lt a 2) [
-  | inl h ↦ let one : 1 ≡ a = omega (arith, l.0, h) in subst (λ k. p k ≡ true) one (and_parts _ _ e).0
-  | inr g ↦ elim (cases_lt a 3) [
-    | inl h ↦ let two : 2 ≡ a = omega (arith, g, h) in subst (λ k. p k ≡ true) two (and_parts _ _ (and_parts _ _ e).1).0
-    | inr h ↦ let three : 3 ≡ a = omega (arith, l.1, h) in subst (λ k. p k ≡ true) three (and_parts _ _ (and_parts _ _ e).1).1
-  ]
-]
+of_length p a l e = grind (arith, cases_lt, and_parts)
 
 abbrev each_four : (ℕ → ℕ → ℕ → ℕ → Bool) → Bool
 each_four p = each_length (λ a. each_length (λ b. each_length (λ c. each_length (p a b c))))

@@ -1,7 +1,7 @@
 -- Blocks of units: their masks, their form, and the string after they are appended.
 use Rattle.wtf8.proofs.Common.{◌≡◌, ℕ, zero, suc, ◌-◌, ◌%◌, ◌^◌, ◌<◌, ◌≤◌, eqb, Bool, true, false, cond, ◌&&◌, List, [], ◌∷◌, map, length}
 use Rattle.wtf8.proofs.Common.{replicate, Fits, refl, sym, ap, ◌∙◌, arith, inl, inr, and_parts, cases_Bool, Each1, zip2, mask_l, top}
-use Rattle.wtf8.proofs.Common.{AreAscii, IsSurrogate, ◌+◌, ◌/◌, ◌++◌, IsTrue, take, drop, get_or, subst, take-append-drop}
+use Rattle.wtf8.proofs.Common.{AreAscii, IsSurrogate, ◌+◌, ◌/◌, ◌++◌, IsTrue, take, drop, get_or, subst, take-append-drop, common_steps}
 use Rattle.wtf8.proofs.Common.{length-chunk, MeetsAsPair, IsKnownForm, DividesNoPair, w16, get_or-drop, length-take, take-add}
 use Rattle.wtf8.proofs.Common.{take-append-add, min, length-map, take-take, zip2_splat, IsLead}
 use Rattle.std.proofs.Math.Bool.{and-true}
@@ -32,9 +32,8 @@ pub none_surrogate : (xs : List ℕ) → length xs ≡ 8 → Each1 (Fits w16) xs
 none_surrogate xs l f e =
     let kinds = bitmask_splat w16 eqb (map (λ x. x / 2048) xs) 8 27 (length-map xs (λ x. x / 2048) ∙ l) (omega arith)
     ∙ ap mask_l (map-map (λ x. eqb x 27) (λ x. x / 2048) xs) in
-    each_unset (λ x. eqb (x / 2048) 27) (Fits w16) (λ n. (n < 0x10000) × ¬ (IsSurrogate n)) own xs f
-    (sym kinds ∙ ap (λ v. mask_l (map (top 15) (zip2 (λ a b. cond (eqb a b) 0xFFFF 0) v (replicate 8 27))) % 2 ^ 64)
-    (sym (zip2_splat (λ a b. a / b) xs 8 2048 l)) ∙ e)
+    each_unset (λ x. eqb (x / 2048) 27) (Fits w16) (λ n. (n < 0x10000) × ¬ (IsSurrogate n)) own xs f (sym kinds ∙ ap (λ v. mask_l
+    (map (top 15) (zip2 (λ a b. cond (eqb a b) 0xFFFF 0) v (replicate 8 27))) % 2 ^ 64) (sym (zip2_splat (λ a b. a / b) xs 8 2048 l)) ∙ e)
   where
     own : (x : ℕ) → Fits w16 x → eqb (x / 2048) 27 ≡ false → (x < 0x10000) × ¬ (IsSurrogate x)
     own x f u = (f.fits, λ s. eqb-false (x / 2048) 27 u (omega (arith, s.0, s.1)))
@@ -47,14 +46,11 @@ IsKnownForm-nil known e =
 
 -- no pair is divided after a unit that is no lead
 pub DividesNoPair-after_no_lead : (u : List ℕ) (j : ℕ) → j < length u → ¬ (IsLead (get_or u j 0)) → DividesNoPair u (suc j)
-DividesNoPair-after_no_lead u j within n =
-    subst (λ w. ¬ (MeetsAsPair w (drop (suc j) u))) (sym (take-suc u j 0 within)) (unpaired-after_no_lead (take j u) (get_or u j 0) n)
+DividesNoPair-after_no_lead u j within n = grind (arith, common_steps, take-suc, unpaired-after_no_lead)
 
 -- a pair at the seam with the first `n` units of `b` is a pair at the seam with `b`
 MeetsAsPair-take : (a b : List ℕ) (n : ℕ) → MeetsAsPair a (take n b) → MeetsAsPair a b
-MeetsAsPair-take a b n m =
-    meets_by m.front
-    (m.rest ++ drop n b) m.lead m.trail m.is_lead m.is_trail m.ends (sym (take-append-drop n b) ∙ ap (λ c. c ++ drop n b) m.begins)
+MeetsAsPair-take a b n m = grind (arith, common_steps, meets_by, take-append-drop)
 
 -- the form of a part appended to the form of the units before it, without a pair at the seam
 pub IsKnownForm-append : (w v a b : List ℕ) (known more both : Bool) → IsKnownForm w a known → IsKnownForm v b more → ¬ (MeetsAsPair a b)
@@ -66,19 +62,17 @@ IsKnownForm-append w v a b known more both x y n flags = record {
 
 -- the units up to `end` are encoded after the form of the units from `at` to `end` was appended
 pub IsReadTo-append : {w new u part : List ℕ} {at end : ℕ} {known more : Bool} → IsReadTo w u at known → at ≤ end → end ≤ length u
-    → DividesNoPair u end
-    → new ≡ w ++ part → IsKnownForm part (take (end - at) (drop at u)) more → IsReadTo new u end (known && more)
+    → DividesNoPair u end → new ≡ w ++ part → IsKnownForm part (take (end - at) (drop at u)) more → IsReadTo new u end (known && more)
 IsReadTo-append {w} {new} {u} {part} {at} {end} {known} {more} x order within divides_no_pair after form =
     let back = take (end - at) (drop at u) in
     let count : end ≡ at + (end - at) = omega (arith, order) in
-    let both : take end u ≡ take at u ++ back = ap (λ k. take k u) count ∙ take-add at (end - at) u in
     let whole = IsKnownForm-append w part (take at u) back known more
     (known && more) x.form form (λ m. x.divides_no_pair (MeetsAsPair-take (take at u) (drop at u) (end - at) m)) (and_parts known more) in
     record {
       within = within;
       divides_no_pair = divides_no_pair;
       form = subst (λ z. IsKnownForm z (take end u) (known && more)) (sym after)
-          (subst (λ z. IsKnownForm (w ++ part) z (known && more)) (sym both) whole);
+          (subst (λ z. IsKnownForm (w ++ part) z (known && more)) (sym (ap (λ k. take k u) count ∙ take-add at (end - at) u)) whole);
     }
 
 -- the first `k` of `n` units, with no lone surrogate and no lead at their end, are encoded after their form was appended
@@ -86,12 +80,9 @@ scalars_read : {w new u part : List ℕ} {at : ℕ} {known : Bool} (k n : ℕ) �
     → ((j : ℕ) → j + 1 ≡ k → ¬ (IsLead (get_or (take n (drop at u)) j 0))) → new ≡ w ++ part
     → IsKnownForm part (take k (take n (drop at u))) true → IsReadTo new u (at + k) known
 scalars_read {w} {new} {u} {part} {at} {known} k n x few within last after form =
-    let count : k ≡ at + k - at = omega arith in
-    let same : take k (take n (drop at u)) ≡ take (at + k - at) (drop at u) =
-    take-take k n (drop at u) few ∙ ap (λ k. take k (drop at u)) count in
-    subst (IsReadTo new u (at + k)) (and-true known)
-    (IsReadTo-append x (omega arith) (omega (arith, few, within)) (divides_no_pair k few last) after
-    (subst (λ v. IsKnownForm part v true) same form))
+    let same : take k (take n (drop at u)) ≡ take (at + k - at) (drop at u) = grind (arith, take-take) in
+    subst (IsReadTo new u (at + k)) (and-true known) (IsReadTo-append x (omega arith) (omega (arith, few, within))
+    (divides_no_pair k few last) after (subst (λ v. IsKnownForm part v true) same form))
   where
     divides_no_pair : (k : ℕ) → k ≤ n → ((j : ℕ) → j + 1 ≡ k → ¬ (IsLead (get_or (take n (drop at u)) j 0))) → DividesNoPair u (at + k)
     divides_no_pair zero few h = let here : at ≡ at + 0 = omega arith in subst (DividesNoPair u) here x.divides_no_pair

@@ -39,15 +39,7 @@ module _ (bits n : ℕ) (lanes : List Bool) (few : n ≤ 64) (long : length lane
 
 -- equivalent properties have the same first lane
 pub IsFirstIn-iff : (P Q : ℕ → Type 0) (n : ℕ) → ((k : ℕ) → k < n → P k ↔ Q k) → (r : Option ℕ) → IsFirstIn P 0 n r → IsFirstIn Q 0 n r
-IsFirstIn-iff P Q n equivalent None none = λ j low high q. none j low high ((equivalent j high).1 q)
-IsFirstIn-iff P Q n equivalent (Some k) h = (
-  record {
-    not_before = h.0.not_before;
-    here = (equivalent k h.1).0 h.0.here;
-    none_between = λ j low l q. h.0.none_between j low l ((equivalent j (omega (arith, l, h.1))).1 q);
-  },
-  h.1,
-)
+IsFirstIn-iff P Q n equivalent r none = grind (arith)
 
 -- if lane `k` has `Q` exactly if position `i + k` has `P`, the first lane with `Q` gives the first position with `P`
 pub first_at_offset : (P Q : ℕ → Type 0) (i n : ℕ) → ((k : ℕ) → k < n → Q k ↔ P (i + k)) → (r : Option ℕ) → IsFirstIn Q 0 n r

@@ -11,10 +11,7 @@ abbrev is_unequal : ℕ → ℕ → Bool
 is_unequal x y = not (eqb x y)
 
 is_unequal_iff : (x y : ℕ) → IsTrue (is_unequal x y) ↔ (x ≢ y)
-is_unequal_iff x y = (
-  λ t e. both_ways _ (not-true _ t) (eq-eqb x y e),
-  λ d. elim (cases_Bool (eqb x y)) [ inl t ↦ absurd (d (eqb-true x y t)) | inr f ↦ rw f refl ],
-)
+is_unequal_iff x y = grind (arith, both_ways, not-true, eq-eqb, cases_Bool, eqb, eqb-true)
 
 -- the mask of the lanes in which the blocks at `i` differ, and the indexes of the mismatches
 module _ (n : ℕ) (w v : List ℕ) (i : ℕ) (few : n ≤ 64) (own : i + n ≤ length w) (others : i + n ≤ length v) where

@@ -1,5 +1,5 @@
 -- Lanes that show where a surrogate begins.
-use Rattle.wtf8.proofs.Common.{◌≡◌, ◌↔◌, ℕ, zero, suc, ◌+◌, ◌%◌, ◌^◌, ◌<◌, eqb, leb, Bool, true, false, IsTrue, cond, List, [], ◌∷◌, map}
+use Rattle.wtf8.proofs.Common.{◌≡◌, ◌↔◌, ℕ, zero, suc, ◌+◌, ◌%◌, ◌^◌, ◌<◌, eqb, leb, Bool, false, IsTrue, cond, List, [], ◌∷◌, map}
 use Rattle.wtf8.proofs.Common.{length, get_or, replicate, sym, ap, ◌∙◌, arith, le-leb, eq-eqb, eqb-true, length-zip2, get_or-chunk, chunk}
 use Rattle.wtf8.proofs.Common.{zip2, mask_l, top, SurrogateAt, refl, Option, get_or-zip2, ◌&&◌, bit_and, subst, and_parts, and_from}
 use Rattle.wtf8.proofs.Common.{leb-true, MatchOption, IsFirstIn, IsFirstSet, IsLeast, IsSet, NoneIn, ◌≤◌, length-chunk, slice_index}
@@ -24,10 +24,7 @@ abbrev begins_surrogate : ℕ → ℕ → Bool
 begins_surrogate x y = eqb x 0xED && leb 0xA0 y
 
 top-bit_and : (a b : Bool) → top 7 (bit_and (lane_of_bool a) (lane_of_bool b)) ≡ a && b
-top-bit_and true true = refl
-top-bit_and true false = refl
-top-bit_and false true = refl
-top-bit_and false false = refl
+top-bit_and a b = grind (arith)
 
 map_top-surrogate_lanes : (n : ℕ) (xs ys : List ℕ) → length xs ≡ n → length ys ≡ n
     → map (top 7) (surrogate_lanes n xs ys) ≡ zip2 begins_surrogate xs ys
@@ -39,10 +36,8 @@ map_top-surrogate_lanes (suc n) (x ∷ xs) (y ∷ ys) p q =
 
 -- the first set bit of the mask is the first lane in which a surrogate begins
 first_begins : (xs ys : List ℕ) → length xs ≡ 32 → length ys ≡ 32 → (r : Option ℕ)
-    → IsFirstSet (mask_l (map (top 7) (surrogate_lanes 32 xs ys)) % 2 ^ 64) r
-    → IsFirstIn (SurrogateInLane xs ys) 0 32 r
-first_begins xs ys p q r first =
-    IsFirstIn-iff (IsSet (zip2 begins_surrogate xs ys)) (SurrogateInLane xs ys) 32 begins r
+    → IsFirstSet (mask_l (map (top 7) (surrogate_lanes 32 xs ys)) % 2 ^ 64) r → IsFirstIn (SurrogateInLane xs ys) 0 32 r
+first_begins xs ys p q r first = IsFirstIn-iff (IsSet (zip2 begins_surrogate xs ys)) (SurrogateInLane xs ys) 32 begins r
     (first 32 (zip2 begins_surrogate xs ys) (omega arith) (length-zip2 begins_surrogate xs ys (p ∙ sym q) ∙ p)
     (ap (λ ms. mask_l ms % 2 ^ 64) (map_top-surrogate_lanes 32 xs ys p q)))
   where
@@ -57,9 +52,8 @@ first_begins xs ys p q r first =
 pub first_surrogate_at_offset : (w : List ℕ) (i : ℕ) → i + 32 < length w → (r : Option ℕ)
     → IsFirstSet (mask_l (map (top 7) (surrogate_lanes 32 (chunk i 32 w) (chunk (i + 1) 32 w))) % 2 ^ 64) r
     → MatchOption r (NoneIn (SurrogateAt w) i (i + 32)) (λ k. IsLeast (SurrogateAt w) i (i + k) × (i + k < i + 32))
-first_surrogate_at_offset w i bound r first =
-    first_at_offset (SurrogateAt w) (SurrogateInLane (chunk i 32 w) (chunk (i + 1) 32 w)) i 32 begins r
-    (first_begins _ _ (length-chunk i 32 w (omega (arith, bound))) (length-chunk (i + 1) 32 w (omega (arith, bound))) r first)
+first_surrogate_at_offset w i bound r first = first_at_offset (SurrogateAt w) (SurrogateInLane (chunk i 32 w) (chunk (i + 1) 32 w)) i 32
+    begins r (first_begins _ _ (length-chunk i 32 w (omega (arith, bound))) (length-chunk (i + 1) 32 w (omega (arith, bound))) r first)
   where
     begins : (k : ℕ) → k < 32 → SurrogateInLane (chunk i 32 w) (chunk (i + 1) 32 w) k ↔ SurrogateAt w (i + k)
     begins k l =

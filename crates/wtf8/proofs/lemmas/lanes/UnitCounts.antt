@@ -1,8 +1,7 @@
 -- Units counted in lanes: the sum of a block's lanes.
-use Rattle.wtf8.proofs.Common.{◌≡◌, ℕ, zero, suc, ◌+◌, ◌<◌, ◌≤◌, ltb, leb, Bool, true, false, cond, List, [], ◌∷◌, map, length, replicate}
-use Rattle.wtf8.proofs.Common.{w8, sym, ap, ◌∙◌, arith, nat_tests, lt-ltb, le-ltb, sel_l, zip2, top, ◌||◌, bit_or, Fits, refl, Each1}
-use Rattle.wtf8.proofs.Common.{sum_utf16_len, w16, sum_by-cons, Each2-of, fold-sum, sum_bound, sum_fits, sum-zip2, length-map, Each2}
-use Rattle.wtf8.proofs.Common.{fold_l, sum_l}
+use Rattle.wtf8.proofs.Common.{false, replicate, nat_tests, sum_utf16_len, sum_by-cons, Each2-of, fold-sum, sum_bound, sum_fits, length-map}
+use Rattle.wtf8.proofs.Common.{zero, Bool, true, cond, length, arith, lt-ltb, le-ltb, sel_l, bit_or, Each1, sum-zip2, Each2, fold_l, sum_l}
+use Rattle.wtf8.proofs.Common.{◌≡◌, ℕ, suc, ◌+◌, ◌<◌, ◌≤◌, ltb, leb, List, [], ◌∷◌, map, w8, sym, ap, ◌∙◌, zip2, top, ◌||◌, Fits, refl, w16}
 use lib.Lanes.{Steps}
 use Rattle.wtf8.specs.private.UnitCounts.{utf16_len}
 use Rattle.wtf8.proofs.lemmas.lanes.SurrogateLanes.{lane_of_bool}
@@ -44,14 +43,10 @@ unit_count_lanes n xs =
     zip2 (λ a b. a + b) (ones_in_set_lanes n (ascii_or_lead_lanes n xs)) (ones_in_set_lanes n (four_byte_lead_lanes n xs))
 
 top-bit_or : (a b : Bool) → top 7 (bit_or (lane_of_bool a) (lane_of_bool b)) ≡ a || b
-top-bit_or true true = refl
-top-bit_or true false = refl
-top-bit_or false true = refl
-top-bit_or false false = refl
+top-bit_or a b = grind (arith)
 
 top-lane_of_bool : (a : Bool) → top 7 (lane_of_bool a) ≡ a
-top-lane_of_bool true = refl
-top-lane_of_bool false = refl
+top-lane_of_bool a = grind (arith)
 
 utf16_len-from_tests : (x : ℕ) → cond (ltb x 0x80 || leb 0xC0 x) 1 0 + cond (leb 0xF0 x) 1 0 ≡ utf16_len x
 unfolding utf16_len
@@ -74,9 +69,7 @@ ones_at_most_one (suc n) (false ∷ ms) = (omega arith, ones_at_most_one n ms)
 
 -- the sum of two such lanes fits a byte
 pub lanes_fit : (n : ℕ) (ms ks : List Bool) → Each2 (λ a b. Fits w8 (a + b)) (ones_in_set_lanes n ms) (ones_in_set_lanes n ks)
-lanes_fit n ms ks =
-    Each2-of (λ a. a ≤ 1) (λ b. b ≤ 1) (λ a b. Fits w8 (a + b)) (λ a b h k. record { fits = omega arith }) (ones_in_set_lanes n ms)
-    (ones_in_set_lanes n ks) (ones_at_most_one n ms) (ones_at_most_one n ks)
+lanes_fit n ms ks = grind (arith, Each2-of, ones_at_most_one)
 
 utf16_lens_at_most_two : (xs : List ℕ) → Each1 (λ a. a ≤ 2) (map utf16_len xs)
 utf16_lens_at_most_two [] = tt
@@ -98,9 +91,7 @@ fold_l-utf16_len xs = omega (arith, fold-sum 0 (map utf16_len xs), sum_l-utf16_l
 -- lanes that are at most 253 can take the counts of one more block
 pub lanes_fit_more : (most : ℕ) (lanes xs : List ℕ) → most + 2 ≤ 255 → Each1 (λ a. a ≤ most) lanes
     → Each2 (λ a b. Fits w8 (a + b)) lanes (map utf16_len xs)
-lanes_fit_more most lanes xs few h =
-    Each2-of (λ a. a ≤ most) (λ b. b ≤ 2) (λ a b. Fits w8 (a + b)) (λ a b l m. record { fits = omega arith }) lanes (map utf16_len xs) h
-    (utf16_lens_at_most_two xs)
+lanes_fit_more most lanes xs few h = grind (arith, Each2-of, utf16_lens_at_most_two)
 
 pub lanes_grow : (most : ℕ) (lanes xs : List ℕ) → Each1 (λ a. a ≤ most) lanes
     → Each1 (λ a. a ≤ most + 2) (zip2 (λ a b. a + b) lanes (map utf16_len xs))

@@ -20,9 +20,7 @@ equal_buffers_compare s t =
     let units = equal_buffers s t in (λ e. units.0 (same.0 e), λ e. same.1 (units.1 e))
 
 pub equal_views_compare : EqualViewsCompareEqual
-equal_views_compare s t =
-    let same = equal_bytes s.bytes.now t.bytes.now in
-    let units = equal_views s t in (λ e. units.0 (same.0 e), λ e. same.1 (units.1 e))
+equal_views_compare s t = grind (arith, equal_bytes, equal_views)
 
 -- in a sorted table, a string that binary search does not find is not there
 pub absent_units : (table : List UnitString) (s : UnitString) (i : ℕ) → IsSorted (on (λ t. t.bytes) (slice_cmp nat_cmp)) table
@@ -30,8 +28,7 @@ pub absent_units : (table : List UnitString) (s : UnitString) (i : ℕ) → IsSo
 absent_units table s i sorted result =
     let parts = result (searchable_from_sorted nat_list_cmp_total (λ t. t.bytes) table s.bytes sorted) in
     λ k d l e.
-    let there = slice_index_or table k d in
-    let equal = (equal_buffers_compare there s).1 e in
+    let equal = (equal_buffers_compare (slice_index_or table k d) s).1 e in
     elim (cases_lt k i) [
       | inl m ↦ absurd (false≢true (ap is_eq (sym (parts.0 k d (omega arith) m) ∙ equal)))
       | inr m ↦ absurd (false≢true (ap is_eq (sym (parts.1 k d m l) ∙ equal)))

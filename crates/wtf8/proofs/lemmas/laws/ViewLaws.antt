@@ -3,7 +3,7 @@ use Rattle.wtf8.proofs.Common.{◌≡◌, ◌<◌, ◌+◌, ℕ, List, [], ◌�
 use Rattle.wtf8.proofs.Common.{take, take_at, append_assoc, units, bytes, Reads, IsForm, IsBack, Wtf8, view_units, view_form, AreScalar}
 use Rattle.wtf8.proofs.Common.{lossy_points, chars, bytes_are_encodes, All, IsUnit, number, numbers, Drains, Option, Run, Build, CodePoint}
 use Rattle.wtf8.proofs.Common.{slice_index, YieldsList-from_first, chars-encodes, get_or-append_seam, take_source, take_count, skip_source}
-use Rattle.wtf8.proofs.Common.{skip_count, view_points}
+use Rattle.wtf8.proofs.Common.{skip_count, view_points, rules}
 use Rattle.std.proofs.lemmas.Iterator.{YieldsList, items_from_drains, YieldsList-from_take}
 use Rattle.std.proofs.lemmas.Iterator.Adapters.{YieldsList-from_skip}
 use Rattle.wtf8.specs.PointLaws.{DrainedPointsAreLeft, DrainedPointsAreTaken, DrainedPointsAreAfterSkip, CollectedPointsAreLeft}
@@ -60,8 +60,7 @@ IsForm-ascii_between {w} b l f g = record {
 -- the units of `whole` are those of `front`, an ASCII unit and those of `back` exactly if its bytes are
 pub parted_by_ascii : (whole front back : Wtf8) (b : ℕ) → b < 0x80
     → (whole.bytes.now ≡ front.bytes.now ++ b ∷ back.bytes.now) ↔ (view_units whole ≡ view_units front ++ b ∷ view_units back)
-parted_by_ascii whole front back b l =
-    equal_forms whole.bytes.now _ (view_units whole) _ (view_form whole) (IsForm-ascii_between b l (view_form front) (view_form back))
+parted_by_ascii whole front back b l = search (rules, equal_forms, IsForm-ascii_between)
 
 -- a view whose units begin with the units of `front` and an ASCII unit: its bytes up to there, and the rest
 pub record BeginsByAscii (whole front : Wtf8) (b : ℕ) (rest : List ℕ) : Type 0 where
@@ -78,9 +77,8 @@ begins_by_ascii whole front b rest l e =
     let all = units_read (view_points whole) (view_units front ++ b ∷ rest) (subst (Reads (view_points whole)) e (view_reads whole)) in
     let back = one_form rest
     (all_back (view_units front ++ b ∷ []) rest (subst (All IsUnit) (sym (append_assoc (view_units front) (b ∷ []) rest)) all)) in
-    let same : whole.bytes.now ≡ w ++ b ∷ back.one =
-    (equal_forms whole.bytes.now (w ++ b ∷ back.one) (view_units whole) (view_units front ++ b ∷ rest) (view_form whole)
-    (IsForm-ascii_between b l f back.has)).1 e in
+    let same : whole.bytes.now ≡ w ++ b ∷ back.one = (equal_forms whole.bytes.now (w ++ b ∷ back.one) (view_units whole)
+    (view_units front ++ b ∷ rest) (view_form whole) (IsForm-ascii_between b l f back.has)).1 e in
     let reads = subst (Reads (view_points front ++ b ∷ back.has.points)) (sym e) (Reads-ascii_between b l f back.has) in
     record {
       inside = omega (arith, ap length same, length-append w (b ∷ back.one));
@@ -106,8 +104,7 @@ pub view_characters : (t : Wtf8) → AreScalar (view_points t) → chars t.bytes
 view_characters t s = ap chars (sym t.well_formed.encoded) ∙ characters_come_back (view_points t) t.well_formed.clean s
 
 pub lossy_characters : (t : Wtf8) → chars (bytes (lossy_points (view_points t))) ≡ lossy_points (view_points t)
-lossy_characters t =
-    ap chars (bytes_are_encodes (lossy_points (view_points t)))
+lossy_characters t = ap chars (bytes_are_encodes (lossy_points (view_points t)))
     ∙ chars-encodes (lossy_points (view_points t)) (scalars-lossy_points (view_points t) t.well_formed.clean)
 
 -- two runs of the same calls have the same outcome
@@ -138,12 +135,10 @@ pub collected_points : CollectedPointsAreLeft
 collected_points left points d = items_from_drains points d (YieldsList-from_first number (λ c. c) left refl)
 
 pub collected_front : CollectedPointsAreTaken
-collected_front s points d =
-    items_from_drains points d (YieldsList-from_take (take_count s) (YieldsList-from_first number (λ c. c) (take_source s) refl) refl)
+collected_front s points d = search (rules, items_from_drains, YieldsList-from_take, YieldsList-from_first)
 
 pub collected_back : CollectedPointsAreAfterSkip
-collected_back s points d =
-    items_from_drains points d (YieldsList-from_skip (skip_count s) (YieldsList-from_first number (λ c. c) (skip_source s) refl) refl)
+collected_back s points d = search (rules, items_from_drains, YieldsList-from_skip, YieldsList-from_first)
 
 -- the lemmas that state a law word for word, and so prove it
 pub ruleset laws = (

@@ -13,7 +13,6 @@ use Rattle.wtf8.proofs.lemmas.codec.Readings.{clean-append, clean-front, clean-r
 use Rattle.wtf8.proofs.lemmas.codec.Readings.{MeetsAsPair-cons, meets_or_not, unpaired-nil_right, unpaired-after_no_lead}
 use Rattle.wtf8.proofs.lemmas.codec.Readings.{unpaired-before_no_trail, same_reading, units_one, units_pair, same_form, trail_first}
 use Rattle.wtf8.proofs.lemmas.codec.Readings.{lead_of, trail_of, units_two, units-pushed, clean-first, form_of, units_from_form}
-use Rattle.wtf8.proofs.lemmas.codec.Readings.{form_append-unpaired}
 
 -- Lists of any kind: the last item, and the item at an index.
 
@@ -61,8 +60,7 @@ glue-pair (p ∷ []) l t r h k = ap (λ e. p ∷ e) (glue-pair [] l t r h k)
 glue-pair (p ∷ q ∷ f) l t r h k = ap (λ e. p ∷ e) (glue-pair (q ∷ f) l t r h k)
 
 pub glue_meeting : (c d : List ℕ) (m : MeetsAsPair c d) → glue c d ≡ m.front ++ pair m.lead m.trail ∷ m.rest
-glue_meeting c d m =
-    ap (λ x. glue x d) m.ends ∙ (ap (glue (m.front ++ m.lead ∷ [])) m.begins ∙ glue-pair m.front m.lead m.trail m.rest m.is_lead m.is_trail)
+glue_meeting c d m = grind (arith, glue-pair)
 
 -- without a pair at the seam the lists are appended
 pub glue-unpaired : (c d : List ℕ) → ¬ (MeetsAsPair c d) → glue c d ≡ c ++ d
@@ -76,10 +74,7 @@ glue-unpaired (p ∷ q ∷ c) d n = ap (λ e. p ∷ e) (glue-unpaired (q ∷ c) 
 
 clean-paired : (f : List ℕ) (l t : ℕ) (r : List ℕ) → IsClean (f ++ l ∷ []) → IsClean (t ∷ r) → IsLead l → IsTrail t
     → IsClean (f ++ pair l t ∷ r)
-clean-paired f l t r x y h k =
-    let after =
-    clean-append (pair l t ∷ []) r (omega arith) (clean-rest t r y) (unpaired-after_no_lead [] (pair l t) (λ p. omega (arith, p.1))) in
-    clean-append f (pair l t ∷ r) (clean-front f (l ∷ []) x) after (unpaired-before_no_trail (pair l t) r (λ p. omega (arith, p.1)))
+clean-paired f l t r x y h k = grind (arith, clean-append, clean-rest, unpaired-after_no_lead, clean-front, unpaired-before_no_trail)
 
 pub clean-glue : (c d : List ℕ) → IsClean c → IsClean d → IsClean (glue c d)
 clean-glue c d x y = elim (meets_or_not c d) [
@@ -88,16 +83,10 @@ clean-glue c d x y = elim (meets_or_not c d) [
   | inr n ↦ subst IsClean (sym (glue-unpaired c d n)) (clean-append c d x y n)
 ]
 
-units-paired : (p q : ℕ) (d : List ℕ) → IsLead p → IsTrail q → units (pair p q ∷ d) ≡ units (p ∷ []) ++ units (q ∷ d)
-units-paired p q d h k = simp (units_pair p q h k, units_one p (omega arith), units_one q (omega arith))
-
 pub units-glue : (c d : List ℕ) → units (glue c d) ≡ units c ++ units d
 units-glue [] d = refl
 units-glue (p ∷ []) [] = sym (append-nil (units (p ∷ [])))
-units-glue (p ∷ []) (q ∷ d) = elim (cases_Bool (is_pair p q)) [
-  | inl e ↦ let h = surrogates_from_is_pair p q e in rw e (units-paired p q d h.0 h.1)
-  | inr e ↦ rw e (ap (λ u. u ++ units (q ∷ d)) (sym (append-nil (units_of p))))
-]
+units-glue (p ∷ []) (q ∷ d) = grind (arith, cases_Bool, surrogates_from_is_pair, units_pair, units_one, append-nil)
 units-glue (p ∷ q ∷ c) d = ap (λ u. units_of p ++ u) (units-glue (q ∷ c) d) ∙ sym (append_assoc (units_of p) (units (q ∷ c)) (units d))
 
 -- joining two readings reads the units of both
@@ -109,10 +98,7 @@ glue-nil c = glue-unpaired c [] unpaired-nil_right ∙ append-nil c
 
 -- joining is associative, since both ways read the same units
 pub glue_assoc : (c d e : List ℕ) → IsClean c → IsClean d → IsClean e → glue (glue c d) e ≡ glue c (glue d e)
-glue_assoc c d e x y z =
-    let right = clean-glue c (glue d e) x (clean-glue d e y z) in
-    same_reading (glue (glue c d) e) (glue c (glue d e)) (clean-glue (glue c d) e (clean-glue c d x y) z) right
-    (simp (units-glue, append_assoc))
+glue_assoc c d e x y z = grind (arith, clean-glue, same_reading, units-glue, append_assoc)
 
 -- The form of two lists of units, one after the other: its bytes and its length.
 
@@ -129,19 +115,7 @@ pub record MeetingBytes (w v front rest : List ℕ) (trail : ℕ) : Type 0 where
   pub last : get_or v 2 0 ≡ 0x80 + trail % 64
 
 pub meeting_bytes : {w v c d : List ℕ} (m : MeetsAsPair c d) → bytes c ≡ w → bytes d ≡ v → MeetingBytes w v m.front m.rest m.trail
-meeting_bytes {w} {v} m e g =
-    let front : w ≡ bytes m.front ++ encoding m.lead = sym e ∙ (ap bytes m.ends ∙ bytes-pushed m.front m.lead) in
-    let back : v ≡ encoding m.trail ++ bytes m.rest = sym g ∙ ap bytes m.begins in
-    let lead : length (encoding m.lead) ≡ 3 = length-surrogate m.lead (omega (arith, m.is_lead), omega (arith, m.is_lead)) in
-    let trail : length (encoding m.trail) ≡ 3 = length-surrogate m.trail (omega (arith, m.is_trail), omega (arith, m.is_trail)) in
-    let long : length w ≡ length (bytes m.front) + 3 = cc (ap length front, length-append (bytes m.front) (encoding m.lead)) in
-    record {
-      three = omega (arith, long);
-      three_after = omega (arith, ap length back, length-append (encoding m.trail) (bytes m.rest), trail);
-      before = ap (take (length w - 3)) front ∙ take_at (bytes m.front) (encoding m.lead) (length w - 3) (omega (arith, long));
-      after = ap (drop 3) back ∙ drop_at (encoding m.trail) (bytes m.rest) 3 trail;
-      last = ap (λ b. get_or b 2 0) (back ∙ ap (λ e. e ++ bytes m.rest) (encoding_three m.trail (omega arith) (omega arith)));
-    }
+meeting_bytes {w} {v} m e g = grind (arith, bytes-pushed, length-surrogate, length-append, take_at, drop_at, encoding_three)
 
 -- the bytes of two joined lists
 pub bytes_paired : {w v : List ℕ} (c d : List ℕ) (m : MeetsAsPair c d) → bytes c ≡ w → bytes d ≡ v
@@ -152,22 +126,9 @@ bytes_paired {w} {v} c d m e g =
 pub bytes_glue-unpaired : {w v : List ℕ} (c d : List ℕ) → ¬ (MeetsAsPair c d) → bytes c ≡ w → bytes d ≡ v → bytes (glue c d) ≡ w ++ v
 bytes_glue-unpaired {w} {v} c d n e g = simp (glue-unpaired c d n, bytes-append, e, g)
 
--- a pair takes one byte more than its lead, and two less than its surrogates
-length-joined : (w : List ℕ) (l t : ℕ) → IsLead l → IsTrail t → 3 ≤ length w
-    → length (take (length w - 3) w ++ encoding (pair l t)) ≡ length w + 1
-length-joined w l t lead trail n =
-    length-append (take (length w - 3) w) (encoding (pair l t))
-    ∙ omega (arith, length-take-le (length w - 3) w (omega arith), ap length (encoding_four (pair l t) (omega arith)))
-
 pub length-paired_bytes : (w v : List ℕ) (l t : ℕ) → IsLead l → IsTrail t → 3 ≤ length w → 3 ≤ length v
     → length (paired_bytes w l t v) + 2 ≡ length w + length v
-length-paired_bytes w v l t lead trail m n =
-    omega (
-      arith,
-      length-append (take (length w - 3) w ++ encoding (pair l t)) (drop 3 v),
-      length-joined w l t lead trail m,
-      length-drop 3 v,
-    )
+length-paired_bytes w v l t lead trail m n = grind (arith, length-append, length-take-le, encoding_four, length-drop)
 
 pub form-glue : (w v a b : List ℕ) (x : IsForm w a) (y : IsForm v b) → IsForm (bytes (glue x.points y.points)) (a ++ b)
 form-glue w v a b x y = record { points = glue x.points y.points; reads = reads-glue x.points y.points a b x.reads y.reads; encoded = refl }
@@ -216,11 +177,6 @@ length_paired w v z a b x y f m =
     let same = same_form z (paired_bytes w m.lead m.trail v) (a ++ b) f (form_paired w v a b x y m) in
     ap (λ e. length e + 2) same ∙ length-paired_bytes w v m.lead m.trail m.is_lead m.is_trail s.three s.three_after
 
-pub length_append-unpaired : (w v z a b : List ℕ) → IsForm w a → IsForm v b → IsForm z (a ++ b) → ¬ (MeetsAsPair a b)
-    → length z ≡ length w + length v
-length_append-unpaired w v z a b x y f n =
-    ap length (same_form z (w ++ v) (a ++ b) f (form_append-unpaired w v a b x y n)) ∙ length-append w v
-
 -- Proofs of the laws of readings and forms: they exist, and each is the only one.
 
 -- a single unit is the code point of the same number
@@ -235,16 +191,10 @@ reading_exists (n ∷ u) h =
     (glue (n ∷ []) rest.0, reads-glue (n ∷ []) rest.0 (n ∷ []) u (reads_one n (All-head IsUnit n u h)) rest.1)
 
 pub one_reading : UnitsHaveOneReading
-one_reading u h =
-    let r = reading_exists u h in
-    record { one = r.0; has = r.1; no_other = λ c x. same_reading c r.0 x.clean r.1.clean (x.same_units ∙ sym r.1.same_units) }
+one_reading u h = grind (arith, reading_exists, same_reading)
 
 units_in_range : (p : ℕ) → IsCodePoint p → All IsUnit (units_of p)
-units_in_range p h = elim (cases_lt p 0x10000) [
-  | inl l ↦ rw (units_one p l) (All-cons IsUnit p [] (omega arith) (All-nil IsUnit))
-  | inr l ↦ rw (units_two p l)
-      (All-cons IsUnit (lead_of p) (trail_of p ∷ []) (omega arith) (All-cons IsUnit (trail_of p) [] (omega arith) (All-nil IsUnit)))
-]
+units_in_range p h = grind (arith, cases_lt, units_one, All-cons, All-nil, units_two)
 
 all_units : (c : List ℕ) → IsClean c → All IsUnit (units c)
 all_units [] x = All-nil IsUnit

@@ -3,15 +3,14 @@ use Rattle.wtf8.proofs.Common.{◌≡◌, ◌+◌, ◌-◌, ◌≤◌, List, [],
 use Rattle.wtf8.proofs.Common.{sym, subst, arith, append-nil, drop_all, units, units_of, pair, IsLead, IsTrail, IsCodePoint, UnitString}
 use Rattle.wtf8.proofs.Common.{KeepsContents, MeetsAsPair, encoding, IsWellFormed, IsForm, ExtendsForm, ExtendsFormOrKeeps, inl, inr, true}
 use Rattle.wtf8.proofs.Common.{chars, IsUtf8, scalars-chars, and_parts, scalar, scalars, IsSurrogate, IsClean, bytes_are_encodes, AreScalar}
-use Rattle.wtf8.proofs.Common.{append_assoc, length-append, All, map-append, take_at, drop_at, All-drop, All-same, Step, EachCallFits}
-use Rattle.wtf8.proofs.Common.{Build, Truncate, TruncateUnits, number, numbers, glue, IsUnit, bytes, ◌<◌, cases_lt, append_cancel_left}
-use Rattle.wtf8.proofs.Common.{SurrogateAt, on_ok_weaker, vec_capacity, length-map, All-take, encodes-chars, on_err_weaker, IsOk}
-use Rattle.wtf8.proofs.Common.{HasRoomFor, CallFits, CodePoint, AreScalarTo}
+use Rattle.wtf8.proofs.Common.{append_assoc, length-append, All, take_at, drop_at, All-drop, All-same, Step, EachCallFits, Build, number}
+use Rattle.wtf8.proofs.Common.{numbers, glue, IsUnit, bytes, ◌<◌, cases_lt, append_cancel_left, SurrogateAt, on_ok_weaker, vec_capacity}
+use Rattle.wtf8.proofs.Common.{length-map, All-take, encodes-chars, on_err_weaker, IsOk, HasRoomFor, CallFits, CodePoint, AreScalarTo}
 use lib.Utf8.{scalar_cases}
 use Rattle.std.specs.declared.vec.Vec.{Vec}
 use Rattle.wtf8.proofs.lemmas.codec.Encoding.{length-surrogate, length-encoding_bounds, length-bytes_append, encoding_four}
 use Rattle.wtf8.proofs.lemmas.codec.Readings.{meets_by, form_of, well_formed_of, same_form, units_from_form, IsWellFormed-equal_bytes}
-use Rattle.wtf8.proofs.lemmas.codec.Readings.{same_reading, same_points, units-append, cons-equal_parts, meets_or_not, units_one}
+use Rattle.wtf8.proofs.lemmas.codec.Readings.{same_reading, same_points, cons-equal_parts, meets_or_not, units_one}
 use Rattle.wtf8.proofs.lemmas.codec.Readings.{lists_have_lengths, form-append}
 use Rattle.wtf8.proofs.lemmas.codec.Scalars.{scalar-middle}
 use Rattle.wtf8.proofs.lemmas.strings.Concatenation.{paired_bytes, meeting_bytes, form_meeting, one_form, clean-glue, units-glue}
@@ -106,10 +105,7 @@ pub record ScalarFacts (c : ℕ) : Type 0 where
   pub not_surrogate : ¬ (IsSurrogate c)
 
 pub scalar_facts : (c : ℕ) → scalar c ≡ true → ScalarFacts c
-scalar_facts c e = elim (scalar_cases c e) [
-  | inl l ↦ record { range = omega arith; not_surrogate = λ s. omega arith }
-  | inr h ↦ record { range = omega arith; not_surrogate = λ s. omega arith }
-]
+scalar_facts c e = grind (arith, scalar_cases)
 
 pub clean-scalars : (cs : List ℕ) → scalars cs ≡ true → IsClean cs
 clean-scalars [] e = tt
@@ -163,19 +159,15 @@ pub scalar_all : (c : List ℕ) (k : ℕ) → AreScalar c → AreScalarTo k c
 scalar_all c k s f p b e _ = scalar-middle f p b (subst AreScalar e s)
 
 pub all_scalar : (c : List ℕ) (k : ℕ) → AreScalarTo k c → length (bytes c) ≤ k → AreScalar c
-all_scalar c k s n = scalar_each c
-    (λ f p b e. s f p b e (omega (arith, n, ap (λ d. length (bytes d)) e, length-bytes_append f p b, length-encoding_bounds p)))
+all_scalar c k s n = grind (arith, scalar_each, length-bytes_append, length-encoding_bounds)
 
 pub scalar_to-front : (k n : ℕ) (c d : List ℕ) → AreScalarTo k (c ++ d) → n ≤ k → AreScalarTo n c
 scalar_to-front k n c d s l f p b e m = s f p (b ++ d) (ap (λ x. x ++ d) e ∙ append_assoc f (p ∷ b) d) (omega (arith, l, m))
 
 scalar_before : (k : ℕ) (f more b d : List ℕ) (p : ℕ) → AreScalarTo k (f ++ more) → f ++ p ∷ b ≡ (f ++ more) ++ d
-    → length (bytes f) < length (bytes (f ++ more))
-    → length (bytes f) < k → ¬ (IsSurrogate p)
+    → length (bytes f) < length (bytes (f ++ more)) → length (bytes f) < k → ¬ (IsSurrogate p)
 scalar_before k f [] b d p s e h l = absurd (omega (arith, h, ap (λ x. length (bytes x)) (append-nil f)))
-scalar_before k f (q ∷ more) b d p s e h l =
-    let same = cons-equal_parts p q b (more ++ d) (append_cancel_left f _ _ (e ∙ append_assoc f (q ∷ more) d)) in
-    s f p more (ap (λ x. f ++ x ∷ more) (sym same.0)) l
+scalar_before k f (q ∷ more) b d p s e h l = grind (arith, cons-equal_parts, append_cancel_left, append_assoc)
 
 pub scalar_to-append : (k : ℕ) (c d : List ℕ) → AreScalarTo k c → (length (bytes c) < k → AreScalar d) → AreScalarTo k (c ++ d)
 scalar_to-append k c d s t f p b e l = elim (cases_lt (length (bytes f)) (length (bytes c))) [
@@ -193,12 +185,10 @@ scalar_to-paired : (k n : ℕ) (f : List ℕ) (l t : ℕ) (r : List ℕ) → IsL
     → n ≤ length (bytes (f ++ l ∷ [])) → AreScalarTo n (f ++ pair l t ∷ r)
 scalar_to-paired k n f l t r lead trail s m u =
     let front = scalar_to-append n f (pair l t ∷ []) (scalar_to-front k n f (l ∷ []) s m) (λ _. ((λ x. omega (arith, x.1)), tt)) in
-    let long = length-bytes_append f (pair l t) [] in
     let was = length-bytes_append f l [] in
     let four = ap length (encoding_four (pair l t) (omega arith)) in
-    subst (AreScalarTo n) (append_assoc f (pair l t ∷ []) r)
-    (scalar_to-append n (f ++ pair l t ∷ []) r front
-    (λ x. absurd (omega (arith, x, u, long, was, four, length-surrogate l (omega arith, omega arith)))))
+    subst (AreScalarTo n) (append_assoc f (pair l t ∷ []) r) (scalar_to-append n (f ++ pair l t ∷ []) r front
+    (λ x. absurd (omega (arith, x, u, length-bytes_append f (pair l t) [], was, four, length-surrogate l (omega arith, omega arith)))))
 
 pub scalar_to-glue : (k n : ℕ) (c d : List ℕ) → AreScalarTo k c → n ≤ k → (length (bytes c) < n → AreScalar d) → AreScalarTo n (glue c d)
 scalar_to-glue k n c d s l t = elim (meets_or_not c d) [
@@ -249,9 +239,8 @@ module _ {T E Z : Type 0} {b m : Vec ℕ Z} {v : List ℕ} where
       (IsWellFormed-equal_bytes h g.becomes.err, ((λ f p b g m. s f p b g (omega (arith, l, m))), tt))
 
 module _ {T E Z : Type 0} {b m : Vec ℕ Z} where
-  pub utf8_prefix_after_push : (r : Result T E) (p : ℕ) (k n : ℕ) (h : IsWellFormed b.items) → IsCodePoint p
-      → AreScalarTo k h.points → n ≤ k
-      → (length b.items < n → ¬ (IsSurrogate p)) → ExtendsFormOrKeeps b (units_of p) m r
+  pub utf8_prefix_after_push : (r : Result T E) (p : ℕ) (k n : ℕ) (h : IsWellFormed b.items) → IsCodePoint p → AreScalarTo k h.points
+      → n ≤ k → (length b.items < n → ¬ (IsSurrogate p)) → ExtendsFormOrKeeps b (units_of p) m r
       → (x : IsWellFormed m.items) × (AreScalarTo n x.points × Unit {0})
   utf8_prefix_after_push r p k n h range s l t g =
       utf8_prefix_after_append r (p ∷ []) k n h (sym (append-nil (units_of p))) range s l (λ m. (t m, tt)) g
@@ -271,10 +260,8 @@ glued_length c d = elim (meets_or_not c d) [
       let paired = length-paired_bytes (bytes c) (bytes d) m.lead m.trail m.is_lead m.is_trail s.three s.three_after in
       let three = length-surrogate m.trail (omega (arith, m.is_trail), omega (arith, m.is_trail)) in
       let back : length (bytes d) ≡ 3 + length (bytes m.rest) = simp (m.begins, length-append, three) in
-      let own : length (units d) ≡ 1 + length (units m.rest) =
-      simp (m.begins, length-append, units_one m.trail (omega (arith, m.is_trail))) in
-      let rest = (lists_have_lengths m.rest).units_least in
-      record { least = omega (arith, both, paired, back, own, rest); most = omega (arith, both, paired) }
+      let own : length (units d) ≡ 1 + length (units m.rest) = grind (arith, length-append, units_one) in
+      record { least = omega (arith, both, paired, back, own, (lists_have_lengths m.rest).units_least); most = omega (arith, both, paired) }
   | inr n ↦
       let both = ap length (bytes_glue-unpaired c d n refl refl) ∙ length-append (bytes c) (bytes d) in
       record { least = omega (arith, both, (lists_have_lengths d).units_least); most = omega (arith, both) }
@@ -301,16 +288,14 @@ pub record Beginning (u w : List ℕ) : Type 0 where
   pub form : IsForm whole u
   pub within : length whole ≤ length w
 
-all_front : (a b : List ℕ) → All IsUnit (a ++ b) → All IsUnit a
-all_front a b h = All-same IsUnit a (take (length a) (a ++ b)) (sym (take_at a b (length a) refl)) (All-take IsUnit (length a) (a ++ b) h)
-
 pub all_back : (a b : List ℕ) → All IsUnit (a ++ b) → All IsUnit b
 all_back a b h = All-same IsUnit b (drop (length a) (a ++ b)) (sym (drop_at a b (length a) refl)) (All-drop IsUnit (length a) (a ++ b) h)
 
 pub beginning_of_form : (a b w : List ℕ) → IsForm w (a ++ b) → Beginning a w
 beginning_of_form a b w f =
     let all = units_read f.points (a ++ b) f.reads in
-    let front = one_form a (all_front a b all) in
+    let front = one_form a
+    (All-same IsUnit a (take (length a) (a ++ b)) (sym (take_at a b (length a) refl)) (All-take IsUnit (length a) (a ++ b) all)) in
     record {
       whole = front.one;
       form = front.has;
@@ -325,36 +310,12 @@ extended_length ps w u y h k =
     let back = one_form v (all_back u v (units_read k.points (u ++ v) k.reads)) in
     omega (arith, (both_length h back.has k).least, (lists_have_lengths (numbers ps)).points, length-map ps number)
 
-pub units-points : (ps qs : List CodePoint) → units (numbers (ps ++ qs)) ≡ units (numbers ps) ++ units (numbers qs)
-units-points ps qs = ap units (map-append number ps qs) ∙ units-append (numbers ps) (numbers qs)
-
--- a call that fits has the outcome `v` that `CallFits` names
-pub found_step : (u : List ℕ) (call : Build) (v w : List ℕ) (n r : ℕ) → CallFits u call v n → Step u call w r → w ≡ v
-found_step u (Truncate k) v w n r f s = absurd f.no_truncation
-found_step u (TruncateUnits k) v w n r f s = absurd f.no_truncation
-found_step u call v w n r f s = s.0 ∙ sym f.step.0
-
--- a call that fits a capacity fits a greater one
-pub CallFits-larger : {u v : List ℕ} {call : Build} {m n : ℕ} → CallFits u call v m → m ≤ n → CallFits u call v n
-CallFits-larger f h = record {
-  no_truncation = f.no_truncation;
-  step = f.step;
-  fits = record { whole = f.fits.whole; form = f.fits.form; within = omega (arith, f.fits.within, h) };
-}
-
 -- If each of `calls ++ more` fits `capacity`, each of `more` fits it after `calls`, and the capacity has not shrunk.
 pub record Found (u : List ℕ) (calls : List Build) (now : List ℕ) (capacity grown : ℕ) : Type 0 where
   pub rest : (more : List Build) (v : List ℕ) → EachCallFits u (calls ++ more) v capacity → EachCallFits now more v capacity
   pub grows : (more : List Build) (v : List ℕ) → EachCallFits u (calls ++ more) v capacity → capacity ≤ grown
 
 pub found_more : {u now new : List ℕ} {calls : List Build} {call : Build} {capacity grown larger : ℕ} (r : ℕ)
-    → Found u calls now capacity grown
-    → Step now call new r → ((v : List ℕ) → CallFits now call v capacity → grown ≤ larger)
+    → Found u calls now capacity grown → Step now call new r → ((v : List ℕ) → CallFits now call v capacity → grown ≤ larger)
     → Found u (calls ++ call ∷ []) new capacity larger
-found_more {u} {now} {new} {calls} {call} {capacity} {grown} {larger} r f s h = record {
-  rest = λ more v x. let here = f.rest (call ∷ more) v (rw append_assoc at x) in
-      subst (λ m. EachCallFits m more v capacity) (sym (found_step now call here.0 new capacity r here.1 s)) here.2;
-  grows = λ more v x.
-      let here = f.rest (call ∷ more) v (rw append_assoc at x) in
-      omega (arith, f.grows (call ∷ more) v (rw append_assoc at x), h here.0 here.1);
-}
+found_more {u} {now} {new} {calls} {call} {capacity} {grown} {larger} r f s h = grind (arith, append_assoc)

@@ -1,8 +1,7 @@
 -- The laws of positions, of lengths and of ASCII bytes.
-use Rattle.wtf8.proofs.Common.{ℕ, List, [], ◌++◌, length, refl, ap, ◌∙◌, sym, subst, arith, append_assoc, length-append, append-nil}
-use Rattle.wtf8.proofs.Common.{append_cancel_left, units, bytes, Reads, IsForm, IsBoundary, ◌≡◌, ◌≢◌, ◌<◌, ◌+◌, ◌-◌, ◌/◌, ◌%◌, inl, ◌∷◌}
-use Rattle.wtf8.proofs.Common.{get_or, drop_at, All-cons, All-drop, All-head, All-nil, All, encoding, IsFront, IsBack, slice_get, Some}
-use Rattle.wtf8.proofs.Common.{zero, suc}
+use Rattle.wtf8.proofs.Common.{List, append_assoc, length-append, append-nil, append_cancel_left, IsBoundary, All-cons, All-drop, slice_get}
+use Rattle.wtf8.proofs.Common.{ℕ, length, subst, arith, units, bytes, IsForm, get_or, drop_at, All-head, All-nil, encoding, IsFront, IsBack}
+use Rattle.wtf8.proofs.Common.{[], ◌++◌, refl, ap, ◌∙◌, sym, Reads, ◌≡◌, ◌≢◌, ◌<◌, ◌+◌, ◌-◌, ◌/◌, ◌%◌, inl, ◌∷◌, All, Some, zero, suc}
 use Rattle.std.proofs.lemmas.List.{append_cancel_right}
 use Rattle.wtf8.specs.Laws.{FrontAndBackAreWhole}
 use Rattle.wtf8.specs.PositionLaws.{StartIsBoundary, EndIsBoundary, NoneIsBeyondEnd, FrontBoundariesAreOfWhole, WholeBoundariesAreOfFront}
@@ -20,11 +19,7 @@ pub start_is_boundary : StartIsBoundary
 start_is_boundary w u f = record { front = []; back = f.points; splits = record { reads = f.reads; front_len = refl } }
 
 pub end_is_boundary : EndIsBoundary
-end_is_boundary w u f = record {
-  front = f.points;
-  back = [];
-  splits = record { reads = subst (λ c. Reads c u) (sym (append-nil f.points)) f.reads; front_len = ap length f.encoded };
-}
+end_is_boundary w u f = grind (arith, append-nil)
 
 -- a boundary of the units is a cut of the form's code points
 cut_at_boundary : {w u : List ℕ} (f : IsForm w u) (k : ℕ) → IsBoundary u k → Cut w (well_formed_of f) k
@@ -109,9 +104,8 @@ AsciiUnitAt-from_points front [] u r h low = absurd (omega (arith, ap (λ c. len
 AsciiUnitAt-from_points front (p ∷ b) u r h low =
     let at : get_or (bytes (front ++ p ∷ b)) (length (bytes front)) 0 ≡ get_or (encoding p ++ bytes b) 0 0 = first-bytes_after front p b in
     let own = encoding-from_ascii_byte p (bytes b) (omega (arith, at)) in
-    let here : get_or (bytes (front ++ p ∷ b)) (length (bytes front)) 0 ≡ p = at ∙ ap (λ e. get_or (e ++ bytes b) 0 0) own.0 in
     let unit = units_one p (omega (arith, own.1)) in
-    subst (λ x. AsciiUnitAt u (length (bytes front)) x) (sym here) (record {
+    subst (λ x. AsciiUnitAt u (length (bytes front)) x) (sym (at ∙ ap (λ e. get_or (e ++ bytes b) 0 0) own.0)) (record {
       front = units front;
       back = units b;
       from_it =
@@ -176,9 +170,7 @@ ascii_no_other_unit w u b form l h =
 pub slice_get-ascii_prefix : (c : List ℕ) (k : ℕ) → ((j : ℕ) → j < k + 1 → get_or (bytes c) j 0 < 0x80) → k < length (bytes c)
     → slice_get (units c) k ≡ Some (get_or (bytes c) k 0)
 slice_get-ascii_prefix [] k low long = absurd (omega (arith, long))
-slice_get-ascii_prefix (p ∷ c) zero low long =
-    let own = encoding-from_ascii_byte p (bytes c) (low 0 (omega arith)) in
-    ap (λ u. slice_get u 0) (units-cons_one p c (omega (arith, own.1))) ∙ ap (λ e. Some (get_or (e ++ bytes c) 0 0)) (sym own.0)
+slice_get-ascii_prefix (p ∷ c) zero low long = grind (arith, encoding-from_ascii_byte, units-cons_one)
 slice_get-ascii_prefix (p ∷ c) (suc k) low long =
     let own = encoding-from_ascii_byte p (bytes c) (low 0 (omega arith)) in
     let whole : bytes (p ∷ c) ≡ p ∷ bytes c = ap (λ e. e ++ bytes c) own.0 in

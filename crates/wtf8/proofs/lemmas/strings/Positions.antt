@@ -6,7 +6,7 @@ use Rattle.wtf8.proofs.Common.{take-add, chunk, units_of, utf16_len, sum_utf16_l
 use Rattle.wtf8.proofs.Common.{sum_by_more, Splits, IsMiddle, UnitCursor}
 use Rattle.wtf8.proofs.lemmas.lanes.UnitCounts.{utf16_len-ascii, utf16_len-continuation, utf16_len-lead_below_F0, utf16_len-lead_from_F0}
 use Rattle.wtf8.proofs.lemmas.codec.Encoding.{Begins, first-encoding, continuation-encoding, length-encoding_bounds, length-bytes_append}
-use Rattle.wtf8.proofs.lemmas.codec.Encoding.{bytes-append, encoding_cases, one, two, three, four}
+use Rattle.wtf8.proofs.lemmas.codec.Encoding.{bytes-append, encoding_cases}
 use Rattle.wtf8.proofs.lemmas.codec.Readings.{clean-front, clean-back, reads_same, cons-equal_parts, same_points, same_reading}
 use Rattle.wtf8.proofs.lemmas.codec.Readings.{well_formed_of, units_one, units_two}
 
@@ -41,12 +41,7 @@ split_at (p ∷ c) (suc k) h s =
 -- the byte after a front is the first byte of the next code point
 pub first-bytes_after : (front : List ℕ) (p : ℕ) (b : List ℕ)
     → get_or (bytes (front ++ p ∷ b)) (length (bytes front)) 0 ≡ get_or (encoding p ++ bytes b) 0 0
-first-bytes_after front p b =
-    let n = length (bytes front) in
-    let start : n - n ≡ 0 = omega arith in
-    ap (λ w. get_or w n 0) (bytes-append front (p ∷ b))
-    ∙ (get_or-append_right (bytes front) (encoding p ++ bytes b) n n 0 refl (omega arith)
-    ∙ ap (λ k. get_or (encoding p ++ bytes b) k 0) start)
+first-bytes_after front p b = grind (arith, bytes-append, get_or-append_right)
 
 pub begins_after : (f b : List ℕ) → length (bytes f) < length (bytes (f ++ b)) → Begins (get_or (bytes (f ++ b)) (length (bytes f)) 0)
 begins_after f [] h = absurd (omega (arith, ap (λ c. length (bytes c)) (append-nil f)))
@@ -111,13 +106,11 @@ pub boundary_of : {w : List ℕ} (h : IsWellFormed w) (front back : List ℕ) (k
 boundary_of h front back k e n = record { front = front; back = back; splits = (cut_by h front back k e n).splits }
 
 pub points_before : {w v : List ℕ} (h : IsWellFormed w) (p : IsWellFormed v) (front back : List ℕ) (k : ℕ) → h.points ≡ front ++ back
-    → length (bytes front) ≡ k
-    → v ≡ take k w → p.points ≡ front
+    → length (bytes front) ≡ k → v ≡ take k w → p.points ≡ front
 points_before h p front back k e n d = same_points p (cut_by h front back k e n).before d
 
 pub points_after : {w v : List ℕ} (h : IsWellFormed w) (p : IsWellFormed v) (front back : List ℕ) (k : ℕ) → h.points ≡ front ++ back
-    → length (bytes front) ≡ k
-    → v ≡ drop k w → p.points ≡ back
+    → length (bytes front) ≡ k → v ≡ drop k w → p.points ≡ back
 points_after h p front back k e n d = same_points p (cut_by h front back k e n).after d
 
 -- the bytes before a position are the form of the units before it
@@ -171,8 +164,7 @@ shorter_is_prefix (p ∷ f) b (q ∷ g) d e n =
 
 -- the back of a front is the middle
 pub middle_of : {w v : List ℕ} (h : IsWellFormed w) (begin end : ℕ) (p : IsWellFormed v) {u : List ℕ}
-    → IsFront (units h.points) end (units p.points)
-    → IsBack (units p.points) begin u → IsMiddle (units h.points) begin end u
+    → IsFront (units h.points) end (units p.points) → IsBack (units p.points) begin u → IsMiddle (units h.points) begin end u
 middle_of h begin end p f b =
     let parts : b.front ++ b.back ≡ f.front = reads_same b.splits.reads (front_reads f) in
     record {
@@ -194,80 +186,34 @@ sum_utf16_len_take_add w i n = ap sum_utf16_len (take-add i n w) ∙ sum_by-appe
 -- `n` units begin in `n` ASCII bytes
 pub sum_utf16_len-ascii : (w : List ℕ) (i n : ℕ) → i + n ≤ length w → ((j : ℕ) → j < n → get_or w (i + j) 0 < 0x80)
     → sum_utf16_len (take (i + n) w) ≡ sum_utf16_len (take i w) + n
-sum_utf16_len-ascii w i zero bound low = omega (arith, ap (λ k. sum_utf16_len (take k w)) (start i))
-  where
-    start : (i : ℕ) → i + 0 ≡ i
-    start i = omega arith
+sum_utf16_len-ascii w i zero bound low = grind (arith)
 sum_utf16_len-ascii w i (suc n) bound low =
     let last : i + suc n ≡ i + n + 1 = omega arith in
-    let more = sum_by_more utf16_len w (i + n) 0 (omega (arith, bound)) in
-    let one = utf16_len-ascii (get_or w (i + n) 0) (low n (omega arith)) in
-    omega (
-      arith,
-      ap (λ k. sum_utf16_len (take k w)) last,
-      more,
-      one,
-      sum_utf16_len-ascii w i n (omega (arith, bound)) (λ j l. low j (omega (arith, l))),
-    )
+    grind (arith, sum_by_more, utf16_len-ascii, low n, sum_utf16_len-ascii w i n (omega (arith, bound)) (λ j l. low j (omega (arith, l))))
 
 pub sum_utf16_len-chunk_add : (w : List ℕ) (i m n k : ℕ) → m + n ≡ k
     → sum_utf16_len (chunk i k w) ≡ sum_utf16_len (chunk i m w) + sum_utf16_len (chunk (i + m) n w)
-sum_utf16_len-chunk_add w i m n k e =
-    let ends : i + m + n ≡ i + k = omega (arith, e) in
-    let same = ap (λ j. sum_utf16_len (take j w)) ends in
-    omega (arith, sum_utf16_len_take_add w i k, sum_utf16_len_take_add w i m, sum_utf16_len_take_add w (i + m) n, same)
+sum_utf16_len-chunk_add w i m n k e = grind (arith, common_steps, sum_utf16_len_take_add)
 
 -- the units of a code point begin in its bytes, all of them at the first byte
 utf16_len-continuation_byte : (n : ℕ) → utf16_len (0x80 + n % 64) ≡ 0
 utf16_len-continuation_byte n = utf16_len-continuation (0x80 + n % 64) (omega arith) (omega arith)
 
+ruleset utf16_lens = (utf16_len-ascii, utf16_len-lead_below_F0, utf16_len-continuation_byte, utf16_len-lead_from_F0)
+
 pub sum_utf16_len-encoding : (p : ℕ) → sum_utf16_len (encoding p) ≡ length (units_of p)
-sum_utf16_len-encoding p = elim (encoding_cases p) [
-  | one h e ↦ rw (e, units_one p (omega arith), utf16_len-ascii p h) refl
-  | two l h e ↦
-      rw (e, units_one p (omega arith), utf16_len-lead_below_F0 (0xC0 + p / 64) (omega arith) (omega arith), utf16_len-continuation_byte p)
-      refl
-  | three l h e ↦ rw (
-    e,
-    units_one p h,
-    utf16_len-lead_below_F0 (0xE0 + p / 4096) (omega arith) (omega arith),
-    utf16_len-continuation_byte (p / 64),
-    utf16_len-continuation_byte p,
-  ) refl
-  | four l e ↦ rw (
-    e,
-    units_two p l,
-    utf16_len-lead_from_F0 (0xF0 + p / 262144) (omega arith),
-    utf16_len-continuation_byte (p / 4096),
-    utf16_len-continuation_byte (p / 64),
-    utf16_len-continuation_byte p,
-  ) refl
-]
+sum_utf16_len-encoding p = grind (arith, encoding_cases, units_one, units_two, utf16_lens)
 
 utf16_len-encoding : (p : ℕ) (r : List ℕ) → utf16_len (get_or (encoding p ++ r) 0 0) ≡ length (units_of p)
-utf16_len-encoding p r = elim (encoding_cases p) [
-  | one h e ↦ rw (e, units_one p (omega arith)) (utf16_len-ascii p h)
-  | two l h e ↦ rw (e, units_one p (omega arith)) (utf16_len-lead_below_F0 (0xC0 + p / 64) (omega arith) (omega arith))
-  | three l h e ↦ rw (e, units_one p h) (utf16_len-lead_below_F0 (0xE0 + p / 4096) (omega arith) (omega arith))
-  | four l e ↦ rw (e, units_two p l) (utf16_len-lead_from_F0 (0xF0 + p / 262144) (omega arith))
-]
+utf16_len-encoding p r = grind (arith, encoding_cases, units_one, units_two, utf16_lens)
 
 pub sum_utf16_len-bytes : (c : List ℕ) → sum_utf16_len (bytes c) ≡ length (units c)
 sum_utf16_len-bytes [] = refl
-sum_utf16_len-bytes (p ∷ c) = omega (
-  arith,
-  sum_by-append utf16_len (encoding p) (bytes c),
-  sum_utf16_len-encoding p,
-  sum_utf16_len-bytes c,
-  length-append (units_of p) (units c),
-)
+sum_utf16_len-bytes (p ∷ c) = grind (arith, sum_by-append, sum_utf16_len-encoding, sum_utf16_len-bytes c, length-append)
 
 -- a byte at which units begin begins a code point
 begins_from_utf16_len : (b : ℕ) → 0 < utf16_len b → Begins b
-begins_from_utf16_len b h = elim (cases_lt b 0x80) [
-  | inl l ↦ record { start = inl l }
-  | inr l ↦ elim (cases_lt b 0xC0) [ inl k ↦ absurd (omega (arith, utf16_len-continuation b l k)) | inr k ↦ record { start = inr k } ]
-]
+begins_from_utf16_len b h = grind (arith, cases_lt, utf16_len-continuation)
 
 -- a cut between code points, after `n` units and `position` bytes
 pub record CutsUnits (c : List ℕ) (n position : ℕ) : Type 0 where
@@ -286,15 +232,12 @@ pub record PointsAbout (c : List ℕ) (n : ℕ) (cursor : UnitCursor) : Type 0 w
 pub points_about : (c : List ℕ) (n : ℕ) (s : UnitCursor) → IsCursorOfUnit (bytes c) n s → PointsAbout c n s
 points_about c n s h =
     let cursor = s.position in
-    let before = s.units in
     let was = h.before in
-    let next : cursor < length (bytes c) → n < before + utf16_len (get_or (bytes c) cursor 0) =
-    λ m. omega (arith, h.reaches m, was.counted, sum_by_more utf16_len (bytes c) cursor 0 m) in
+    let next : cursor < length (bytes c) → n < s.units + utf16_len (get_or (bytes c) cursor 0) = grind (arith, sum_by_more) in
     let cut =
     split_at c cursor was.within (λ m. begins_from_utf16_len (get_or (bytes c) cursor 0) (omega (arith, next m, was.not_beyond))) in
     let whole : bytes c ≡ bytes cut.front ++ bytes cut.back = ap bytes cut.joined ∙ bytes-append cut.front cut.back in
-    let front : take cursor (bytes c) ≡ bytes cut.front =
-    ap (take cursor) whole ∙ take_at (bytes cut.front) (bytes cut.back) cursor cut.front_len in
+    let front : take cursor (bytes c) ≡ bytes cut.front = grind (arith, take_at) in
     record {
       cut = record {
         front = cut.front;
@@ -308,8 +251,7 @@ points_about c n s h =
           let joined : c ≡ cut.front ++ p ∷ rest = cut.joined ∙ ap (λ b. cut.front ++ b) e in
           let long : cursor < length (bytes c) =
           omega (arith, cut.front_len, ap (λ d. length (bytes d)) joined, length-bytes_append cut.front p rest, length-encoding_bounds p) in
-          let here : get_or (bytes c) cursor 0 ≡ get_or (encoding p ++ bytes rest) 0 0 =
-          ap (λ d. get_or (bytes d) cursor 0) joined
+          let here : get_or (bytes c) cursor 0 ≡ get_or (encoding p ++ bytes rest) 0 0 = ap (λ d. get_or (bytes d) cursor 0) joined
           ∙ (ap (λ k. get_or (bytes (cut.front ++ p ∷ rest)) k 0) (sym cut.front_len) ∙ first-bytes_after cut.front p rest) in
           omega (arith, next long, ap utf16_len here, utf16_len-encoding p (bytes rest));
     }

@@ -4,12 +4,12 @@ use Rattle.wtf8.proofs.Common.{IsBoundary, ◌≡◌, ◌≢◌, ◌<◌, ◌+�
 use Rattle.wtf8.proofs.Common.{cases_lt, ◌↔◌, glue, AreScalar, view_units, view_form, Wtf8, Result, Ok, Err, OnOk, OnErr, AppendsUnits}
 use Rattle.wtf8.proofs.Common.{KeepsContents, UnitString, on_ok_weaker, ◌⊎◌, All-tail, IsUnit, IsWellFormed, Step, Run, Build, Reserve}
 use Rattle.wtf8.proofs.Common.{Truncate, TruncateUnits, IsNoTruncation, slice_index, All-from_get_or, All-pop, All-same, FitWithin}
-use Rattle.wtf8.proofs.Common.{AddsLength, RunsOnce, RunsAddUp, LeavesReserved}
+use Rattle.wtf8.proofs.Common.{AddsLength, RunsOnce, RunsAddUp, LeavesReserved, length-append}
 use Rattle.wtf8.specs.StringLaws.{EqualBuffersHaveEqualUnits, EqualBufferAndViewHaveEqualUnits, EqualViewsHaveEqualUnits, StringsAreJoined}
 use Rattle.wtf8.specs.StringLaws.{StringsArePaired, RoomLeftIsFound, ScalarsStay, FormsAreOfBuffers, FormsAreOfViews, WhatFitsIsFound}
 use Rattle.wtf8.proofs.lemmas.codec.Encoding.{Begins}
 use Rattle.wtf8.proofs.lemmas.codec.Readings.{well_formed_of, same_form, same_reading, form_append-unpaired}
-use Rattle.wtf8.proofs.lemmas.strings.Concatenation.{equal_forms, form-glue, form_paired, length_paired, length_append-unpaired, one_form}
+use Rattle.wtf8.proofs.lemmas.strings.Concatenation.{equal_forms, form-glue, form_paired, length_paired, one_form}
 use Rattle.wtf8.proofs.lemmas.strings.Concatenation.{units_read, at_last, before, split_of_push}
 use Rattle.wtf8.proofs.lemmas.strings.Positions.{cut_at, front_unique, front_boundary, boundary_from_byte, byte_from_boundary}
 use Rattle.wtf8.proofs.lemmas.strings.Surrogates.{lossy_points-scalar}
@@ -27,9 +27,8 @@ pub equal_views : EqualViewsHaveEqualUnits
 equal_views s t = equal_forms s.bytes.now t.bytes.now (view_units s) (view_units t) (view_form s) (view_form t)
 
 pub strings_joined : StringsAreJoined
-strings_joined s t both e n =
-    same_form both.bytes (s.bytes ++ t.bytes) both.units both.form (subst (IsForm (s.bytes ++ t.bytes)) (sym e)
-    (form_append-unpaired s.bytes t.bytes s.units t.units s.form t.form n))
+strings_joined s t both e n = same_form both.bytes (s.bytes ++ t.bytes) both.units both.form
+    (subst (IsForm (s.bytes ++ t.bytes)) (sym e) (form_append-unpaired s.bytes t.bytes s.units t.units s.form t.form n))
 
 pub strings_paired : StringsArePaired
 strings_paired s t both e m =
@@ -68,20 +67,20 @@ no_ascii_unit t b l h =
 module _ {T E : Type 0} where
   -- the length grows by at most the length of the appended form
   pub grows_at_most : (r : Result T E) (old : UnitString) {new u : List ℕ} (w v : List ℕ) → IsForm new u → IsForm w v
-      → OnOk r (u ≡ old.units ++ v)
-      → OnOk r (length new ≤ length old.bytes + length w)
+      → OnOk r (u ≡ old.units ++ v) → OnOk r (length new ≤ length old.bytes + length w)
   grows_at_most r old {new} w v form more ok =
       on_ok_weaker r (λ e. both_no_longer old.bytes w new old.units v old.form more (subst (IsForm new) e form)) ok
 
   -- the length by which a string grows if a view is appended
   pub added_length : (r : Result T E) (old new : UnitString) (other : Wtf8) → OnOk r (AppendsUnits old (view_units other) new)
       → OnOk r (AddsLength old other new)
-  added_length r old new other ok =
-      on_ok_weaker r (λ e.
+  added_length r old new other ok = on_ok_weaker r (λ e.
       let both = subst (IsForm new.bytes) e new.form in
       record {
         pair = length_paired old.bytes other.bytes.now new.bytes old.units (view_units other) old.form (view_form other) both;
-        apart = length_append-unpaired old.bytes other.bytes.now new.bytes old.units (view_units other) old.form (view_form other) both;
+        apart = λ n. ap length (same_form new.bytes (old.bytes ++ other.bytes.now) (old.units ++ (view_units other)) both
+            (form_append-unpaired old.bytes other.bytes.now old.units (view_units other) old.form (view_form other) n))
+            ∙ length-append old.bytes other.bytes.now;
       }) ok
 
   -- appending no units, or a refused request, leaves the contents unchanged
@@ -102,10 +101,7 @@ units_or_not (x ∷ u) = elim (cases_lt x 0x10000) [
 ]
 
 begins_or_not : (b : ℕ) → Begins b ⊎ (Begins b → ⊥)
-begins_or_not b = elim (cases_lt b 0x80) [
-  | inl h ↦ inl (record { start = inl h })
-  | inr h ↦ elim (cases_lt b 0xC0) [ inl k ↦ inr (λ s. omega (arith, s.start)) | inr k ↦ inl (record { start = inr k }) ]
-]
+begins_or_not b = grind (arith, cases_lt)
 
 -- it is decidable whether a position is a boundary
 cut_or_not : {w : List ℕ} (h : IsWellFormed w) (k : ℕ) → IsBoundary (units h.points) k ⊎ (IsBoundary (units h.points) k → ⊥)
@@ -149,36 +145,17 @@ step_once u (Truncate k) = elim (boundary_or_not u k) [
         goes = inl (f, refl);
         no_other = λ v r s. elim s [ inl x ↦ (front_unique u k v _ x.0 f, x.1) | inr n ↦ absurd (n.0 b) ];
       }
-  | inr n ↦
-      record {
-        outcome = _;
-        count = _;
-        goes = inr (n, refl, refl);
-        no_other = λ v r s. elim s [ inl x ↦ absurd (n (front_boundary x.0)) | inr m ↦ (m.1, m.2) ];
-      }
+  | inr n ↦ record { outcome = _; count = _; goes = inr (n, refl, refl); no_other = λ v r s. grind (arith, front_boundary) }
 ]
 step_once u (TruncateUnits n) = elim (cases_lt (length u) n) [
-  | inl h ↦
-      record {
-        outcome = _;
-        count = _;
-        goes = inr (h, refl, refl);
-        no_other = λ v r s. elim s [ inl x ↦ absurd (omega (arith, x.0, h)) | inr x ↦ (x.1, x.2) ];
-      }
-  | inr h ↦
-      record {
-        outcome = _;
-        count = _;
-        goes = inl (h, refl, refl);
-        no_other = λ v r s. elim s [ inl x ↦ (x.1, x.2) | inr x ↦ absurd (omega (arith, x.0, h)) ];
-      }
+  | inl h ↦ record { outcome = _; count = _; goes = inr (h, refl, refl); no_other = λ v r s. grind arith }
+  | inr h ↦ record { outcome = _; count = _; goes = inl (h, refl, refl); no_other = λ v r s. grind arith }
 ]
 step_once u call = record { outcome = _; count = _; goes = (refl, refl); no_other = λ v r s. s }
 
 -- a run of `front` followed by a run of `back` is a run of `front ++ back`
 pub runs_add : RunsAddUp
-runs_add u mid v [] back m n x y =
-    subst (λ k. Run u back v k) (let same : n ≡ m + n = omega (arith, x.1) in same) (subst (λ w. Run w back v n) x.0 y)
+runs_add u mid v [] back m n x y = grind (arith)
 runs_add u mid v (call ∷ front) back m n x y = (x.0, x.1, x.2 + n, x.3, runs_add x.0 mid v front back x.2 n x.4 y, omega (arith, x.5))
 
 pub run_once : (u : List ℕ) (calls : List Build) → RunsOnce u calls
@@ -198,8 +175,7 @@ run_once u (call ∷ calls) =
 
 -- after one more call the bytes that it reserved fit, and those reserved before it do unless it truncates
 pub reserved_more : {u now : List ℕ} {calls : List Build} {call : Build} {capacity larger : ℕ} (n : ℕ) → LeavesReserved u calls capacity
-    → Run u calls now n
-    → (IsNoTruncation call → capacity ≤ larger) → ((m : ℕ) → call ≡ Reserve m → FitWithin now m larger)
+    → Run u calls now n → (IsNoTruncation call → capacity ≤ larger) → ((m : ℕ) → call ≡ Reserve m → FitWithin now m larger)
     → LeavesReserved u (calls ++ call ∷ []) larger
 reserved_more {u} {now} {calls} {call} {capacity} {larger} n f ran grows here front back m v r e none run =
     elim (split_of_push calls call front (Reserve m) back e) [

@@ -1,13 +1,13 @@
 -- The surrogates of a string: in its bytes, at its end, and replaced by U+FFFD.
 use Rattle.wtf8.proofs.Common.{◌≡◌, ◌≤◌, ◌<◌, ◌+◌, ℕ, List, [], ◌∷◌, ◌++◌, length, get_or, refl, ap, ◌∙◌, sym, subst, arith, append_assoc}
-use Rattle.wtf8.proofs.Common.{length-append, true, inl, inr, Option, Some, None, nat_tests, cases_lt, lt-ltb, le-ltb, append-nil}
+use Rattle.wtf8.proofs.Common.{length-append, true, inr, Option, Some, cases_lt, lt-ltb, le-ltb, append-nil}
 use Rattle.wtf8.proofs.Common.{get_or-append-add, IsUtf8, scalar, scalars, IsCodePoint, IsSurrogate, encoding, bytes, IsClean, IsWellFormed}
 use Rattle.wtf8.proofs.Common.{bytes_are_encodes, AreScalar, SurrogateAt, IsLeast, IsFirst, ◌-◌, ◌/◌, ◌%◌, lit≤, lit<, map-append}
 use Rattle.wtf8.proofs.Common.{lossy_points, take, drop, append_cancel_left, take_at, drop_at, low_scalar, replace_surrogate}
 use Rattle.wtf8.proofs.lemmas.codec.Encoding.{length-bytes_append, encoding_three, length-encoding_bounds, encoding_cases, one, two, three}
 use Rattle.wtf8.proofs.lemmas.codec.Encoding.{four, bytes-append, third_row, length-surrogate, bytes-pushed}
 use Rattle.wtf8.proofs.lemmas.codec.Readings.{nil_from_bytes, clean-first, clean-rest, clean-front, clean-back}
-use Rattle.wtf8.proofs.lemmas.codec.Scalars.{surrogate, scalar_value, kind_by_surrogates, replace_surrogate-surrogate, scalar-middle}
+use Rattle.wtf8.proofs.lemmas.codec.Scalars.{kind_by_surrogates, replace_surrogate-surrogate, scalar-middle}
 use Rattle.wtf8.proofs.lemmas.strings.Positions.{split_at, shorter_is_prefix}
 
 -- Surrogates in the bytes and among the code points.
@@ -20,13 +20,8 @@ surrogate_at f p b s =
     let at : (k : ℕ) → get_or (bytes (f ++ p ∷ b)) (length (bytes f) + k) 0 ≡ get_or (encoding p ++ bytes b) k 0 =
     λ k. ap (λ w. get_or w (length (bytes f) + k) 0) whole ∙ get_or-append-add (bytes f) (encoding p ++ bytes b) k 0 in
     record {
-      within = omega (
-        arith,
-        ap length whole,
-        length-append (bytes f) (encoding p ++ bytes b),
-        length-append (encoding p) (bytes b),
-        ap length row,
-      );
+      within = omega
+          (arith, ap length whole, length-append (bytes f) (encoding p ++ bytes b), length-append (encoding p) (bytes b), ap length row);
       first = ap (λ k. get_or (bytes (f ++ p ∷ b)) k 0) (omega arith) ∙ (at 0 ∙ (ap (λ w. get_or (w ++ bytes b) 0 0) row ∙ omega arith));
       second = omega (arith, at 1, ap (λ w. get_or (w ++ bytes b) 1 0) row);
     }
@@ -56,9 +51,7 @@ pub surrogate_in : (c : List ℕ) (i : ℕ) → SurrogateAt (bytes c) i → Surr
 surrogate_in c i s =
     let cut = split_at c i (omega (arith, s.within)) (λ _. record { start = inr (omega (arith, s.first)) }) in
     let whole : bytes c ≡ bytes cut.front ++ bytes cut.back = ap bytes cut.joined ∙ bytes-append cut.front cut.back in
-    let at : (k : ℕ) → get_or (bytes c) (i + k) 0 ≡ get_or (bytes cut.back) k 0 = λ k. ap (λ w. get_or w (i + k) 0) whole
-    ∙ (ap (λ n. get_or (bytes cut.front ++ bytes cut.back) (n + k) 0) (sym cut.front_len)
-    ∙ get_or-append-add (bytes cut.front) (bytes cut.back) k 0) in
+    let at : (k : ℕ) → get_or (bytes c) (i + k) 0 ≡ get_or (bytes cut.back) k 0 = grind (arith, get_or-append-add) in
     let zero_there : i + 0 ≡ i = omega arith in
     let f =
     first_surrogate_in cut.back (omega (arith, s.within, cut.front_len, ap length whole, length-append (bytes cut.front) (bytes cut.back)))
@@ -68,13 +61,8 @@ surrogate_in c i s =
       point = f.point;
       back = f.back;
       joined = cut.joined ∙ (ap (λ b. cut.front ++ b) f.joined ∙ sym (append_assoc cut.front f.front (f.point ∷ f.back)));
-      front_len = omega (
-        arith,
-        ap length (bytes-append cut.front f.front),
-        length-append (bytes cut.front) (bytes f.front),
-        cut.front_len,
-        f.front_len,
-      );
+      front_len = omega
+          (arith, ap length (bytes-append cut.front f.front), length-append (bytes cut.front) (bytes f.front), cut.front_len, f.front_len);
       surrogate = f.surrogate;
     }
 
@@ -85,13 +73,7 @@ none_from_scalar c i s at =
 
 -- scalar values are the characters of a text
 pub scalar_true : (p : ℕ) → IsCodePoint p → ¬ (IsSurrogate p) → scalar p ≡ true
-scalar_true p r n = elim (cases_lt p 0xD800) [
-  | inl h ↦ low_scalar p h
-  | inr h ↦ elim (cases_lt p 0xE000) [
-    | inl k ↦ absurd (n (h, omega arith))
-    | inr k ↦ rw (le-ltb p 0xD800 h, lt-ltb p 0x110000 (omega arith)) (grind (arith, nat_tests))
-  ]
-]
+scalar_true p r n = grind (arith, cases_lt, low_scalar, le-ltb, lt-ltb)
 
 pub scalars_true : (c : List ℕ) → IsClean c → AreScalar c → scalars c ≡ true
 scalars_true [] x s = refl
@@ -105,11 +87,10 @@ pub scalar_between : (f c b : List ℕ)
     → ((j : ℕ) → length (bytes f) ≤ j → j < length (bytes (f ++ c)) → ¬ (SurrogateAt (bytes ((f ++ c) ++ b)) j)) → AreScalar c
 scalar_between f [] b none = tt
 scalar_between f (p ∷ c) b none =
-    let at : (f ++ p ∷ c) ++ b ≡ f ++ p ∷ (c ++ b) = append_assoc f (p ∷ c) b in
     let within : length (bytes f) < length (bytes (f ++ p ∷ c)) = omega (arith, length-bytes_append f p c, length-encoding_bounds p) in
     let more : (f ++ p ∷ []) ++ c ≡ f ++ p ∷ c = append_assoc f (p ∷ []) c in (
       λ s. none (length (bytes f)) (omega arith) within
-          (subst (λ d. SurrogateAt (bytes d) (length (bytes f))) (sym at) (surrogate_at f p (c ++ b) s)),
+          (subst (λ d. SurrogateAt (bytes d) (length (bytes f))) (sym (append_assoc f (p ∷ c) b)) (surrogate_at f p (c ++ b) s)),
       scalar_between (f ++ p ∷ []) c b (λ j l u. subst (λ d. ¬ (SurrogateAt (bytes (d ++ b)) j)) (sym more)
           (none j (omega (arith, l, length-bytes_append f p [])) (omega (arith, u, ap (λ d. length (bytes d)) more)))),
     )
@@ -121,17 +102,11 @@ scalar_from_none f c none = scalar_between f c [] (λ j l _ s. none j l (subst (
 -- a search that does not return `Some` found none
 pub none_found : (w : List ℕ) (from : ℕ) (r : Option ℕ) → IsFirst (SurrogateAt w) from r → ((i : ℕ) → r ≡ Some i → ⊥) → (j : ℕ) → from ≤ j
     → ¬ (SurrogateAt w j)
-none_found w from None f n = f
-none_found w from (Some i) f n = absurd (n i refl)
+none_found w from r f n = grind (arith)
 
 -- the first position from a start on is the first of all if there is none before the start
 pub first_further : (P : ℕ → Type 0) (from : ℕ) (r : Option ℕ) → ((i : ℕ) → i < from → ¬ (P i)) → IsFirst P from r → IsFirst P 0 r
-first_further P from None before f = λ j _. elim (cases_lt j from) [ inl h ↦ before j h | inr h ↦ f j h ]
-first_further P from (Some i) before f = record {
-  not_before = omega arith;
-  here = f.here;
-  none_between = λ j _ u. elim (cases_lt j from) [ inl h ↦ before j h | inr h ↦ f.none_between j h u ];
-}
+first_further P from r before f = grind (arith, cases_lt)
 
 -- the result of the search says whether all code points are scalar values
 pub scalar_if_none : {w : List ℕ} (h : IsWellFormed w) → ((j : ℕ) → 0 ≤ j → ¬ (SurrogateAt w j)) → AreScalar h.points
@@ -194,30 +169,17 @@ lossy_points-append c d = map-append replace_surrogate c d
 
 pub lossy_points-scalar : (c : List ℕ) → AreScalar c → lossy_points c ≡ c
 lossy_points-scalar [] s = refl
-lossy_points-scalar (p ∷ c) s = elim (kind_by_surrogates p) [
-  | surrogate k e ↦ absurd (s.0 k)
-  | scalar_value n e ↦ rw (e, lossy_points-scalar c s.1) refl
-]
+lossy_points-scalar (p ∷ c) s = grind (arith, kind_by_surrogates, lossy_points-scalar c s.1)
 
 -- the length does not change, since a surrogate has three bytes too
 pub length-lossy_points : (c : List ℕ) → length (bytes (lossy_points c)) ≡ length (bytes c)
 length-lossy_points [] = refl
-length-lossy_points (p ∷ c) =
-    let r = length-lossy_points c in
-    let whole = length-append (encoding (replace_surrogate p)) (bytes (lossy_points c)) in
-    let here = length-append (encoding p) (bytes c) in
-    elim (kind_by_surrogates p) [
-      | surrogate k e ↦
-          omega (arith, ap (λ q. length (encoding q)) e, ap length (encoding_three 0xFFFD (lit≤ tt) (lit< tt)), length-surrogate p k)
-      | scalar_value n e ↦ omega (arith, ap (λ q. length (encoding q)) e)
-    ]
+length-lossy_points (p ∷ c) = grind (arith, length-append, kind_by_surrogates, encoding_three, length-surrogate, length-lossy_points c)
 
 pub scalars-lossy_points : (c : List ℕ) → IsClean c → scalars (lossy_points c) ≡ true
 scalars-lossy_points [] x = refl
-scalars-lossy_points (p ∷ c) x = elim (kind_by_surrogates p) [
-  | surrogate k e ↦ rw e (scalars-lossy_points c (clean-rest p c x))
-  | scalar_value n e ↦ rw (e, scalar_true p (clean-first p c x) n) (scalars-lossy_points c (clean-rest p c x))
-]
+scalars-lossy_points (p ∷ c) x =
+    grind (arith, kind_by_surrogates, clean-rest, scalar_true, clean-first, scalars-lossy_points c (clean-rest p c x))
 
 -- the bytes of the lossy list are text
 pub utf8_lossy_points : (c : List ℕ) → IsClean c → IsUtf8 (bytes (lossy_points c))
@@ -246,8 +208,7 @@ pub record AroundSurrogate (w : List ℕ) (front : List ℕ) (found : ℕ) (back
   pub within : found + 3 ≤ length w
 
 pub around_surrogate : (w front : List ℕ) (p : ℕ) (back : List ℕ) (found : ℕ) → w ≡ bytes (front ++ p ∷ back) → length (bytes front) ≡ found
-    → IsSurrogate p
-    → AroundSurrogate w front found back
+    → IsSurrogate p → AroundSurrogate w front found back
 around_surrogate w front p back found e n s =
     let three = length-surrogate p s in
     let whole : w ≡ bytes front ++ (encoding p ++ bytes back) = e ∙ bytes-append front (p ∷ back) in
@@ -256,14 +217,7 @@ around_surrogate w front p back found e n s =
       before = ap (take found) whole ∙ take_at (bytes front) (encoding p ++ bytes back) found n;
       after = ap (drop (found + 3)) other ∙ drop_at (bytes front ++ encoding p) (bytes back) (found + 3)
           (omega (arith, n, three, length-append (bytes front) (encoding p)));
-      within = omega (
-        arith,
-        n,
-        three,
-        ap length whole,
-        length-append (bytes front) (encoding p ++ bytes back),
-        length-append (encoding p) (bytes back),
-      );
+      within = omega (arith, ap length whole, length-append {A = ℕ});
     }
 
 pub record Replaced (c w : List ℕ) (found : ℕ) : Type 0 where

@@ -34,18 +34,7 @@ slice_get-append_at (x ∷ a) b zero e = absurd (omega arith)
 slice_get-append_at (x ∷ a) b (suc n) e = slice_get-append_at a b n (omega arith)
 
 pub undivided_from_cut : {c : List ℕ} {n k : ℕ} → CutsUnits c n k → Undivided c n k
-undivided_from_cut {c} {n} {k} x =
-    let whole : units c ≡ units x.front ++ units x.back = ap units x.joined ∙ units-append x.front x.back in
-    record {
-      front = x.front;
-      back = x.back;
-      joined = x.joined;
-      front_len = x.front_len;
-      within = omega (arith, ap length whole, length-append (units x.front) (units x.back), x.counted);
-      kept = ap (take n) whole ∙ take_at (units x.front) (units x.back) n x.counted;
-      after = ap (drop n) whole ∙ drop_at (units x.front) (units x.back) n x.counted;
-      here = ap (λ u. slice_get u n) whole ∙ slice_get-append_at (units x.front) (units x.back) n x.counted;
-    }
+undivided_from_cut {c} {n} {k} x = grind (arith, units-append, length-append, take_at, drop_at, slice_get-append_at)
 
 -- the cut is inside the pair of `p`
 pub record Divided (c : List ℕ) (n k p : ℕ) : Type 0 where
@@ -151,13 +140,7 @@ lead_kept_units {p} clean d =
 
 -- at a cut between code points the first `n` units are the units before position `k`
 pub front_at : {w : List ℕ} (h : IsWellFormed w) {n k : ℕ} → Undivided h.points n k → IsFront (units h.points) k (take n (units h.points))
-front_at h x = record {
-  front = x.front;
-  back = x.back;
-  splits =
-      record { reads = record { clean = subst IsClean x.joined h.clean; same_units = ap units (sym x.joined) }; front_len = x.front_len };
-  same_units = sym x.kept;
-}
+front_at h x = grind (arith)
 
 -- `Undivided` after `n` units means that no pair is divided there, `Divided` that one is
 pub divides_none : {c : List ℕ} {n k : ℕ} → IsClean c → Undivided c n k → ¬ (DividesPair (units c) n)
@@ -171,8 +154,7 @@ pub divides_some : {c : List ℕ} {n k p : ℕ} → IsClean c → Divided c n k 
 divides_some {p} clean d =
     let range = IsCodePoint-divided clean d in
     meets_by (units d.front) (units d.rest) (lead_of p) (trail_of p) (omega (arith, range, d.large), omega (arith, range, d.large))
-    (omega (arith, range), omega (arith, range))
-    d.kept d.after
+    (omega (arith, range), omega (arith, range)) d.kept d.after
 
 -- `r` divides a pair after `n` units exactly if the whole does there, unless `n` is 0 and a lead ends `f`
 divides_whole : (f r : List ℕ) (n : ℕ) → (take n r ≡ [] → (g : List ℕ) (l : ℕ) → f ≡ g ++ l ∷ [] → ¬ (IsLead l))
@@ -198,10 +180,8 @@ pub divides_after : (u r : List ℕ) (half : Option ℕ) (begin n : ℕ) → beg
     → 0 < length (option_to_list half) + n → n ≤ length r → DividesPair r n ↔ DividesPair u (begin + (length (option_to_list half) + n))
 divides_after u r half begin n in_u e d more in_r =
     let f = take begin u ++ option_to_list half in
-    let whole : f ++ r ≡ u =
-    append_assoc (take begin u) (option_to_list half) r ∙ (ap (λ x. take begin u ++ x) e ∙ take-append-drop begin u) in
-    let long : length f + n ≡ begin + (length (option_to_list half) + n) =
-    omega (arith, length-append (take begin u) (option_to_list half), length-take-le begin u in_u) in
+    let whole : f ++ r ≡ u = grind (arith, append_assoc, take-append-drop) in
+    let long : length f + n ≡ begin + (length (option_to_list half) + n) = grind (arith, length-append, length-take-le) in
     subst (λ k. DividesPair r n ↔ DividesPair u k) long
     (subst (λ w. DividesPair r n ↔ DividesPair w (length f + n)) whole (divides_whole f r n (no_lead_before half e d more)))
   where
@@ -211,8 +191,7 @@ divides_after u r half begin n in_u e d more in_r =
     no_lead_before None e d more none g l q lead = absurd (omega (arith, more, ap length none, length-take-le n r in_r))
     no_lead_before (Some t) e d more none g l q lead =
         let m = d.0 refl in
-        let first : t ≡ m.trail = ap (λ w. get_or w 0 0) (e ∙ m.begins) in
-        omega (arith, first, (same_from_push (take begin u) g t l q).1, lead, m.is_trail)
+        omega (arith, ap (λ w. get_or w 0 0) (e ∙ m.begins), (same_from_push (take begin u) g t l q).1, lead, m.is_trail)
 
 -- Bytes that begin inside a pair or at a code point, and a step of the iterator over units.
 
@@ -238,24 +217,15 @@ first_no_continuation {w = a ∷ r} h = elim ((Begins-first_byte h (omega arith)
 
 -- bytes that begin with no continuation byte hold no trail
 pub held_trail-none : (w : List ℕ) → is_continuation (get_or w 0 0) ≡ false → (held_trail w ≡ []) × (after_held_trail w ≡ w)
-held_trail-none [] e = (refl, refl)
-held_trail-none (a ∷ []) e = (refl, refl)
-held_trail-none (a ∷ b ∷ w) e = (rw e refl, rw e refl)
+held_trail-none w e = grind (arith)
 
 -- bytes that begin inside a pair have both bytes of the trail
 pub held_trail-two_bytes : (w : List ℕ) → IsWellFormed (after_held_trail w) → 0x80 ≤ get_or w 0 0 → get_or w 0 0 < 0xC0 → 1 < length w
-held_trail-two_bytes [] h l g = absurd (omega arith)
-held_trail-two_bytes (a ∷ []) h l g = absurd (elim ((Begins-first_byte h (omega arith)).start) [
-  | inl m ↦ omega arith
-  | inr m ↦ omega arith
-])
-held_trail-two_bytes (a ∷ b ∷ w) h l g = omega arith
+held_trail-two_bytes w h l g = grind (arith, Begins-first_byte)
 
 pub held_trail-some : (w : List ℕ) → 1 < length w → is_continuation (get_or w 0 0) ≡ true
     → (held_trail w ≡ trail_from_bytes (get_or w 0 0) (get_or w 1 0) ∷ []) × (after_held_trail w ≡ drop 2 w)
-held_trail-some [] h e = absurd (omega arith)
-held_trail-some (a ∷ []) h e = absurd (omega arith)
-held_trail-some (a ∷ b ∷ w) h e = (rw e refl, rw e refl)
+held_trail-some w h e = grind (arith)
 
 -- after the first unit of a code point the second, if any, is held
 units-first : (old new points more : List ℕ) (p unit : ℕ) → old ≡ [] → points ≡ p ∷ more → units_of p ≡ unit ∷ new
@@ -303,9 +273,7 @@ steps_lead v at h unit next long g two_on read =
           let rest : drop next v ≡ c ∷ d ∷ b.rest = ap (λ k. drop k v) two_on ∙ (sym (drop-drop 2 at v) ∙ ap (drop 2) whole) in
           let k = held_trail-some (c ∷ d ∷ b.rest) (omega arith) (continuation_range c (omega arith) (omega arith)) in
           let trail : trail_from_bytes c d ≡ trail_of p = omega arith in
-          let held : held_trail (drop next v) ≡ trail_of p ∷ [] = ap held_trail rest ∙ (k.0 ∙ ap (λ t. t ∷ []) trail) in
-          let all : units_of p ≡ unit ∷ held_trail (drop next v) =
-          units_two p l ∙ (ap (λ a. a ∷ trail_of p ∷ []) (sym (read b)) ∙ ap (λ t. unit ∷ t) (sym held)) in
+          let all : units_of p ≡ unit ∷ held_trail (drop next v) = grind (arith, units_two) in
           record {
             within = omega (arith, two_on, ap length whole, length-drop at v);
             after = IsWellFormed-equal_bytes f.1.rest (ap after_held_trail rest
@@ -322,8 +290,7 @@ pub steps_trail : (v : List ℕ) (at : ℕ) (h : IsWellFormed (after_held_trail 
 steps_trail v at h next l g two_on =
     let whole = held_trail-two_bytes (drop at v) h l g in
     let n = held_trail-some (drop at v) whole (continuation_range (get_or (drop at v) 0 0) l g) in
-    let rest : drop next v ≡ drop 2 (drop at v) = ap (λ k. drop k v) two_on ∙ sym (drop-drop 2 at v) in
-    let b = IsWellFormed-equal_bytes h (rest ∙ sym n.1) in
+    let b = IsWellFormed-equal_bytes h ((ap (λ k. drop k v) two_on ∙ sym (drop-drop 2 at v)) ∙ sym n.1) in
     let m = held_trail-none (drop next v) (first_no_continuation b) in
     record {
       within = omega (arith, two_on, whole, length-drop at v);

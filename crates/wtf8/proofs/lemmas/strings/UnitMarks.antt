@@ -3,7 +3,7 @@ use Rattle.wtf8.proofs.Common.{◌≡◌, ◌+◌, ◌<◌, ◌≤◌, ℕ, List
 use Rattle.wtf8.proofs.Common.{length-append, append_assoc, take-append-drop, bytes-injective, units_of, encoding, units, bytes}
 use Rattle.wtf8.proofs.Common.{IsWellFormed, IsForm, UnitCursor, glue, ◌-◌, drop, length-take-le, AreAscii}
 use Rattle.wtf8.proofs.Common.{take_all, length-drop, get_or, IsLead, IsTrail, IsBoundary, IsMiddle, IsFront, inl, inr, cases_lt, take_at}
-use Rattle.wtf8.proofs.Common.{drop_at, drop-append-le, All, IsUnit, MeetsAsPair, get_or-append_seam, DividesPair}
+use Rattle.wtf8.proofs.Common.{drop_at, drop-append-le, All, IsUnit, MeetsAsPair, get_or-append_seam, DividesPair, common_steps}
 use Rattle.std.proofs.lemmas.List.{take-append-le}
 use Rattle.wtf8.specs.PositionLaws.{EqualBoundariesHaveEqualFronts, BoundariesAreInOneOrder, BoundariesDivideNoPair}
 use Rattle.wtf8.specs.UnitMark.{IsMark, EqualCountsAreMarks, MarksStay, MarksDivideNoPair, EqualMarksHaveEqualUnits, MarksAreInOneOrder}
@@ -40,9 +40,7 @@ abbrev pub cut_of : {w u : List ℕ} (h : IsWellFormed w) {k n : ℕ} → IsMark
 cut_of {w} {u} h {k} {n} m =
     let front = m.before.points in
     let back = m.after.points in
-    let whole : bytes (front ++ back) ≡ w =
-    bytes-append front back
-    ∙ (ap (λ v. v ++ bytes back) m.before.encoded ∙ (ap (λ v. take k w ++ v) m.after.encoded ∙ take-append-drop k w)) in
+    let whole : bytes (front ++ back) ≡ w = grind (arith, bytes-append, take-append-drop) in
     record {
       front = front;
       back = back;
@@ -76,12 +74,10 @@ boundary_of_mark h {k} m = let x = cut_of h m in boundary_of h x.front x.back k 
 
 -- a boundary after a mark is a mark, with the units between the two and those before
 pub mark_after : {w : List ℕ} (h : IsWellFormed w) {k n end : ℕ} (v : List ℕ) → IsMark w (units h.points) k n
-    → IsMiddle (units h.points) k end v
-    → IsMark w (units h.points) end (n + length v)
+    → IsMiddle (units h.points) k end v → IsMark w (units h.points) end (n + length v)
 mark_after h {k} v m x =
     let own = cut_of h m in
     let splits = (cut_by h own.front own.back k own.joined own.front_len).splits in
-    let same = (same_splits (units h.points) k own.front own.back x.front (x.middle ++ x.back) splits x.begins).0 in
     mark_at_cut h (record {
       front = x.front ++ x.middle;
       back = x.back;
@@ -91,7 +87,7 @@ mark_after h {k} v m x =
         arith,
         ap length (units-append x.front x.middle),
         length-append (units x.front) (units x.middle),
-        ap (λ f. length (units f)) same,
+        ap (λ f. length (units f)) ((same_splits (units h.points) k own.front own.back x.front (x.middle ++ x.back) splits x.begins).0),
         own.counted,
         ap length x.same_units,
       );
@@ -112,8 +108,7 @@ mark_in_front w x u v k n f g h m =
     let before : IsForm (take k x) (take n u) = subst (IsForm (take k x)) first m.before in
     let rest = one_form (drop n u)
     (all_back (take n u) (drop n u) (subst (All IsUnit) (sym (take-append-drop n u)) (units_read f.points u f.reads))) in
-    let apart : ¬ (MeetsAsPair (take n u) (drop n u)) =
-    λ p. mark_divides_none x (u ++ v) k n g m
+    let apart : ¬ (MeetsAsPair (take n u) (drop n u)) = λ p. mark_divides_none x (u ++ v) k n g m
     (meets_by p.front (p.rest ++ v) p.lead p.trail p.is_lead p.is_trail (first ∙ p.ends) (others ∙ ap (λ d. d ++ v) p.begins)) in
     let both = form_append-unpaired (take k x) rest.one (take n u) (drop n u) before rest.has apart in
     let whole : w ≡ take k x ++ rest.one =
@@ -127,9 +122,8 @@ mark_in_front w x u v k n f g h m =
     }
 
 pub marks_stay_in_front : MarksStayInFront
-marks_stay_in_front w x u k m n g f l h mark =
-    mark_in_front w x (take n u) (drop n u) k m f (subst (IsForm x) (sym (take-append-drop n u)) g) (omega (arith, length-take-le n u h, l))
-    (subst (λ v. IsMark x v k m) (sym (take-append-drop n u)) mark)
+marks_stay_in_front w x u k m n g f l h mark = mark_in_front w x (take n u) (drop n u) k m f (subst (IsForm x) (sym (take-append-drop n u))
+    g) (omega (arith, length-take-le n u h, l)) (subst (λ v. IsMark x v k m) (sym (take-append-drop n u)) mark)
 
 -- the code points between two marks, by bytes and by units
 pub record Between (k l m n : ℕ) : Type 0 where
@@ -145,22 +139,8 @@ between_marks f x y h =
     (sym own.joined ∙ other.joined) (omega (arith, h, own.front_len, other.front_len)) in
     record {
       more = prefix.more;
-      positions = omega (
-        arith,
-        own.front_len,
-        other.front_len,
-        ap (λ c. length (bytes c)) prefix.joined,
-        ap length (bytes-append own.front prefix.more),
-        length-append (bytes own.front) (bytes prefix.more),
-      );
-      counts = omega (
-        arith,
-        own.counted,
-        other.counted,
-        ap (λ c. length (units c)) prefix.joined,
-        ap length (units-append own.front prefix.more),
-        length-append (units own.front) (units prefix.more),
-      );
+      positions = grind (arith, bytes-append, length-append, own.front_len, other.front_len, prefix.joined);
+      counts = grind (arith, units-append, length-append, own.counted, other.counted, prefix.joined);
     }
 
 -- marks have one order by positions and by numbers of units
@@ -204,16 +184,13 @@ abbrev form_about : {u v : List ℕ} {k : ℕ} (b : IsFront u k v) → IsForm (b
 form_about b = record { points = b.front ++ b.back; reads = b.splits.reads; encoded = refl }
 
 pub front_is_first_units : (u v : List ℕ) (k : ℕ) → IsFront u k v → v ≡ take (length v) u
-front_is_first_units u v k b =
-    sym b.same_units ∙ sym (ap (take (length v)) (sym b.splits.reads.same_units ∙ units-append b.front b.back)
-    ∙ take_at (units b.front) (units b.back) (length v) (ap length b.same_units))
+front_is_first_units u v k b = grind (arith, units-append, take_at)
 
 pub boundary_divides_none : BoundariesDivideNoPair
 boundary_divides_none u v k b = mark_divides_none _ u k (length v) (form_about b) (boundary_is_mark _ u v k (form_about b) b)
 
 pub boundaries_in_order : BoundariesAreInOneOrder
-boundaries_in_order u v x k l a b =
-    marks_in_order _ u k l (length v) (length x) (form_about a) (boundary_is_mark _ u v k (form_about a) a)
+boundaries_in_order u v x k l a b = marks_in_order _ u k l (length v) (length x) (form_about a) (boundary_is_mark _ u v k (form_about a) a)
     (boundary_is_mark _ u x l (form_about a) b)
 
 pub same_front : EqualBoundariesHaveEqualFronts
@@ -229,15 +206,11 @@ pub divided_are_surrogates : (u : List ℕ) (n : ℕ) → DividesPair u n
 divided_are_surrogates u n m =
     let inside : n < length u = omega (arith, ap length m.begins, length-drop n u) in
     let front : length (m.front ++ m.lead ∷ []) ≡ n = sym (ap length m.ends) ∙ length-take-le n u (omega (arith, inside)) in
-    let whole : u ≡ (m.front ++ m.lead ∷ []) ++ m.trail ∷ m.rest =
-    sym (take-append-drop n u) ∙ (ap (λ v. v ++ drop n u) m.ends ∙ ap (λ v. (m.front ++ m.lead ∷ []) ++ v) m.begins) in
+    let whole : u ≡ (m.front ++ m.lead ∷ []) ++ m.trail ∷ m.rest = grind (arith, take-append-drop) in
     let before : n - 1 ≡ length m.front = omega (arith, front, length-append m.front (m.lead ∷ [])) in
-    let lead : get_or u (n - 1) 0 ≡ m.lead =
-    ap (λ k. get_or u k 0) before ∙ (ap (λ v. get_or v (length m.front) 0) (whole ∙ append_assoc m.front (m.lead ∷ []) (m.trail ∷ m.rest))
-    ∙ get_or-append_seam m.front m.lead (m.trail ∷ m.rest) 0) in
-    let trail : get_or u n 0 ≡ m.trail =
-    ap (λ k. get_or u k 0) (sym front) ∙ (ap (λ v. get_or v (length (m.front ++ m.lead ∷ [])) 0) whole
-    ∙ get_or-append_seam (m.front ++ m.lead ∷ []) m.trail m.rest 0) in (
+    let lead : get_or u (n - 1) 0 ≡ m.lead = grind (arith, append_assoc, get_or-append_seam) in
+    let trail : get_or u n 0 ≡ m.trail = ap (λ k. get_or u k 0) (sym front)
+    ∙ (ap (λ v. get_or v (length (m.front ++ m.lead ∷ [])) 0) whole ∙ get_or-append_seam (m.front ++ m.lead ∷ []) m.trail m.rest 0) in (
       omega (arith, front, length-append m.front (m.lead ∷ [])),
       inside,
       subst IsLead (sym lead) m.is_lead,
@@ -260,11 +233,7 @@ ascii_from_lengths (p ∷ c) e =
 
 -- a string with equal numbers of bytes and units is ASCII, and its units are its bytes
 pub ascii_same : {w u : List ℕ} → IsForm w u → length w ≡ length u → AreAscii u × (w ≡ u)
-ascii_same {w} {u} f e =
-    let low = ascii_from_lengths f.points (ap length f.encoded ∙ (e ∙ sym (ap length f.reads.same_units))) in
-    let own : f.points ≡ u = sym (units-ascii f.points low) ∙ f.reads.same_units in
-    let ascii = subst AreAscii own low in
-    (ascii, same_form w u u f (IsKnownForm-ascii u ascii).form)
+ascii_same {w} {u} f e = grind (arith, ascii_from_lengths, units-ascii, same_form, IsKnownForm-ascii)
 
 pub equal_counts : EqualCountsAreMarks
 equal_counts w u k f e h =
@@ -293,17 +262,9 @@ pub marks_stay : MarksStay
 marks_stay w x u v k n f g l m =
     let own = cut_of (well_formed_of f) m in
     let more = one_form v (all_back u v (units_read g.points (u ++ v) g.reads)) in
-    let both : IsForm (bytes (glue f.points more.has.points)) (u ++ v) = record {
-      points = glue f.points more.has.points;
-      reads = reads-glue f.points more.has.points u v f.reads more.has.reads;
-      encoded = refl;
-    } in
-    let same = same_form x (bytes (glue f.points more.has.points)) (u ++ v) g both in
+    let both : IsForm (bytes (glue f.points more.has.points)) (u ++ v) = grind (arith, reads-glue) in
     let units_len = ap length (ap units own.joined ∙ units-append own.front own.back) in
-    let nonempty : 0 < length own.back =
-    nonempty_from_units own.back
-    (omega (arith, units_len, length-append (units own.front) (units own.back), own.counted, ap length f.reads.same_units, l)) in
-    let joined : glue f.points more.has.points ≡ own.front ++ glue own.back more.has.points =
-    ap (λ c. glue c more.has.points) own.joined ∙ glue-append_left own.front own.back more.has.points nonempty in
-    subst (λ z. IsMark z (u ++ v) k n) (sym same) (mark_of both
+    let nonempty : 0 < length own.back = grind (arith, nonempty_from_units, length-append) in
+    let joined : glue f.points more.has.points ≡ own.front ++ glue own.back more.has.points = grind (arith, glue-append_left) in
+    subst (λ z. IsMark z (u ++ v) k n) (sym (same_form x (bytes (glue f.points more.has.points)) (u ++ v) g both)) (mark_of both
     (record { front = own.front; back = glue own.back more.has.points; joined = joined; front_len = own.front_len; counted = own.counted }))

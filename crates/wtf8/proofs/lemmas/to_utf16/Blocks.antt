@@ -1,9 +1,9 @@
 -- Blocks of code points of one encoded length, decoded to units.
 use Rattle.wtf8.proofs.Common.{◌≡◌, ℕ, zero, suc, ◌<◌, ◌≤◌, List, [], ◌∷◌, ◌++◌, length, take, drop, get_or, refl, sym, ap, ◌∙◌, arith}
-use Rattle.wtf8.proofs.Common.{IsWellFormed, units, encoding, length-append, units_of, ◌+◌, ◌*◌, ◌%◌, subst, Each1, drop-drop, length-drop}
+use Rattle.wtf8.proofs.Common.{IsWellFormed, units, encoding, length-append, units_of, ◌+◌, ◌*◌, subst, Each1, drop-drop, length-drop}
 use Rattle.wtf8.proofs.Common.{length-take, take-append-drop, get_or_append_left, drop-append-le, FirstPointIs}
 use Rattle.wtf8.proofs.Common.{HasBitPrefix, BeginsWithUnits, unit_of_two, unit_of_three}
-use Rattle.wtf8.proofs.lemmas.codec.Encoding.{encoding_cases, one, two, three, four, length-encoding_bounds, encoding-from_ascii_byte}
+use Rattle.wtf8.proofs.lemmas.codec.Encoding.{encoding_cases, length-encoding_bounds, encoding-from_ascii_byte}
 use native.Mathlib.Nat.{mul-suc}
 use Rattle.wtf8.specs.private.EncodedRuns.{lead_bytes_of, units_of_run}
 use Rattle.wtf8.proofs.lemmas.codec.Readings.{first_of, IsWellFormed-equal_bytes, Taken-from_first, units-cons_one}
@@ -29,47 +29,13 @@ abbrev unit_of_one : List ℕ → ℕ
 unit_of_one w = get_or w 0 0
 
 DecodesRun-one_byte : DecodesRun 1 (HasBitPrefix 128 0) unit_of_one
-DecodesRun-one_byte = record {
-  positive = omega arith;
-  part = λ p r h.
-      let own = encoding-from_ascii_byte p r (omega (arith, h)) in
-      record { width = ap length own.0; read = ap (λ w. unit_of_one (w ++ r)) own.0; one_unit = omega (arith, own.1) };
-  local = λ b r le. get_or_append_left b r 0 0 (omega arith);
-}
+DecodesRun-one_byte = grind (arith, encoding-from_ascii_byte, get_or_append_left)
 
 pub DecodesRun-two_bytes : DecodesRun 2 (HasBitPrefix 32 6) unit_of_two
-DecodesRun-two_bytes = record {
-  positive = omega arith;
-  part = part;
-  local = λ b r le. ap (λ x. x % 32 * 64 + get_or (b ++ r) 1 0 % 64) (get_or_append_left b r 0 0 (omega arith))
-      ∙ ap (λ y. get_or b 0 0 % 32 * 64 + y % 64) (get_or_append_left b r 0 1 (omega arith));
-}
-  where
-    part : (p : ℕ) (r : List ℕ) → HasBitPrefix 32 6 (get_or (encoding p ++ r) 0 0) → DecodesUnit 2 unit_of_two p r
-    part p r h = elim (encoding_cases p) [
-      | one l e ↦ absurd (omega (arith, rw e at h))
-      | two _ l e ↦ record { width = ap length e; read = ap (λ w. unit_of_two (w ++ r)) e ∙ omega arith; one_unit = omega arith }
-      | three l _ e ↦ absurd (omega (arith, rw e at h))
-      | four l e ↦ absurd (omega (arith, rw e at h))
-    ]
+DecodesRun-two_bytes = grind (arith, get_or_append_left, encoding_cases)
 
 pub DecodesRun-three_bytes : DecodesRun 3 (HasBitPrefix 16 14) unit_of_three
-DecodesRun-three_bytes = record {
-  positive = omega arith;
-  part = part;
-  local = λ b r le.
-      ap (λ x. (x % 16 * 64 + get_or (b ++ r) 1 0 % 64) * 64 + get_or (b ++ r) 2 0 % 64) (get_or_append_left b r 0 0 (omega arith))
-      ∙ (ap (λ y. (get_or b 0 0 % 16 * 64 + y % 64) * 64 + get_or (b ++ r) 2 0 % 64) (get_or_append_left b r 0 1 (omega arith))
-      ∙ ap (λ z. (get_or b 0 0 % 16 * 64 + get_or b 1 0 % 64) * 64 + z % 64) (get_or_append_left b r 0 2 (omega arith)));
-}
-  where
-    part : (p : ℕ) (r : List ℕ) → HasBitPrefix 16 14 (get_or (encoding p ++ r) 0 0) → DecodesUnit 3 unit_of_three p r
-    part p r h = elim (encoding_cases p) [
-      | one l e ↦ absurd (omega (arith, rw e at h))
-      | two _ l e ↦ absurd (omega (arith, rw e at h))
-      | three _ l e ↦ record { width = ap length e; read = ap (λ w. unit_of_three (w ++ r)) e ∙ omega arith; one_unit = l }
-      | four l e ↦ absurd (omega (arith, rw e at h))
-    ]
+DecodesRun-three_bytes = grind (arith, get_or_append_left, encoding_cases)
 
 -- the first `k` units, decoded from `n` bytes each, if their lead bytes satisfy `P`
 pub units_then_rest : {P : ℕ → Type 0} (n : ℕ) (f : List ℕ → ℕ) → DecodesRun n P f → (c k at : ℕ) (w b r : List ℕ) (h : IsWellFormed w)
@@ -91,9 +57,8 @@ units_then_rest {P} n f rows (suc c) (suc k) at w b r h e long same le each =
     (IsWellFormed-equal_bytes first.1.rest (ap (λ m. drop m w) (sym part.width))) (ap (drop n) e ∙ drop-append-le n b r fits)
     (omega (arith, long, wide, length-drop n b)) refl (omega (arith, le)) each.1 in
     let further : n * suc k ≡ n + n * k = omega (arith, mul-suc n k) in
-    let end : drop at w ≡ drop (n * k) (drop n w) = ap (λ m. drop m w) (same ∙ further) ∙ sym (drop-drop (n * k) n w) in
     record {
-      rest = IsWellFormed-equal_bytes after.rest end;
+      rest = IsWellFormed-equal_bytes after.rest (ap (λ m. drop m w) (same ∙ further) ∙ sym (drop-drop (n * k) n w));
       whole = ap units first.1.joined ∙ (units-cons_one p first.1.rest.points part.one_unit
           ∙ (ap (λ m. m ∷ units first.1.rest.points) value ∙ ap (λ u. f b ∷ u) after.whole));
     }
@@ -113,14 +78,12 @@ units_of_run-one_byte (suc k) (b ∷ w) e = ap (λ v. b ∷ v) (units_of_run-one
 
 -- the first `count` lanes of a decoded block are the next units if their lead bytes satisfy `P`
 pub begins_with_run : {P : ℕ → Type 0} (n c m : ℕ) (f : List ℕ → ℕ) → DecodesRun n P f
-    → (w : List ℕ) (count : ℕ) (first_byte_lanes block : List ℕ) → n * c ≤ m
-    → m ≤ length w → count ≤ c → first_byte_lanes ≡ lead_bytes_of n c (take m w) → block ≡ units_of_run n f c (take m w)
-    → Each1 P (take count first_byte_lanes)
+    → (w : List ℕ) (count : ℕ) (first_byte_lanes block : List ℕ) → n * c ≤ m → m ≤ length w → count ≤ c
+    → first_byte_lanes ≡ lead_bytes_of n c (take m w) → block ≡ units_of_run n f c (take m w) → Each1 P (take count first_byte_lanes)
     → BeginsWithUnits w (take count block) (n * count)
 begins_with_run {P} n c m f rows w count first_byte_lanes block wide long le e g each h =
-    let after = units_then_rest n f rows c count
-    (n * count) w (take m w) (drop m w) h (sym (take-append-drop m w)) (omega (arith, wide, long, length-take m w)) refl le
-    (subst (λ v. Each1 P (take count v)) e each) in
+    let after = units_then_rest n f rows c count (n * count) w (take m w) (drop m w) h (sym (take-append-drop m w))
+    (omega (arith, wide, long, length-take m w)) refl le (subst (λ v. Each1 P (take count v)) e each) in
     (after.rest, after.whole ∙ ap (λ b. take count b ++ units after.rest.points) (sym g))
 
 -- the same of ASCII: the bytes are their own lead bytes and units

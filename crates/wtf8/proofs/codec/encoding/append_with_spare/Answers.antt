@@ -1,8 +1,6 @@
-use Rattle.wtf8.proofs.Common.{ap, arith, length, number, rules, common_steps}
+use Rattle.wtf8.proofs.Common.{arith, common_steps}
 use Rattle.wtf8.proofs.lemmas.codec.Encoding.{encoding_one}
 use Rattle.wtf8.proofs.codec.encoding.append_with_spare.Goals as goal
 
 pub returns-in_err-reserve_if_short : goal.returns-in_err-reserve_if_short
-returns-in_err-reserve_if_short g c =
-    let one = ap length (encoding_one (number c.args.code_point) (omega arith)) in
-    record { ok = search rules; err = search rules; room = grind (arith, common_steps); capacity = search rules }
+returns-in_err-reserve_if_short g c = grind (arith, common_steps, encoding_one)

@@ -1,4 +1,4 @@
-use Rattle.wtf8.proofs.Common.{◌∙◌}
+use Rattle.wtf8.proofs.Common.{◌∙◌, rules}
 use Rattle.wtf8.proofs.lemmas.comparing.Order.{CommonFront, iff_from_equal, common_front_at_mismatch, bytes_order, rests_order}
 use Rattle.wtf8.proofs.lemmas.strings.Positions.{boundary_of}
 use Rattle.wtf8.proofs.comparing.unit_order.cmp_units_at_mismatch.Goals.{Else-supplementary_begins}
@@ -6,10 +6,7 @@ use Rattle.wtf8.proofs.comparing.unit_order.cmp_units_at_mismatch.Goals as goal
 
 common_front : (c : Else-supplementary_begins)
     → CommonFront c.args.own.well_formed.points c.args.others.well_formed.points c.mismatch-at.result
-common_front c =
-    let h = c.args.own.well_formed in
-    common_front_at_mismatch h c.args.others.well_formed _ c.mismatch-at.ensures _ _ c.supplementary_begins.ensures
-    c.supplementary_begins-2.ensures c.if-supplementary_begins.false
+common_front c = search (rules, common_front_at_mismatch)
 
 pub returns-then-supplementary_begins : goal.returns-then-supplementary_begins
 returns-then-supplementary_begins c =

@@ -1,12 +1,10 @@
-use Rattle.wtf8.proofs.Common.{refl, number}
+use Rattle.wtf8.proofs.Common.{refl, number, arith}
 use Rattle.wtf8.proofs.lemmas.formatting.DebugTexts.{then_written, written_as, escape_surrogate-scalar, escape_surrogate-surrogate}
 use Rattle.wtf8.proofs.formatting.debug_text.write_point.Goals as goal
 
 pub returns-in-Some : goal.returns-in-Some
-returns-in-Some g c = λ flush ok.
-    let scalar = escape_surrogate-scalar c.in-Some.scalar (number c.args.code_point)
-    (λ h. let none = c.in-Some.ensures.none.1 h in cc) c.in-Some.ensures.some in
-    written_as scalar (c.write_char.ensures.styled flush ok)
+returns-in-Some g c =
+    grind (arith, escape_surrogate-scalar, written_as, c.in-Some.ensures.none.1, c.in-Some.ensures.some, c.write_char.ensures.styled)
 
 pub returns-in_ok-write_upper_hex-in-None : goal.returns-in_ok-write_upper_hex-in-None
 returns-in_ok-write_upper_hex-in-None g c = λ flush ok.

@@ -7,15 +7,13 @@ use Rattle.wtf8.proofs.from_utf16.decode.read_point.Goals.{else-unit-le-LAST_LEA
 use Rattle.wtf8.proofs.from_utf16.decode.read_point.Goals as goal
 
 pub returns-then-unit-lt-FIRST_LEAD-clause-reads : goal.returns-then-unit-lt-FIRST_LEAD-clause-reads
-returns-then-unit-lt-FIRST_LEAD-clause-reads c =
-    subst (λ p. Reads (p ∷ []) (take (c.args.at + 1 - c.args.at) (drop c.args.at c.args.v.now))) (sym c.point_of_unit.ensures)
-    (IsFirstRead-unit c.args.v.now c.args.at c.requires (omega (arith, (c.type_inv.v c.args.at).fits))
-    (λ s. omega (arith, s.0, s.1, c.then-unit-lt-FIRST_LEAD.either))).reads
+returns-then-unit-lt-FIRST_LEAD-clause-reads c = subst (λ p. Reads (p ∷ [])
+    (take (c.args.at + 1 - c.args.at) (drop c.args.at c.args.v.now))) (sym c.point_of_unit.ensures) (IsFirstRead-unit c.args.v.now c.args.at
+    c.requires (omega (arith, (c.type_inv.v c.args.at).fits)) (λ s. omega (arith, s.0, s.1, c.then-unit-lt-FIRST_LEAD.either))).reads
 
 pub returns-then-is_trail_unit-clause-reads : goal.returns-then-is_trail_unit-clause-reads
 returns-then-is_trail_unit-clause-reads c = subst (λ p. Reads (p ∷ []) (take (c.args.at + 2 - c.args.at) (drop c.args.at c.args.v.now)))
-    (sym (c.from_char.ensures ∙ c.char_of_pair-character.ensures))
-    (IsFirstRead-pair c.args.v.now c.args.at c.if-at-v.true
+    (sym (c.from_char.ensures ∙ c.char_of_pair-character.ensures)) (IsFirstRead-pair c.args.v.now c.args.at c.if-at-v.true
     (omega (arith, c.if-unit-lt-FIRST_LEAD.false), omega (arith, c.if-unit-le-LAST_LEAD.true)) (c.if-is_trail_unit.ensures.0 refl)).reads
 
 pub returns-clause-reads : goal.returns-clause-reads

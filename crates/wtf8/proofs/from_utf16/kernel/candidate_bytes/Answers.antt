@@ -19,20 +19,16 @@ overflow_cast-above_one c =
 pub overflow_cast-three : goal.overflow_cast-three
 overflow_cast-three c = subst (Each1 _) (sym c.requires.long) (three_byte_flags_fit _ (λ x h. omega (arith, h)) (tagged_block c.args.units))
 
-pub returns-clause-front : goal.returns-clause-front
-returns-clause-front c =
+pub returns : goal.returns
+returns c =
+    let units = tagged_block c.args.units in
     let later = c.args.later in
-    front_lanes (tagged_block c.args.units) c.first_bytes.result later.seconds later.lasts (length-tagged_block c.args.units c.fits-units.0)
-    (first_bytes-tagged c.first_bytes.result c.args.units c.first_bytes.ensures) c.requires.second c.requires.last
-
-pub returns-clause-back : goal.returns-clause-back
-returns-clause-back c =
-    let later = c.args.later in
-    back_lanes (tagged_block c.args.units) c.first_bytes.result later.seconds later.lasts (length-tagged_block c.args.units c.fits-units.0)
-    (first_bytes-tagged c.first_bytes.result c.args.units c.first_bytes.ensures) c.requires.second c.requires.last
-
-pub returns-clause-lengths : goal.returns-clause-lengths
-returns-clause-lengths c =
+    let long = length-tagged_block c.args.units c.fits-units.0 in
+    let first = first_bytes-tagged c.first_bytes.result c.args.units c.first_bytes.ensures in
     let flags = c.flags_from-above_one in
-    mask_l-table_indexes (tagged_block c.args.units) flags.result c.args.later.three_byte_flags
-    (length-tagged_block c.args.units c.fits-units.0) (multi_byte_flags-tagged flags.result c.args.units flags.ensures) c.requires.long
+    let above_one = multi_byte_flags-tagged flags.result c.args.units flags.ensures in
+    record {
+      front = front_lanes units c.first_bytes.result later.seconds later.lasts long first c.requires.second c.requires.last;
+      back = back_lanes units c.first_bytes.result later.seconds later.lasts long first c.requires.second c.requires.last;
+      lengths = mask_l-table_indexes units flags.result later.three_byte_flags long above_one c.requires.long;
+    }

@@ -4,14 +4,7 @@ use Rattle.wtf8.proofs.lemmas.from_utf16.Kernel.{units_table_index_bound, packed
 use Rattle.wtf8.proofs.from_utf16.kernel.pack_eight.Goals as goal
 
 pub pack_four-requires-clause-number : goal.pack_four-requires-clause-number
-pack_four-requires-clause-number c =
-    let units = tagged_block c.args.units in
-    omega (
-      arith,
-      c.candidate_bytes-candidates.ensures.lengths,
-      units_table_index_bound (take 4 units),
-      units_table_index_bound (drop 4 units),
-    )
+pack_four-requires-clause-number c = grind (arith, units_table_index_bound, c.candidate_bytes-candidates.ensures.lengths)
 
 pub returns-clause-bytes : goal.returns-clause-bytes
 returns-clause-bytes c =

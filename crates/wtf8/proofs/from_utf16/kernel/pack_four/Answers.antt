@@ -21,6 +21,5 @@ returns-clause-bytes c before u long lanes number =
     (put_chunk_is len block bytes (omega (arith, c.requires, length-swz_l w8 16 c.args.lanes 0 c.packing_shuffle.result)))
     ∙ take-written_block block bytes _ len c.packed_len.result (omega (arith, c.requires.room))
     (omega (arith, c.packed_len.ensures.most, length-swz_l w8 16 c.args.lanes 0 c.packing_shuffle.result))
-    ∙ ap (λ n. take len block ++ take n bytes) packed
-    ∙ ap (λ w. take len block ++ w)
+    ∙ ap (λ n. take len block ++ take n bytes) packed ∙ ap (λ w. take len block ++ w)
     (swz_l-packed_units c.args.lanes c.packing_shuffle.result before u (omega arith) c.packing_shuffle.ensures.within long lanes row)

@@ -10,8 +10,4 @@ overflow_sub-result-then-units-eq-LEAD_KIND c =
     (omega (arith, packed.ensures.order, c.requires)) (omega (arith, lead), omega (arith, lead)) packed.ensures.bytes).0
 
 pub returns-then-units-eq-LEAD_KIND-clause-bytes : goal.returns-then-units-eq-LEAD_KIND-clause-bytes
-returns-then-units-eq-LEAD_KIND-clause-bytes c =
-    let lead = c.if-units-eq-LEAD_KIND.true in
-    let packed = c.pack_eight-end in
-    (take-without_lead packed.new.block (take c.args.len c.args.block.now) c.args.units packed.result c.fits-units.0
-    (omega (arith, packed.ensures.order, c.requires)) (omega (arith, lead), omega (arith, lead)) packed.ensures.bytes).1
+returns-then-units-eq-LEAD_KIND-clause-bytes c = grind (arith, take-without_lead, c.if-units-eq-LEAD_KIND.true, c.requires)

@@ -1,9 +1,9 @@
 use Rattle.wtf8.proofs.Common.{◌≢◌, false≢true, ◌∙◌, [], append-nil, ap, iter_rest, iter_steps, copied_steps, sym, subst, point_of_item}
-use Rattle.wtf8.proofs.Common.{decode_steps, IsCodePoint, IsSurrogate, MatchResult}
+use Rattle.wtf8.proofs.lemmas.codec.Scalars.{scalar-append}
+use Rattle.wtf8.proofs.Common.{decode_steps, IsCodePoint, IsSurrogate, MatchResult, AreScalar, map-append, ◌∷◌, points_of_items}
 use Rattle.std.specs.Iterator.{Yields}
 use Rattle.std.specs.Iterator.Adapters.{copied_source}
-use Rattle.wtf8.proofs.lemmas.from_utf16.Decoding.{encoded_item, no_item, rest_read, scalar_item}
-use Rattle.wtf8.proofs.from_utf16.transcode.append_rest.Given.{Over}
+use Rattle.wtf8.proofs.lemmas.from_utf16.Decoding.{encoded_item, no_item, rest_read}
 use Rattle.wtf8.proofs.from_utf16.transcode.append_rest.Goals.{In-Some}
 use Rattle.wtf8.proofs.from_utf16.transcode.append_rest.Goals as goal
 
@@ -19,8 +19,9 @@ loop-item-preserved-in-Continue-1 g c =
           (same ∙ sym c.from_char.ensures),
       λ t. (
         (c.loop-item.invariant.1 t).0,
-        scalar_item c.loop-item.yielded c.in-Some.item (c.loop-item.invariant.1 t).1
-            (subst (λ p. ¬ (IsSurrogate p)) (sym same) not_surrogate),
+        (subst AreScalar (sym (map-append point_of_item c.loop-item.yielded (c.in-Some.item ∷ [])))
+            (scalar-append (points_of_items c.loop-item.yielded) (point_of_item c.in-Some.item ∷ []) (c.loop-item.invariant.1 t).1
+            ((subst (λ p. ¬ (IsSurrogate p)) (sym same) not_surrogate), tt))),
       ),
     )
 
@@ -31,16 +32,14 @@ loop-item-preserved g c = (
   λ t. absurd (false≢true t),
 )
 
-some_units : (g : Over) (c : In-Some g) → c.args.v.now ≢ []
+some_units : (g : _) (c : In-Some g) → c.args.v.now ≢ []
 some_units g c =
     let same = c.into_iter-item-iterator.ensures.into_iter_gives in
     let rest = ap (λ s. iter_rest (copied_source s)) c.decode_utf16-item-items.ensures.source ∙ ap iter_rest c.copied.ensures.source
     ∙ c.iter.ensures.rest in
     no_item c.args.v.now c.args.from.at c.loop-item.yielded c.decode_utf16-item-items.result c.loop-item.item-iterator c.next.new.self
-    c.in-Some.item
-    c.decode_utf16-item-items.ensures.peeked rest
-    (subst (λ s. Yields (decode_steps (copied_steps iter_steps)) s c.loop-item.yielded c.loop-item.item-iterator) same
-    c.loop-item.yielded_by) c.in-Some.ensures.steps
+    c.in-Some.item c.decode_utf16-item-items.ensures.peeked rest (subst (λ s. Yields (decode_steps (copied_steps iter_steps)) s
+    c.loop-item.yielded c.loop-item.item-iterator) same c.loop-item.yielded_by) c.in-Some.ensures.steps
 
 pub returns-in_err-append-in-Ok-clause-empty : goal.returns-in_err-append-in-Ok-clause-empty
 returns-in_err-append-in-Ok-clause-empty g c none =

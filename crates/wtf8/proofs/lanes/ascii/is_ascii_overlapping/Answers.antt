@@ -11,6 +11,5 @@ ascii_ends w n some all front back = Each1-from_get_or (λ b. b < 0x80) w 0 (λ 
 ])
 
 pub returns-then-is_ascii_block : goal.returns-then-is_ascii_block
-returns-then-is_ascii_block g c t =
-    ascii_ends c.args.bytes.now g.row.N c.requires.all.0 c.requires.all.1 (c.is_ascii_block.ensures c.if-is_ascii_block.true)
-    (c.is_ascii_block-then-is_ascii_block.ensures t)
+returns-then-is_ascii_block g c t = ascii_ends c.args.bytes.now g.row.N c.requires.all.0 c.requires.all.1
+    (c.is_ascii_block.ensures c.if-is_ascii_block.true) (c.is_ascii_block-then-is_ascii_block.ensures t)

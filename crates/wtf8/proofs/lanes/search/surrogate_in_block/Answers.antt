@@ -4,8 +4,7 @@ use Rattle.wtf8.proofs.lanes.search.surrogate_in_block.Goals as goal
 
 pub overflow_add-result : goal.overflow_add-result
 overflow_add-result c =
-    let first = first_surrogate_at_offset c.args.bytes.now c.args.at c.requires (Some c.in-Some.lane) c.in-Some.ensures in
-    omega (arith, first.1, c.requires)
+    omega (arith, (first_surrogate_at_offset c.args.bytes.now c.args.at c.requires (Some c.in-Some.lane) c.in-Some.ensures).1, c.requires)
 
 pub returns-in-None : goal.returns-in-None
 returns-in-None c = first_surrogate_at_offset c.args.bytes.now c.args.at c.requires None c.in-None.ensures

@@ -1,12 +1,11 @@
 use Rattle.wtf8.proofs.Common.{◌≡◌, ◌++◌, ◌∷◌, [], ◌∙◌, List, ℕ, refl, sym, IsLead, IsTrail}
 use Rattle.wtf8.proofs.lemmas.strings.ExtendedForms.{CompletedPair, CompletedPair-from_lead}
 use Rattle.wtf8.proofs.lemmas.codec.Readings.{MeetsAsPair-equal_lists, same_points}
-use Rattle.wtf8.proofs.strings.concat.push_surrogate.Given.{Over}
 use Rattle.wtf8.proofs.strings.concat.push_surrogate.Goals.{After-from_well_formed-view}
 use Rattle.wtf8.proofs.strings.concat.push_surrogate.Goals as goal
 
 -- the trail completes the lead that ends the view of the bytes
-joined_here : (g : Over) (c : After-from_well_formed-view g) (l t : ℕ) → IsLead l → IsTrail t
+joined_here : (g : _) (c : After-from_well_formed-view g) (l t : ℕ) → IsLead l → IsTrail t
     → (f : List ℕ) × (c.from_well_formed-view.result.well_formed.points ≡ f ++ l ∷ []) → CompletedPair c.args.bytes.now.items l t
 joined_here g c l t lead trail last =
     let view = c.from_well_formed-view in

@@ -15,8 +15,7 @@ loop-found-preserved g c h =
     (replacing_step h.points c.loop-found.bytes.items c.loop-found.from c.in-Some.found (c.loop-found.invariant h) least).next
 
 pub returns : goal.returns
-returns g c h =
-    replacing_end h.points c.loop-found.bytes.items c.loop-found.from (c.loop-found.invariant h)
+returns g c h = replacing_end h.points c.loop-found.bytes.items c.loop-found.from (c.loop-found.invariant h)
     (none_found c.loop-found.bytes.items c.loop-found.from c.next_surrogate.result
     (subst (λ w. IsFirst (SurrogateAt w) c.loop-found.from c.next_surrogate.result) c.deref.ensures.value c.next_surrogate.ensures)
     c.in_default.not-Some)

@@ -11,9 +11,8 @@ returns-clause-written g c =
     let begins = c.requires.begins c.args.left.view.well_formed in
     let after = ap units (c.skip_bytes.ensures.points begins.0) in
     record {
-      units = ap (λ u. u ++ view_units c.skip_bytes.result) (c.store_units.ensures.front c.args.count c.requires.within.0)
-          ∙ (append_assoc old front (view_units c.skip_bytes.result)
-          ∙ (ap (λ u. old ++ (front ++ u)) after ∙ ap (λ u. old ++ u) (sym begins.1)));
+      units = ap (λ u. u ++ view_units c.skip_bytes.result) (c.store_units.ensures.front c.args.count c.requires.within.0) ∙ (append_assoc
+          old front (view_units c.skip_bytes.result) ∙ (ap (λ u. old ++ (front ++ u)) after ∙ ap (λ u. old ++ u) (sym begins.1)));
       same_total = omega (
         arith,
         ap length begins.1,

@@ -1,12 +1,7 @@
-use Rattle.wtf8.proofs.Common.{◌≡◌, ◌↔◌, ℕ, Option, None, Some, IfSome, refl, sym, ◌∙◌, false≢true, number, replace_surrogate, IsSurrogate}
-use Rattle.wtf8.proofs.Common.{IsNone, unwrap_or}
-use Rattle.wtf8.proofs.lemmas.codec.Scalars.{replace_surrogate-surrogate, replace_surrogate-scalar}
+use Rattle.wtf8.proofs.Common.{false≢true, unwrap_or, arith}
+use Rattle.wtf8.proofs.lemmas.codec.Scalars.{replace_surrogate-surrogate, kind_by_surrogates}
 use Rattle.wtf8.proofs.codec.code_point.CodePoint.to_char_lossy.Goals as goal
-
-lossy_value : (r : Option ℕ) (n : ℕ) → IsNone r ↔ IsSurrogate n → IfSome r (λ c. c ≡ n) → unwrap_or r 0xFFFD ≡ replace_surrogate n
-lossy_value None n h e = sym (replace_surrogate-surrogate n (h.0 refl))
-lossy_value (Some c) n h e = e ∙ sym (replace_surrogate-scalar n (λ s. false≢true (sym (h.1 s))))
 
 pub returns-clause-value : goal.returns-clause-value
 returns-clause-value c =
-    c.unwrap_or.ensures ∙ lossy_value c.to_char.result (number c.args.self.now) c.to_char.ensures.none c.to_char.ensures.some
+    grind (arith, replace_surrogate-surrogate, kind_by_surrogates, false≢true, c.unwrap_or.ensures)

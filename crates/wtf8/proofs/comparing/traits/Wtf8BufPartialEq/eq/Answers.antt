@@ -1,4 +1,4 @@
-use Rattle.wtf8.proofs.Common.{rules}
+use Rattle.wtf8.proofs.Common.{rules, arith}
 use Rattle.wtf8.proofs.lemmas.comparing.Order.{equal_points, equal_units}
 use Rattle.wtf8.proofs.comparing.traits.Wtf8BufPartialEq.eq.Goals as goal
 
@@ -9,7 +9,4 @@ pub returns-clause-points : goal.returns-clause-points
 returns-clause-points g c = equal_points _ _ _ c.args.self.now.form.encoded c.args.other.now.form.encoded (returns-clause-bytes g c)
 
 pub returns-clause-units : goal.returns-clause-units
-returns-clause-units g c =
-    let own = c.args.self.now.form in
-    let others = c.args.other.now.form in
-    equal_units _ own.reads others.reads own.encoded others.encoded (returns-clause-bytes g c)
+returns-clause-units g c = grind (arith, equal_units)

@@ -16,8 +16,7 @@ returns-in-Some-clause-steps g c =
       kind = (omega (arith, c.char_of_pair.ensures), λ s. omega (arith, c.char_of_pair.ensures, s));
       after = c.next_if.new.self;
       taken = takes_two steps (units_left c.args.self.now) c.next.new.self c.next_if.new.self unit trail c.char_of_pair.result
-          c.char_of_pair.ensures is_lead is_trail
-          c.in_ok-unit.ensures.steps second;
+          c.char_of_pair.ensures is_lead is_trail c.in_ok-unit.ensures.steps second;
       held = inl refl;
       lone = λ lead. absurd (omega (arith, c.char_of_pair.ensures, lead));
     }
@@ -38,9 +37,8 @@ returns-in-None-clause-steps g c =
 
 pub returns-then-unit-lt-FIRST_LEAD-clause-steps : goal.returns-then-unit-lt-FIRST_LEAD-clause-steps
 returns-then-unit-lt-FIRST_LEAD-clause-steps g c =
-    let unit = c.in_ok-unit.unit in
     let below = c.if-unit-lt-FIRST_LEAD.true in
-    item_of_unit g.I.Iterator.next_gives (units_left c.args.self.now) c.next.new.self unit c.char_or_surrogate.result
+    item_of_unit g.I.Iterator.next_gives (units_left c.args.self.now) c.next.new.self c.in_ok-unit.unit c.char_or_surrogate.result
     c.char_or_surrogate.ensures.kind c.char_or_surrogate.ensures.point (omega (arith, below)) (λ l. omega (arith, below, l.0))
     c.in_ok-unit.ensures.steps
 
@@ -50,5 +48,4 @@ returns-in_default-clause-steps g c =
     let range : unit < 0x10000 = search rules in
     let not_lead : ¬ (IsLead unit) = λ lead. search (rules, lead) in
     item_of_unit g.I.Iterator.next_gives (units_left c.args.self.now) c.next.new.self unit c.char_or_surrogate-in_default.result
-    c.char_or_surrogate-in_default.ensures.kind c.char_or_surrogate-in_default.ensures.point range not_lead
-    c.in_ok-unit.ensures.steps
+    c.char_or_surrogate-in_default.ensures.kind c.char_or_surrogate-in_default.ensures.point range not_lead c.in_ok-unit.ensures.steps

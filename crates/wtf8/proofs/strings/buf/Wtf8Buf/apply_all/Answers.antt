@@ -1,13 +1,12 @@
-use Rattle.wtf8.proofs.Common.{◌≡◌, ◌<◌, ◌+◌, ℕ, List, [], ◌∷◌, ◌++◌, length, get_or, Bool, true, false, cond, Some, refl, ap, ◌∙◌, sym}
-use Rattle.wtf8.proofs.Common.{subst, arith, append_assoc, All, Step, Run, CallsAppend, IsNoTruncation, Build, Reserve, Truncate}
-use Rattle.wtf8.proofs.Common.{TruncateUnits, ◌≤◌, take, drop, inl, inr, false≢true, cases_lt, append-nil, IsForm, EachCallFits, All-nil}
+use Rattle.wtf8.proofs.Common.{◌≡◌, ◌<◌, ◌+◌, ℕ, List, [], ◌∷◌, ◌++◌, length, get_or, Bool, false, cond, Some, refl, ap, ◌∙◌, sym}
+use Rattle.wtf8.proofs.Common.{subst, arith, append_assoc, All, Step, Run, CallsAppend, IsNoTruncation, Build}
+use Rattle.wtf8.proofs.Common.{◌≤◌, take, drop, inl, inr, false≢true, cases_lt, append-nil, IsForm, EachCallFits, All-nil}
 use Rattle.wtf8.proofs.Common.{All-cons, take_all, All-get_or, FitWithin, none-some, LeavesReserved}
 use Rattle.std.proofs.lemmas.Option.{same_Some}
 use Rattle.wtf8.specs.Building.{appended_units, reserved_bytes}
 use Rattle.wtf8.proofs.lemmas.strings.StringLaws.{reserved_more}
 use Rattle.wtf8.proofs.lemmas.strings.Concatenation.{take-cons-drop, take-push}
-use Rattle.wtf8.proofs.lemmas.strings.ExtendedForms.{Found, found_more, CallFits-larger, beginning_of_form}
-use Rattle.wtf8.proofs.strings.buf.Wtf8Buf.apply_all.Given.{Over}
+use Rattle.wtf8.proofs.lemmas.strings.ExtendedForms.{Found, found_more, beginning_of_form}
 use Rattle.wtf8.proofs.strings.buf.Wtf8Buf.apply_all.Goals.{In_default, then-not-kept, else-not-kept}
 use Rattle.wtf8.proofs.strings.buf.Wtf8Buf.apply_all.Goals as goal
 
@@ -15,8 +14,7 @@ use Rattle.wtf8.proofs.strings.buf.Wtf8Buf.apply_all.Goals as goal
 
 -- a run with one more call
 run_more : (u : List ℕ) (calls : List Build) (mid : List ℕ) (n : ℕ) (call : Build) (v : List ℕ) (r : ℕ) → Run u calls mid n
-    → Step mid call v r
-    → Run u (calls ++ call ∷ []) v (n + r)
+    → Step mid call v r → Run u (calls ++ call ∷ []) v (n + r)
 run_more u [] mid n call v r x s = (v, r, 0, subst (λ m. Step m call v r) x.0 s, (refl, refl), omega (arith, x.1))
 run_more u (c ∷ calls) mid n call v r x s = (x.0, x.1, x.2 + r, x.3, run_more x.0 calls mid x.2 call v r x.4 s, omega (arith, x.5))
 
@@ -28,30 +26,16 @@ record Adds (u : List ℕ) (call : Build) (a : List ℕ) : Type 0 where
   only : (v : List ℕ) (r : ℕ) → Step u call v r → v ≡ u ++ a
 
 Adds-from_appended : (u : List ℕ) (call : Build) (a : List ℕ) → appended_units call ≡ Some a → Adds u call a
-Adds-from_appended u (Reserve n) a e = absurd (none-some a e)
-Adds-from_appended u (Truncate k) a e = absurd (none-some a e)
-Adds-from_appended u (TruncateUnits n) a e = absurd (none-some a e)
-Adds-from_appended u call a e =
-    let same : _ ≡ a = same_Some _ a e in
-    record {
-      no_truncation = tt;
-      reserves_none = refl;
-      step = (ap (λ b. u ++ b) (sym same), refl);
-      only = λ v r s. s.0 ∙ ap (λ b. u ++ b) same;
-    }
+Adds-from_appended u call a e = grind (arith, none-some, same_Some)
 
 -- a run of pushes and extensions appends the units of all, and none of them truncates
 run_appends : (u : List ℕ) (calls : List Build) (v : List ℕ) (n : ℕ) (a : List ℕ) → Run u calls v n → CallsAppend calls a → v ≡ u ++ a
 run_appends u [] v n a x e = x.0 ∙ (sym (append-nil u) ∙ ap (λ b. u ++ b) (sym e))
-run_appends u (call ∷ calls) v n a x e =
-    let here = (Adds-from_appended u call e.0 e.2).only x.0 x.1 x.3 in
-    let rest = run_appends x.0 calls v x.2 e.1 x.4 e.3 in
-    rest ∙ (ap (λ m. m ++ e.1) here ∙ (append_assoc u e.0 e.1 ∙ ap (λ b. u ++ b) (sym e.4)))
+run_appends u (call ∷ calls) v n a x e = grind (arith, Adds-from_appended, append_assoc, run_appends x.0 calls v x.2 e.1 x.4 e.3)
 
 none_truncates : (calls : List Build) (a : List ℕ) → CallsAppend calls a → All IsNoTruncation calls
 none_truncates [] a e = All-nil IsNoTruncation
-none_truncates (call ∷ calls) a e =
-    All-cons IsNoTruncation call calls (Adds-from_appended [] call e.0 e.2).no_truncation (none_truncates calls e.1 e.3)
+none_truncates (call ∷ calls) a e = grind (arith, All-cons, Adds-from_appended, none_truncates calls e.1 e.3)
 
 -- if all that they append fits the capacity, each fits
 each_call_fits : (u : List ℕ) (calls : List Build) (a : List ℕ) (capacity : ℕ) → CallsAppend calls a → FitWithin (u ++ a) 0 capacity
@@ -80,17 +64,11 @@ call_among calls i call h e all = subst IsNoTruncation (sym e) (All-get_or IsNoT
 refused-one_more : (kept : Bool) (n : ℕ) → kept ≡ false → n + 1 ≡ n + cond kept 0 1
 refused-one_more kept n e = rw e refl
 
-refused-unchanged : (kept : Bool) (n : ℕ) → kept ≡ true → n ≡ n + cond kept 0 1
-refused-unchanged kept n e = rw e (omega arith)
-
 -- of a list that begins with the calls up to the refused one, not each fits
-no_room : (g : Over) (c : In_default g) (more : List Build) (v : List ℕ)
+no_room : (g : _) (c : In_default g) (more : List Build) (v : List ℕ)
     → ¬ (EachCallFits c.args.self.now.units
     (take c.loop-done.done c.args.calls.now ++ c.index-calls-done.result ∷ more) v c.args.self.now.capacity)
-no_room g c more v whole =
-    let found = c.loop-done.invariant.found in
-    let here = found.rest (c.index-calls-done.result ∷ more) v whole in
-    false≢true (c.in_default.ensures.found here.0 (CallFits-larger here.1 (found.grows (c.index-calls-done.result ∷ more) v whole)))
+no_room g c more v whole = grind (arith, false≢true)
 
 pub loop-done-preserved : goal.loop-done-preserved
 loop-done-preserved g c =
@@ -108,7 +86,7 @@ loop-done-preserved g c =
       | then-not-kept w ↦
           (w.refused-is ∙ refused-one_more c.in-Ok.kept c.loop-done.refused w.if-not-kept.true, omega (arith, w.refused-is, inv.counted))
       | else-not-kept w ↦
-          (w.refused-is ∙ refused-unchanged c.in-Ok.kept c.loop-done.refused w.if-not-kept.false, omega (arith, w.refused-is, inv.counted))
+          (w.refused-is ∙ (rw w.if-not-kept.false (omega arith)), omega (arith, w.refused-is, inv.counted))
     ] in record {
       ran = subst (λ d. Run u d now c.if-not-kept.refused) (sym more)
           (subst (λ n. Run u (take i calls ++ call ∷ []) now n) (sym count.0) run);

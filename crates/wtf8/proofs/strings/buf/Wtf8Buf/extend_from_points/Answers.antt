@@ -1,7 +1,8 @@
 use Rattle.wtf8.proofs.Common.{ℕ, rules, ◌≡◌, ◌+◌, ◌++◌, ◌∷◌, ◌<◌, ◌∙◌, length, take, drop, arith, ap, sym, append_assoc, false≢true}
-use Rattle.wtf8.proofs.Common.{number, numbers, units, units_of}
+use Rattle.wtf8.proofs.lemmas.codec.Readings.{units-append}
+use Rattle.wtf8.proofs.Common.{number, numbers, units, units_of, map-append}
 use Rattle.wtf8.proofs.lemmas.strings.Concatenation.{take-cons-drop}
-use Rattle.wtf8.proofs.lemmas.strings.ExtendedForms.{beginning_of_form, extended_length, units-points}
+use Rattle.wtf8.proofs.lemmas.strings.ExtendedForms.{beginning_of_form, extended_length}
 use Rattle.wtf8.proofs.strings.buf.Wtf8Buf.extend_from_points.Goals as goal
 
 pub returns-in_err-reserve-clause-room : goal.returns-in_err-reserve-clause-room
@@ -16,8 +17,8 @@ returns-in_err-push-clause-room g c fit =
     let p = c.code_point-item.result in
     let below : i < length ps = omega arith in
     let inv = c.loop-code_point.invariant in
-    let all = ap (λ d. units (numbers d)) (sym (take-cons-drop ps i p below c.code_point-item.is))
-    ∙ units-points (take i ps) (p ∷ drop (i + 1) ps) in
+    let all = ap (λ d. units (numbers d)) (sym (take-cons-drop ps i p below c.code_point-item.is)) ∙ (ap units
+    (map-append number (take i ps) (p ∷ drop (i + 1) ps)) ∙ units-append (numbers (take i ps)) (numbers (p ∷ drop (i + 1) ps))) in
     let rest = units (numbers (drop (i + 1) ps)) in
     let whole : c.args.self.now.units ++ units (numbers ps) ≡ c.loop-code_point.self.units ++ (units_of (number p) ++ rest) =
     rw (all, inv.0, append_assoc) in

@@ -8,8 +8,7 @@ from_well_formed-requires-clause-well_formed g c =
     well_formed-equal_text c.utf8.value (c.in_ok-bytes.ensures.items ∙ c.as_bytes.ensures.value)
 
 pub from_well_formed-requires-clause-scalar : goal.from_well_formed-requires-clause-scalar
-from_well_formed-requires-clause-scalar g c h =
-    scalar_all h.points _ (scalar-equal_bytes
+from_well_formed-requires-clause-scalar g c h = scalar_all h.points _ (scalar-equal_bytes
     (well_formed-equal_text c.utf8.value (c.in_ok-bytes.ensures.items ∙ c.as_bytes.ensures.value)) h refl (scalar_text c.utf8.value))
 
 pub returns-clause-units : goal.returns-clause-units
@@ -17,7 +16,5 @@ returns-clause-units g c =
     c.from_well_formed.ensures.units (well_formed-equal_text c.utf8.value (c.in_ok-bytes.ensures.items ∙ c.as_bytes.ensures.value))
 
 pub returns-clause-scalar : goal.returns-clause-scalar
-returns-clause-scalar g c =
-    scalar-equal_bytes (well_formed-equal_text c.utf8.value (c.in_ok-bytes.ensures.items ∙ c.as_bytes.ensures.value))
-    (well_formed_of c.from_well_formed.result.form)
-    c.from_well_formed.ensures.bytes (scalar_text c.utf8.value)
+returns-clause-scalar g c = scalar-equal_bytes (well_formed-equal_text c.utf8.value (c.in_ok-bytes.ensures.items
+    ∙ c.as_bytes.ensures.value)) (well_formed_of c.from_well_formed.result.form) c.from_well_formed.ensures.bytes (scalar_text c.utf8.value)

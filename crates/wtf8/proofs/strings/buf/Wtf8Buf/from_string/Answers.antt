@@ -8,10 +8,9 @@ from_well_formed-requires-clause-well_formed g c =
     well_formed-equal_text (IsUtf8-string_bytes c.args.string) (ap (λ v. v.items) c.into_bytes.ensures.value)
 
 pub from_well_formed-requires-clause-scalar : goal.from_well_formed-requires-clause-scalar
-from_well_formed-requires-clause-scalar g c h =
-    scalar_all h.points _
-    (scalar-equal_bytes (well_formed-equal_text (IsUtf8-string_bytes c.args.string) (ap (λ v. v.items) c.into_bytes.ensures.value)) h refl
-    (scalar_text (IsUtf8-string_bytes c.args.string)))
+from_well_formed-requires-clause-scalar g c h = scalar_all h.points _
+    (scalar-equal_bytes (well_formed-equal_text (IsUtf8-string_bytes c.args.string) (ap (λ v. v.items) c.into_bytes.ensures.value)) h
+    refl (scalar_text (IsUtf8-string_bytes c.args.string)))
 
 pub returns-clause-units : goal.returns-clause-units
 returns-clause-units g c = c.from_well_formed.ensures.units

@@ -1,12 +1,11 @@
-use Rattle.wtf8.proofs.Common.{ap, refl, rules, sym, subst, false≢true, IsUtf8, UnitString}
+use Rattle.wtf8.proofs.Common.{refl, rules, false≢true, arith}
 use Rattle.wtf8.proofs.lemmas.codec.Readings.{well_formed_of}
 use Rattle.wtf8.proofs.lemmas.strings.Surrogates.{scalar_if_none, not_scalar_if_some, utf8_if_none}
 use Rattle.wtf8.proofs.lemmas.strings.StringLaws.{scalar_in_each_reading}
 use Rattle.wtf8.proofs.strings.buf.Wtf8Buf.into_string.Goals as goal
 
 pub from_utf8_unchecked-requires : goal.from_utf8_unchecked-requires
-from_utf8_unchecked-requires g c =
-    subst IsUtf8 (sym (ap (λ (t : UnitString). t.bytes) c.self.view_is)) (utf8_if_none (well_formed_of c.args.self.form) c.in-None.ensures)
+from_utf8_unchecked-requires g c = grind (arith, utf8_if_none, well_formed_of, c.in-None.ensures)
 
 pub returns-in-None : goal.returns-in-None
 returns-in-None g c =

@@ -1,4 +1,4 @@
-use Rattle.wtf8.proofs.Common.{number, refl, ap, on_ok_weaker, ◌∙◌, ◌++◌}
+use Rattle.wtf8.proofs.Common.{number, refl, ap, on_ok_weaker, ◌∙◌, ◌++◌, rules}
 use Rattle.wtf8.proofs.lemmas.strings.ExtendedForms.{units_appended, kept_contents, room_found, utf8_prefix_after_push, point_form}
 use Rattle.wtf8.proofs.lemmas.codec.Readings.{form_of, units_one}
 use Rattle.wtf8.proofs.lemmas.strings.StringLaws.{grows_at_most, room_left}
@@ -8,29 +8,21 @@ pub invariant_of-self-inside : goal.invariant_of-self-inside
 invariant_of-self-inside g c =
     let own = c.self.inside in
     let call = c.push in
-    utf8_prefix_after_push call.result
-    (number c.args.code_point) own.utf8_prefix.len _ own.well_formed c.args.code_point.in_range own.scalar_prefix call.ensures.order
-    call.ensures.scalar call.ensures.extends
+    utf8_prefix_after_push call.result (number c.args.code_point) own.utf8_prefix.len _ own.well_formed c.args.code_point.in_range
+    own.scalar_prefix call.ensures.order call.ensures.scalar call.ensures.extends
 
-pub returns-clause-ok : goal.returns-clause-ok
-returns-clause-ok g c = units_appended _ _ c.self-1.given.0 c.self.view_is refl c.push.ensures.extends
-
-pub returns-clause-kept : goal.returns-clause-kept
-returns-clause-kept g c = kept_contents _ _ _ c.self.view_is refl refl c.push.ensures.extends
-
-pub returns-clause-one_unit : goal.returns-clause-one_unit
-returns-clause-one_unit g c low =
-    on_ok_weaker c.push.result
-    (λ e. e ∙ ap (λ u. c.args.self.now.units ++ u) (units_one (number c.args.code_point) low)) (returns-clause-ok g c)
-
-pub returns-clause-room : goal.returns-clause-room
-returns-clause-room g c = room_found _ _ c.self.view_is refl refl c.push.ensures.extends
-
-pub returns-clause-at_most : goal.returns-clause-at_most
-returns-clause-at_most g c =
-    grows_at_most c.push.result c.args.self.now _ _ (form_of c.self-1.given.0)
-    (point_form (number c.args.code_point) c.args.code_point.in_range) (returns-clause-ok g c)
-
-pub returns-clause-room_left : goal.returns-clause-room_left
-returns-clause-room_left g c h =
-    returns-clause-room g c (room_left c.args.self.now _ _ (point_form (number c.args.code_point) c.args.code_point.in_range) h)
+pub returns : goal.returns
+returns g c =
+    let point = point_form (number c.args.code_point) c.args.code_point.in_range in
+    let ok = units_appended _ _ c.self-1.given.0 c.self.view_is refl c.push.ensures.extends in
+    let room = room_found _ _ c.self.view_is refl refl c.push.ensures.extends in
+    record {
+      ok = ok;
+      kept = kept_contents _ _ _ c.self.view_is refl refl c.push.ensures.extends;
+      one_unit = λ low. on_ok_weaker c.push.result
+          (λ e. e ∙ ap (λ u. c.args.self.now.units ++ u) (units_one (number c.args.code_point) low)) ok;
+      room = room;
+      capacity = search rules;
+      at_most = grows_at_most c.push.result c.args.self.now _ _ (form_of c.self-1.given.0) point ok;
+      room_left = λ h. room (room_left c.args.self.now _ _ point h);
+    }

@@ -1,13 +1,11 @@
-use Rattle.wtf8.proofs.Common.{UnitString, ap, arith, length, length-append, encoding, on_ok_weaker, refl, ExtendsFormOrKeeps, units_of}
-use Rattle.wtf8.proofs.Common.{◌≡◌, ◌∷◌, ◌++◌, []}
+use Rattle.wtf8.proofs.Common.{ap, arith, length-append, on_ok_weaker, refl, ExtendsFormOrKeeps, units_of, ◌++◌}
 use Rattle.wtf8.proofs.lemmas.strings.ExtendedForms.{units_appended, kept_contents, room_found, utf8_prefix_after_push, scalar_facts}
 use Rattle.wtf8.proofs.lemmas.codec.Encoding.{encoding_one}
 use Rattle.wtf8.proofs.lemmas.codec.Readings.{units_one}
-use Rattle.wtf8.proofs.strings.buf.Wtf8Buf.push_char.Given.{Over}
 use Rattle.wtf8.proofs.strings.buf.Wtf8Buf.push_char.Goals.{After-push_char}
 use Rattle.wtf8.proofs.strings.buf.Wtf8Buf.push_char.Goals as goal
 
-push_extends_form : (g : Over) (c : After-push_char g)
+push_extends_form : (g : _) (c : After-push_char g)
     → ExtendsFormOrKeeps c.self.inside.bytes (units_of c.args.c) c.push_char.new.bytes c.push_char.result
 push_extends_form g c = record { whole = _; extends = c.push_char.ensures.units; becomes = c.push_char.ensures.bytes }
 
@@ -16,8 +14,7 @@ invariant_of-self-inside g c =
     let f = scalar_facts c.args.c c.ranges.c.0 in
     let own = c.self.inside in
     utf8_prefix_after_push c.push_char.result c.args.c own.utf8_prefix.len own.utf8_prefix.len own.well_formed f.range own.scalar_prefix
-    (omega arith) (λ _. f.not_surrogate)
-    (record { whole = _; extends = c.push_char.ensures.units; becomes = c.push_char.ensures.bytes })
+    (omega arith) (λ _. f.not_surrogate) (record { whole = _; extends = c.push_char.ensures.units; becomes = c.push_char.ensures.bytes })
 
 pub returns-clause-ok : goal.returns-clause-ok
 returns-clause-ok g c =
@@ -29,29 +26,13 @@ returns-clause-kept g c =
 
 pub returns-clause-one_unit : goal.returns-clause-one_unit
 returns-clause-one_unit g c low =
-    let more : c.args.self.now.units ++ units_of c.args.c ≡ c.args.self.now.units ++ c.args.c ∷ [] =
-    ap (λ u. c.args.self.now.units ++ u) (units_one c.args.c low) in
-    on_ok_weaker c.push_char.result (λ e. cc (e, more)) (returns-clause-ok g c)
+    on_ok_weaker c.push_char.result (λ e. cc (e, ap (λ u. c.args.self.now.units ++ u) (units_one c.args.c low))) (returns-clause-ok g c)
 
 pub returns-clause-room : goal.returns-clause-room
 returns-clause-room g c = room_found _ _ c.self.view_is refl refl (push_extends_form g (goal.at.returns-clause-room g c).After-push_char)
 
 pub returns-clause-ascii_length : goal.returns-clause-ascii_length
-returns-clause-ascii_length g c low =
-    let one = ap length (encoding_one c.args.c low) in
-    let same = ap (λ (t : UnitString). length t.bytes) c.self.view_is in
-    on_ok_weaker c.push_char.result
-    (λ e. omega (arith, ap length e, one, same, length-append c.self.inside.bytes.items (encoding c.args.c))) c.push_char.ensures.bytes.ok
+returns-clause-ascii_length g c low = grind (arith, encoding_one, on_ok_weaker, length-append, c.push_char.ensures.bytes.ok)
 
 pub returns-clause-ascii_room : goal.returns-clause-ascii_room
-returns-clause-ascii_room g c low h =
-    let one = ap length (encoding_one c.args.c low) in
-    c.push_char.ensures.bytes.room
-    (omega (
-      arith,
-      h,
-      one,
-      ap (λ (t : UnitString). length t.bytes) c.self.view_is,
-      ap (λ (t : UnitString). t.capacity) c.self.view_is,
-      length-append c.self.inside.bytes.items (encoding c.args.c),
-    ))
+returns-clause-ascii_room g c low h = grind (arith, encoding_one, length-append, c.push_char.ensures.bytes.room)

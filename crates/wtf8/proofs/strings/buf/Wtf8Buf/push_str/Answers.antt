@@ -3,11 +3,10 @@ use Rattle.wtf8.proofs.lemmas.strings.ExtendedForms.{units_appended, kept_conten
 use Rattle.wtf8.proofs.lemmas.strings.ExtendedForms.{well_formed_text}
 use Rattle.wtf8.proofs.lemmas.strings.StringLaws.{nothing_appended}
 use Rattle.wtf8.proofs.lemmas.codec.Readings.{points-nil}
-use Rattle.wtf8.proofs.strings.buf.Wtf8Buf.push_str.Given.{Over}
 use Rattle.wtf8.proofs.strings.buf.Wtf8Buf.push_str.Goals.{After-push_str}
 use Rattle.wtf8.proofs.strings.buf.Wtf8Buf.push_str.Goals as goal
 
-push_extends_form : (g : Over) (c : After-push_str g)
+push_extends_form : (g : _) (c : After-push_str g)
     → ExtendsFormOrKeeps c.self.inside.bytes (units (chars c.args.other.now)) c.push_str.new.bytes c.push_str.result
 push_extends_form g c = record { whole = _; extends = c.push_str.ensures.units; becomes = c.push_str.ensures.bytes }
 

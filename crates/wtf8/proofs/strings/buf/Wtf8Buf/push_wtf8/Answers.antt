@@ -1,5 +1,5 @@
 use Rattle.wtf8.proofs.Common.{IsForm, ◌++◌, ◌∙◌, subst, sym, append-nil, ap, arith, length, refl, units, view_units, view_form}
-use Rattle.wtf8.proofs.Common.{AreScalarTo}
+use Rattle.wtf8.proofs.Common.{AreScalarTo, rules}
 use Rattle.wtf8.proofs.lemmas.strings.ExtendedForms.{units_appended, kept_contents, room_found, utf8_prefix_after_append}
 use Rattle.wtf8.proofs.lemmas.strings.StringLaws.{grows_at_most, added_length, nothing_appended, room_left}
 use Rattle.wtf8.proofs.lemmas.codec.Readings.{points-nil, form_of, same_points}
@@ -18,32 +18,23 @@ invariant_of-self-inside g c =
     utf8_prefix_after_append c.push_wtf8.result other.points own.utf8_prefix.len _ own.well_formed refl other.clean own.scalar_prefix
     prefix.order prefix.scalar c.push_wtf8.ensures.extends
 
-pub returns-clause-ok : goal.returns-clause-ok
-returns-clause-ok g c = units_appended _ _ c.self-1.given.0 c.self.view_is refl c.push_wtf8.ensures.extends
-
-pub returns-clause-kept : goal.returns-clause-kept
-returns-clause-kept g c = kept_contents _ _ _ c.self.view_is refl refl c.push_wtf8.ensures.extends
-
-pub returns-clause-length : goal.returns-clause-length
-returns-clause-length g c = added_length c.push_wtf8.result _ _ c.args.other (returns-clause-ok g c)
-
-pub returns-clause-room : goal.returns-clause-room
-returns-clause-room g c = room_found _ _ c.self.view_is refl refl c.push_wtf8.ensures.extends
-
-pub returns-clause-empty : goal.returns-clause-empty
-returns-clause-empty g c e =
+pub returns : goal.returns
+returns g c =
     let s = c.args.self.now in
-    let form = subst (IsForm s.bytes) (sym (append-nil s.units) ∙ ap (λ u. s.units ++ u) (sym e)) s.form in
-    returns-clause-room g c (record { whole = s.bytes; form = form; within = omega (arith, s.fits) })
-
-pub returns-clause-at_most : goal.returns-clause-at_most
-returns-clause-at_most g c = grows_at_most c.push_wtf8.result c.args.self.now _ (view_units c.args.other) (form_of c.self-1.given.0)
-    (view_form c.args.other) (returns-clause-ok g c)
-
-pub returns-clause-room_left : goal.returns-clause-room_left
-returns-clause-room_left g c h = returns-clause-room g c (room_left c.args.self.now _ (view_units c.args.other) (view_form c.args.other) h)
-
-pub returns-clause-nothing : goal.returns-clause-nothing
-returns-clause-nothing g c e =
-    nothing_appended c.push_wtf8.result _ _ _ (ap units (points-nil c.args.other.well_formed (ap length e))) (returns-clause-ok g c)
-    (returns-clause-kept g c)
+    let other = c.args.other in
+    let ok = units_appended _ _ c.self-1.given.0 c.self.view_is refl c.push_wtf8.ensures.extends in
+    let kept = kept_contents _ _ _ c.self.view_is refl refl c.push_wtf8.ensures.extends in
+    let room = room_found _ _ c.self.view_is refl refl c.push_wtf8.ensures.extends in
+    record {
+      ok = ok;
+      kept = kept;
+      length = added_length c.push_wtf8.result _ _ other ok;
+      room = room;
+      empty = λ e.
+          let form = subst (IsForm s.bytes) (sym (append-nil s.units) ∙ ap (λ u. s.units ++ u) (sym e)) s.form in
+          room (record { whole = s.bytes; form = form; within = omega (arith, s.fits) });
+      capacity = search rules;
+      at_most = grows_at_most c.push_wtf8.result s _ (view_units other) (form_of c.self-1.given.0) (view_form other) ok;
+      room_left = λ h. room (room_left s _ (view_units other) (view_form other) h);
+      nothing = λ e. nothing_appended c.push_wtf8.result _ _ _ (ap units (points-nil other.well_formed (ap length e))) ok kept;
+    }

@@ -1,6 +1,5 @@
 use Rattle.wtf8.proofs.Common.{◌≡◌, ap, ◌∙◌, arith, take_all, UnitString, units}
 use Rattle.wtf8.proofs.lemmas.codec.Readings.{IsWellFormed-equal_bytes, same_points}
-use Rattle.wtf8.proofs.strings.buf.Wtf8Buf.reserve.Given.{Over}
 use Rattle.wtf8.proofs.strings.buf.Wtf8Buf.reserve.Goals.{After-truncate}
 use Rattle.wtf8.proofs.strings.buf.Wtf8Buf.reserve.Goals as goal
 
@@ -9,14 +8,12 @@ invariant_of-self-inside g c =
     (IsWellFormed-equal_bytes c.self.inside.well_formed c.reserve.ensures.items, (c.self.inside.scalar_prefix, tt))
 
 pub returns-in_err-reserve-clause-units : goal.returns-in_err-reserve-clause-units
-returns-in_err-reserve-clause-units g c =
-    ap units (same_points c.in_err-reserve.self-1-own.given.0 c.self.inside.well_formed c.reserve.ensures.items)
-    ∙ ap (λ (t : UnitString). t.units) c.self.view_is
+returns-in_err-reserve-clause-units g c = ap units (same_points c.in_err-reserve.self-1-own.given.0 c.self.inside.well_formed
+    c.reserve.ensures.items) ∙ ap (λ (t : UnitString). t.units) c.self.view_is
 
 -- the truncation removes nothing
-same_bytes : (g : Over) (c : After-truncate g) → c.truncate.new.self.items ≡ c.self.inside.bytes.items
-same_bytes g c = c.truncate.ensures.items
-    ∙ (take_all _ _ (omega (arith, c.in_ok-reserve.ensures.len, c.len-len.ensures)) ∙ c.in_ok-reserve.ensures.items)
+same_bytes : (g : _) (c : After-truncate g) → c.truncate.new.self.items ≡ c.self.inside.bytes.items
+same_bytes g c = grind (arith, take_all)
 
 pub invariant_of-self-inside-2 : goal.invariant_of-self-inside-2
 invariant_of-self-inside-2 g c = (
@@ -25,6 +22,5 @@ invariant_of-self-inside-2 g c = (
 )
 
 pub returns-clause-units : goal.returns-clause-units
-returns-clause-units g c =
-    ap units (same_points c.self-2-1.given.0 c.self.inside.well_formed (same_bytes g (goal.at.returns-clause-units g c).After-truncate))
-    ∙ ap (λ (t : UnitString). t.units) c.self.view_is
+returns-clause-units g c = ap units (same_points c.self-2-1.given.0 c.self.inside.well_formed
+    (same_bytes g (goal.at.returns-clause-units g c).After-truncate)) ∙ ap (λ (t : UnitString). t.units) c.self.view_is

@@ -7,6 +7,5 @@ invariant_of-self-inside g c =
     (IsWellFormed-equal_bytes c.self.inside.well_formed c.shrink_to_fit.ensures.items, (c.self.inside.scalar_prefix, tt))
 
 pub returns-clause-units : goal.returns-clause-units
-returns-clause-units g c =
-    ap units (same_points c.self-1.given.0 c.self.inside.well_formed c.shrink_to_fit.ensures.items)
+returns-clause-units g c = ap units (same_points c.self-1.given.0 c.self.inside.well_formed c.shrink_to_fit.ensures.items)
     ∙ ap (λ (t : UnitString). t.units) c.self.view_is

@@ -2,11 +2,10 @@ use Rattle.wtf8.proofs.Common.{◌≡◌, ◌∙◌, ap, sym, subst, arith, take
 use Rattle.wtf8.proofs.lemmas.strings.Positions.{cut_at}
 use Rattle.wtf8.proofs.lemmas.codec.Readings.{IsWellFormed-equal_bytes, same_points}
 use Rattle.wtf8.proofs.lemmas.strings.ExtendedForms.{scalar_to-front}
-use Rattle.wtf8.proofs.strings.buf.Wtf8Buf.truncate.Given.{Over}
 use Rattle.wtf8.proofs.strings.buf.Wtf8Buf.truncate.Goals.{After-truncate}
 use Rattle.wtf8.proofs.strings.buf.Wtf8Buf.truncate.Goals as goal
 
-items-truncate : (g : Over) (c : After-truncate g) → c.truncate.new.self.items ≡ take c.args.new_len c.self.inside.bytes.items
+items-truncate : (g : _) (c : After-truncate g) → c.truncate.new.self.items ≡ take c.args.new_len c.self.inside.bytes.items
 items-truncate g c = grind arith
 
 pub invariant_of-self-inside : goal.invariant_of-self-inside

@@ -4,8 +4,7 @@ use Rattle.wtf8.proofs.strings.view.Wtf8.append_hex_dump.Goals as goal
 
 pub loop-at-preserved : goal.loop-at-preserved
 loop-at-preserved g c =
-    let granted : is_ok c.extend_from_slice.result ≡ true =
-    c.extend_from_slice.ensures.succeeds (omega (arith, c.loop-at.invariant.room)) in
+    let granted : is_ok c.extend_from_slice.result ≡ true = grind (arith) in
     let items = rw granted at c.extend_from_slice.ensures.items in
     let len = rw granted at c.extend_from_slice.ensures.len in
     record {

@@ -15,9 +15,8 @@ returns-in-None c =
 pub returns-in-Some : goal.returns-in-Some
 returns-in-Some c =
     let none = not_scalar_if_some c.args.self.now.well_formed c.in-Some.field-0 c.in-Some.ensures in
-    let each = scalar_in_each_reading _ _ (view_form c.args.self.now).reads in
     record {
       some = (λ e. absurd (false≢true e), λ s. absurd (none s));
-      units = (λ e. absurd (false≢true e), λ h. absurd (none (each.1 h)));
+      units = (λ e. absurd (false≢true e), λ h. absurd (none ((scalar_in_each_reading _ _ (view_form c.args.self.now).reads).1 h)));
       bytes = tt;
     }

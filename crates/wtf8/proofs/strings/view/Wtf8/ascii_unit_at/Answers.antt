@@ -3,7 +3,5 @@ use Rattle.wtf8.proofs.lemmas.strings.UnitMarks.{ascii_same}
 use Rattle.wtf8.proofs.strings.view.Wtf8.ascii_unit_at.Goals as goal
 
 pub returns : goal.returns
-returns c =
-    ap (λ u. slice_get u c.args.index) (sym (ascii_same (view_form c.args.self.now) c.requires.ascii).1)
-    ∙ (slice_get-get_or c.args.self.now.bytes.now c.args.index 0 (omega (arith, c.requires.ascii, c.requires.within))
-    ∙ ap Some (sym c.from.ensures))
+returns c = ap (λ u. slice_get u c.args.index) (sym (ascii_same (view_form c.args.self.now) c.requires.ascii).1) ∙ (slice_get-get_or
+    c.args.self.now.bytes.now c.args.index 0 (omega (arith, c.requires.ascii, c.requires.within)) ∙ ap Some (sym c.from.ensures))

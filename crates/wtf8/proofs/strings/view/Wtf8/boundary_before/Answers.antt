@@ -1,5 +1,4 @@
-use Rattle.wtf8.proofs.Common.{◌≡◌, ℕ, ◌<◌, zero, suc, inl, inr, sym, ◌∙◌, arith, subst, false≢true, cases_lt, view_units, view_form}
-use Rattle.wtf8.proofs.Common.{IsBoundary}
+use Rattle.wtf8.proofs.Common.{ℕ, ◌<◌, zero, suc, sym, ◌∙◌, arith, false≢true, cases_lt, view_units, view_form, IsBoundary}
 use Rattle.wtf8.proofs.lemmas.strings.PositionLaws.{start_is_boundary}
 use Rattle.wtf8.proofs.strings.view.Wtf8.boundary_before.Goals as goal
 
@@ -24,12 +23,4 @@ pub loop-boundary-smaller : goal.loop-boundary-smaller
 loop-boundary-smaller c = omega (arith, positive c)
 
 pub loop-boundary-preserved : goal.loop-boundary-preserved
-loop-boundary-preserved c = (
-  omega (arith, c.loop-boundary.invariant.0),
-  λ k b l. elim (cases_lt k c.loop-boundary.boundary) [
-    | inl m ↦ omega (arith, m)
-    | inr m ↦
-        let same : k ≡ c.loop-boundary.boundary = omega (arith, m, c.loop-boundary.invariant.1 k b l) in
-        absurd (no_boundary c (subst (IsBoundary (view_units c.args.self.now)) same b))
-  ],
-)
+loop-boundary-preserved c = grind (arith, cases_lt, no_boundary, c.loop-boundary.invariant.0, c.loop-boundary.invariant.1)

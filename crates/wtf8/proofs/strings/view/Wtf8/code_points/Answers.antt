@@ -1,8 +1,6 @@
-use Rattle.wtf8.proofs.Common.{length, ap, arith}
+use Rattle.wtf8.proofs.Common.{arith}
 use Rattle.wtf8.proofs.lemmas.codec.Readings.{lists_have_lengths}
 use Rattle.wtf8.proofs.strings.view.Wtf8.code_points.Goals as goal
 
 pub returns-clause-fits : goal.returns-clause-fits
-returns-clause-fits c =
-    let s = c.args.self.now.well_formed in
-    let b = lists_have_lengths s.points in omega (arith, ap length s.encoded, ap length c.new.ensures)
+returns-clause-fits c = grind (arith, lists_have_lengths, c.new.ensures)

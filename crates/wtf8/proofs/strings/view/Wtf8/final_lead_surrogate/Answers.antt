@@ -7,8 +7,7 @@ ends_in_lead {w} h f l lead e = ends_in_surrogate w f l (omega arith, omega arit
 
 pub surrogate_after_ed-requires-clause-third : goal.surrogate_after_ed-requires-clause-third
 surrogate_after_ed-requires-clause-third c =
-    let p = last_surrogate c.args.self.now.well_formed (omega arith) (omega arith) (omega arith) in
-    let n = p.ends in omega arith
+    let n = (last_surrogate c.args.self.now.well_formed (omega arith) (omega arith) (omega arith)).ends in omega arith
 
 pub returns-in-237-clause-lead : goal.returns-in-237-clause-lead
 returns-in-237-clause-lead c =

@@ -11,10 +11,8 @@ pub slice-requires-clause-begin_boundary : goal.slice-requires-clause-begin_boun
 slice-requires-clause-begin_boundary c = boundary_of_mark c.args.self.now.well_formed c.requires.mark
 
 pub returns-clause-mark : goal.returns-clause-mark
-returns-clause-mark c =
-    subst (IsMark c.args.self.now.bytes.now (view_units c.args.self.now) c.boundary_before-end.result)
-    (omega (arith, c.unit_len-units.ensures))
-    (mark_after c.args.self.now.well_formed _ c.requires.mark c.slice.ensures.units)
+returns-clause-mark c = subst (IsMark c.args.self.now.bytes.now (view_units c.args.self.now) c.boundary_before-end.result)
+    (omega (arith, c.unit_len-units.ensures)) (mark_after c.args.self.now.well_formed _ c.requires.mark c.slice.ensures.units)
 
 pub returns-clause-after : goal.returns-clause-after
 returns-clause-after c = (

@@ -1,4 +1,4 @@
-use Rattle.wtf8.proofs.Common.{◌∙◌, ap, sym, rules, units, view_units, IsBack}
+use Rattle.wtf8.proofs.Common.{◌∙◌, rules, units, view_units, IsBack, arith}
 use Rattle.wtf8.proofs.lemmas.strings.Positions.{cut_at}
 use Rattle.wtf8.proofs.lemmas.strings.PositionLaws.{front_and_back}
 use Rattle.wtf8.proofs.strings.view.Wtf8.slice_from.Goals as goal
@@ -12,8 +12,7 @@ pub returns : goal.returns
 returns c =
     let cut = cut_at c.args.self.now.well_formed c.args.begin c.requires in
     let points = c.skip_bytes.ensures.points cut.after ∙ cut.after_points in
-    let part : IsBack (view_units c.args.self.now) c.args.begin (view_units c.skip_bytes.result) =
-    record { front = cut.front; back = cut.back; splits = cut.splits; same_units = ap units (sym points) } in
+    let part : IsBack (view_units c.args.self.now) c.args.begin (view_units c.skip_bytes.result) = grind (arith) in
     record {
       units = part;
       bytes = search rules;

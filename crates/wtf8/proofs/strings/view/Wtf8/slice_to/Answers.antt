@@ -1,4 +1,4 @@
-use Rattle.wtf8.proofs.Common.{◌∙◌, ap, sym, rules, units, view_units, IsFront}
+use Rattle.wtf8.proofs.Common.{◌∙◌, rules, units, view_units, IsFront, arith}
 use Rattle.wtf8.proofs.lemmas.strings.Positions.{cut_at}
 use Rattle.wtf8.proofs.lemmas.codec.Readings.{IsWellFormed-equal_bytes}
 use Rattle.wtf8.proofs.lemmas.strings.PositionLaws.{front_and_back}
@@ -15,6 +15,5 @@ pub returns : goal.returns
 returns c =
     let cut = cut_at c.args.self.now.well_formed c.args.end c.requires in
     let points = c.from_well_formed.ensures.points (IsWellFormed-equal_bytes cut.before c.split_at.ensures.front) ∙ cut.before_points in
-    let part : IsFront (view_units c.args.self.now) c.args.end (view_units c.from_well_formed.result) =
-    record { front = cut.front; back = cut.back; splits = cut.splits; same_units = ap units (sym points) } in
+    let part : IsFront (view_units c.args.self.now) c.args.end (view_units c.from_well_formed.result) = grind (arith) in
     record { units = part; bytes = search rules; whole = λ back h. front_and_back (view_units c.args.self.now) _ back c.args.end part h }

@@ -22,5 +22,4 @@ skip_bytes-requires c =
 pub returns-clause-some : goal.returns-clause-some
 returns-clause-some c =
     let parts = split_at_first_surrogate c.args.self.well_formed c.in-Some.position c.in-Some.ensures in
-    let text = c.from_utf8_unchecked-text.ensures ∙ c.split_at.ensures.front in
-    parts.lossy_parts ∙ simp (text, c.skip_bytes.ensures.points parts.rest)
+    parts.lossy_parts ∙ simp (c.from_utf8_unchecked-text.ensures ∙ c.split_at.ensures.front, c.skip_bytes.ensures.points parts.rest)

@@ -16,6 +16,5 @@ skip_bytes-requires c =
 pub returns-clause-some : goal.returns-clause-some
 returns-clause-some c =
     let t = Taken-from_first c.args.self.bytes.now 0 c.args.self.well_formed (number c.read-width.result.0) c.read-width.result.1
-    (grind (arith, nat_tests))
-    c.read-width.ensures in
+    (grind (arith, nat_tests)) c.read-width.ensures in
     t.joined ∙ ap (λ r. number c.read-width.result.0 ∷ r) (sym (c.skip_bytes.ensures.points t.rest))

@@ -1,12 +1,10 @@
-use Rattle.wtf8.proofs.Common.{ap, sym, ◌∙◌, subst, refl, IsUtf8, bytes, length}
+use Rattle.wtf8.proofs.Common.{ap, sym, ◌∙◌, subst, IsUtf8, length, arith}
 use Rattle.wtf8.proofs.lemmas.strings.Surrogates.{utf8_lossy_points, lossy_points-scalar, length-lossy_points}
 use Rattle.wtf8.proofs.lemmas.codec.Readings.{IsWellFormed-equal_bytes}
 use Rattle.wtf8.proofs.strings.view.Wtf8.to_string_lossy.Goals as goal
 
 pub returns-in-Some-clause-text : goal.returns-in-Some-clause-text
-returns-in-Some-clause-text g c =
-    let h = c.args.self.now.well_formed in
-    c.in-Some.ensures.bytes ∙ (sym h.encoded ∙ ap bytes (sym (lossy_points-scalar h.points (c.in-Some.ensures.some.0 refl))))
+returns-in-Some-clause-text g c = grind (arith, lossy_points-scalar, c.in-Some.ensures.bytes, c.in-Some.ensures.some.0)
 
 pub from_utf8_unchecked-requires : goal.from_utf8_unchecked-requires
 from_utf8_unchecked-requires g c =
@@ -15,8 +13,7 @@ from_utf8_unchecked-requires g c =
     (utf8_lossy_points h.points h.clean)
 
 pub returns-clause-text : goal.returns-clause-text
-returns-clause-text g c =
-    ap (λ v. v.items) c.from_utf8_unchecked.ensures.value
+returns-clause-text g c = ap (λ v. v.items) c.from_utf8_unchecked.ensures.value
     ∙ c.replace_surrogates.ensures (IsWellFormed-equal_bytes c.args.self.now.well_formed c.in_ok-bytes.ensures.items)
 
 pub returns-in-Some-clause-len : goal.returns-in-Some-clause-len
@@ -25,6 +22,5 @@ returns-in-Some-clause-len g c = ap length c.in-Some.ensures.bytes
 pub returns-clause-len : goal.returns-clause-len
 returns-clause-len g c =
     let h = c.args.self.now.well_formed in
-    ap (λ v. length v.items) c.from_utf8_unchecked.ensures.value
-    ∙ (ap length (c.replace_surrogates.ensures (IsWellFormed-equal_bytes h c.in_ok-bytes.ensures.items))
-    ∙ (length-lossy_points h.points ∙ ap length h.encoded))
+    ap (λ v. length v.items) c.from_utf8_unchecked.ensures.value ∙ (ap length (c.replace_surrogates.ensures
+    (IsWellFormed-equal_bytes h c.in_ok-bytes.ensures.items)) ∙ (length-lossy_points h.points ∙ ap length h.encoded))
