@@ -25,13 +25,14 @@ pub front_of_mark : (u v : List ℕ) (k m n : ℕ) → u ≡ v → m ≡ n → I
 front_of_mark u v k m n e units b same =
     subst (λ w. IsFront w k (take n w)) e (subst (λ i. IsFront u k (take i u)) units (front_of_boundary u (take m u) k b same))
 
--- if no mark is missing, a mark before the kept mark of index `low` has at most `(low + 1) * spacing` units
-pub units_before_next : MarksAreInOneOrder → (w u : List ℕ) (marks : List UnitMark) → IsForm w u → AreKept w u marks
+-- if no mark is missing, a mark at or before `position` has at most `spacing + 1` units more than the kept mark of index
+-- `low - 1`, if the next kept mark is after `position`
+pub kept_mark_before_is_close : MarksAreInOneOrder → (w u : List ℕ) (marks : List UnitMark) → IsForm w u → AreKept w u marks
     → AreEnough w u (length marks) → length w ≢ length u
-    → (low position : ℕ) (d : UnitMark) → low ≤ length marks
-    → (low < length marks → position < (get_or marks low d).position)
-    → (k n : ℕ) → IsMark w u k n → k ≤ position → n ≤ (low + 1) * spacing
-units_before_next order w u marks f kept enough not_ascii low position d within next k n mark l =
+    → (low position at : ℕ) (d : UnitMark) → low ≤ length marks
+    → (low < length marks → position < (get_or marks low d).position) → low * spacing ≤ at + 1
+    → (k n : ℕ) → IsMark w u k n → k ≤ position → n ≤ at + spacing + 1
+kept_mark_before_is_close order w u marks f kept enough not_ascii low position at d within next near k n mark l =
     let before_next : low < length marks → n ≤ (low + 1) * spacing = λ h.
     let own = kept low d h in
     let other = get_or marks low d in
@@ -40,7 +41,7 @@ units_before_next order w u marks f kept enough not_ascii low position d within 
     omega (arith, fewer, own.at_most) in
     let last : (low + 1) * spacing < length u → low + 1 ≤ length marks = enough not_ascii (low + 1) in
     let all = mark.units_within in
-    grind (arith, before_next, last, all, within)
+    grind (arith, before_next, last, all, within, near)
 
 module _ (equal : EqualCountsAreMarks) (cut : MarksStayInFront) (same : EqualFormsHaveEqualUnits) where
   -- the first units of a string with as many bytes as units have as many bytes as units
