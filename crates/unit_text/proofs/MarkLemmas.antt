@@ -33,10 +33,7 @@ module _ (stay : MarksStay) (old : UnitString) (new : Wtf8) (v : List ℕ) (e : 
 -- a mark at `n` units, or one unit before if `n` divides a pair, is kept if `n` is below the number of units
 pub IsKept-mark_at : (w u : List ℕ) (mark : UnitMark) (n : ℕ) → IsMark w u mark.position mark.units → RoundsDownTo u n mark.units
     → n < length u → IsKept w u n mark
-IsKept-mark_at w u mark n m (inl e) h =
-    record { is_mark = m; at_most = omega (arith, e); at_least = omega (arith, e); before_last = omega (arith, e, h) }
-IsKept-mark_at w u mark n m (inr e) h =
-    record { is_mark = m; at_most = omega (arith, e.0); at_least = omega (arith, e.0); before_last = omega (arith, e.0, h) }
+IsKept-mark_at w u mark n m last h = grind arith
 
 -- kept marks with the next kept mark appended are kept
 pub AreKept-push : (w u : List ℕ) (marks : List UnitMark) (mark : UnitMark) (n : ℕ) → length marks ≡ n → AreKept w u marks
@@ -55,21 +52,3 @@ pub chosen_mark_is_close : (w u : List ℕ) (marks : List UnitMark) (units at nu
 chosen_mark_is_close w u marks units at number enough not_ascii h e near =
     let next : (number + 1) * spacing < length u → number + 1 ≤ length marks = enough not_ascii (number + 1) in
     grind (arith, next, e, h, near)
-
--- the unit at index `n` is the first of the units from there on
-slice_get-as_first : (u : List ℕ) (n : ℕ) → slice_get u n ≡ slice_get (drop n u) 0
-slice_get-as_first [] zero = refl
-slice_get-as_first [] (suc n) = refl
-slice_get-as_first (x ∷ u) zero = refl
-slice_get-as_first (x ∷ u) (suc n) = slice_get-as_first u n
-
--- if two lists are equal from `n` and from `m` on, their units there are equal
-pub slice_get-equal_drops : (u v : List ℕ) (n m : ℕ) → drop n u ≡ drop m v → slice_get u n ≡ slice_get v m
-slice_get-equal_drops u v n m e = slice_get-as_first u n ∙ (ap (λ w. slice_get w 0) e ∙ sym (slice_get-as_first v m))
-
--- if two lists are equal from `n` and from `m` on, their slices of `k` units there are equal
-pub slice-equal_drops : (u v : List ℕ) (n m k : ℕ) → drop n u ≡ drop m v → drop n (take (n + k) u) ≡ take k (drop m v)
-slice-equal_drops u v n m k e = drop-take n k u ∙ ap (take k) e
-
-pub slice_within : (u v : List ℕ) (n m k : ℕ) → drop n u ≡ drop m v → n ≤ length u → m + k ≤ length v → n + k ≤ length u
-slice_within u v n m k e h l = omega (arith, ap length e, length-drop n u, length-drop m v, h, l)

@@ -13,18 +13,6 @@ use Rattle.wtf8.specs.declared.strings.view.Wtf8.{Wtf8}
 use Rattle.wtf8.specs.declared.strings.unit_marks.UnitMark.{UnitMark}
 use Rattle.unit_text.specs.Marks.{AreEnough, AreKept, AreMarks, IsKept, spacing}
 
--- the units before a boundary with `v` before it are `v`
-front_of_boundary : (u v : List ℕ) (k : ℕ) → IsBoundary u k → ((x : List ℕ) → IsFront u k x → x ≡ v) → IsFront u k v
-front_of_boundary u v k b same =
-    let front : IsFront u k (units b.front) = record { front = b.front; back = b.back; splits = b.splits; same_units = refl } in
-    subst (IsFront u k) (same (units b.front) front) front
-
--- the units before a mark, also in another list that is the same
-pub front_of_mark : (u v : List ℕ) (k m n : ℕ) → u ≡ v → m ≡ n → IsBoundary u k → ((x : List ℕ) → IsFront u k x → x ≡ take m u)
-    → IsFront v k (take n v)
-front_of_mark u v k m n e units b same =
-    subst (λ w. IsFront w k (take n w)) e (subst (λ i. IsFront u k (take i u)) units (front_of_boundary u (take m u) k b same))
-
 -- if no mark is missing, a mark at or before `position` has at most `spacing + 1` units more than the kept mark of index
 -- `low - 1`, if the next kept mark is after `position`
 pub kept_mark_before_is_close : MarksAreInOneOrder → (w u : List ℕ) (marks : List UnitMark) → IsForm w u → AreKept w u marks

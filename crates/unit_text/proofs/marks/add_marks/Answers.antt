@@ -43,6 +43,3 @@ returns-clause-marks g c =
       all = λ granted not_ascii n h. let enough = c.needed_mark_count-number-end.ensures.all not_ascii n h in
           omega (arith, enough, i.counted);
     }
-
-pub returns-clause-room : goal.returns-clause-room
-returns-clause-room g c = λ _. refl

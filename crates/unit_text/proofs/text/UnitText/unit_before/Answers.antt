@@ -1,7 +1,6 @@
-use Rattle.std.proofs.Common.{◌≡◌, refl, sym, ap, ◌∙◌, subst, arith, length-take-le, length}
+use Rattle.std.proofs.Common.{◌≡◌, refl, sym, ap, ◌∙◌, subst, arith, rules, length-take-le, length}
 use Rattle.wtf8.specs.Position.{IsBoundary, IsFront}
 use Rattle.wtf8.specs.View.{view_units, view_form}
-use Rattle.unit_text.proofs.PositionLemmas.{front_of_mark}
 use Rattle.unit_text.proofs.text.UnitText.unit_before.Goals as goal
 
 pub returns-clause-before : goal.returns-clause-before
@@ -13,8 +12,7 @@ returns-clause-before g c =
     record {
       boundary = mark.position;
       within = omega (arith, found.mark.units_within, ap length same);
-      front = front_of_mark (view_units view) c.args.self.now mark.position mark.units mark.units same refl c.law_mark.ensures.boundary
-          c.law_mark.ensures.front;
+      front = search rules;
       at_or_before = omega (arith, found.before, c.min.ensures);
       last = λ m b l.
           let own = subst (λ u. IsBoundary u m) (sym same) b in
