@@ -16,12 +16,11 @@ use Rattle.unit_text.specs.Marks.{AreEnough, AreKept, AreMarks, IsKept, spacing}
 module _ (stay : MarksStay) (old : UnitString) (new : Wtf8) (v : List ℕ) (e : view_units new ≡ old.units ++ v) where
   IsKept-append : (n : ℕ) (mark : UnitMark) → IsKept old.bytes old.units n mark → IsKept new.bytes.now (view_units new) n mark
   IsKept-append n mark k = record {
-    is_mark = subst (λ u. IsMark new.bytes.now u mark.position mark.units) (sym e)
-        (stay old.bytes new.bytes.now old.units v mark.position mark.units old.form
-        (subst (IsForm new.bytes.now) e (view_form new)) k.before_last k.is_mark);
+    is_mark = rw e (stay old.bytes new.bytes.now old.units v mark.position mark.units old.form (rw e at (view_form new)) k.before_last
+        k.is_mark);
     at_most = k.at_most;
     at_least = k.at_least;
-    before_last = omega (arith, k.before_last, ap length e, length-append old.units v);
+    before_last = omega (arith, ap length e, length-append old.units v);
   }
 
   pub AreKept-append : {X : Type 0} (kept : Option X) (items : X → List UnitMark) (is_incomplete : X → Bool)
@@ -40,10 +39,8 @@ pub AreKept-push : (w u : List ℕ) (marks : List UnitMark) (mark : UnitMark) (n
     → IsKept w u ((n + 1) * spacing) mark
     → AreKept w u (marks ++ mark ∷ [])
 AreKept-push w u marks mark n e old new = λ k d l. below_more (λ j. IsKept w u ((j + 1) * spacing) (get_or (marks ++ mark ∷ []) j d)) n
-    (λ j m. subst (IsKept w u ((j + 1) * spacing)) (sym (get_or_append_left marks (mark ∷ []) d j (omega (arith, m, e))))
-    (old j d (omega (arith, m, e))))
-    (subst (IsKept w u ((n + 1) * spacing)) (sym (get_or_push marks mark d n e)) new) k
-    (omega (arith, l, length-append marks (mark ∷ []), e))
+    (λ j m. rw (get_or_append_left marks (mark ∷ []) d j (omega arith)) (old j d (omega arith)))
+    (rw (get_or_push marks mark d n e) new) k (omega (arith, length-append marks (mark ∷ [])))
 
 -- if no mark is missing, the mark that is chosen for `units` is at most `spacing + 1` units before it
 pub chosen_mark_is_close : (w u : List ℕ) (marks : List UnitMark) (units at number : ℕ) → AreEnough w u (length marks)
@@ -51,4 +48,4 @@ pub chosen_mark_is_close : (w u : List ℕ) (marks : List UnitMark) (units at nu
     → units ≤ length u → number ≡ min (length marks) (units / spacing) → number * spacing ≤ at + 1 → units ≤ at + spacing + 1
 chosen_mark_is_close w u marks units at number enough not_ascii h e near =
     let next : (number + 1) * spacing < length u → number + 1 ≤ length marks = enough not_ascii (number + 1) in
-    grind (arith, next, e, h, near)
+    grind arith

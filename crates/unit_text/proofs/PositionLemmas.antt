@@ -25,8 +25,8 @@ kept_mark_before_is_close order w u marks f kept enough not_ascii low position a
     let own = kept low d h in
     let other = get_or marks low d in
     let after = next h in
-    let fewer = (order w u k other.position n other.units f mark own.is_mark).0 (omega (arith, after, l)) in
-    omega (arith, fewer, own.at_most) in
+    let fewer = (order w u k other.position n other.units f mark own.is_mark).0 (omega arith) in
+    omega (arith, own.at_most) in
     let last : (low + 1) * spacing < length u → low + 1 ≤ length marks = enough not_ascii (low + 1) in
     let all = mark.units_within in
     grind (arith, before_next, last, all, within, near)
@@ -36,9 +36,9 @@ module _ (equal : EqualCountsAreMarks) (cut : MarksStayInFront) (same : EqualFor
   equal_counts_of_front : (x w u : List ℕ) (n : ℕ) → IsForm x u → IsForm w (take n u) → n ≤ length u → length x ≡ length u
       → length w ≡ length (take n u)
   equal_counts_of_front x w u n f g within e =
-      let mark = equal x u n f e (omega (arith, e, within)) in
+      let mark = equal x u n f e (omega arith) in
       let front : w ≡ take n x = (same w (take n x) (take n u) (take n u) g mark.before).1 refl in
-      ap length front ∙ (length-take-le n x (omega (arith, e, within)) ∙ sym (length-take-le n u within))
+      ap length front ∙ (length-take-le n x (omega arith) ∙ sym (length-take-le n u within))
 
   -- the kept marks before the last unit of a text that became shorter are its marks
   AreMarks-truncate : (old : UnitString) (new : Wtf8) (n : ℕ) → n ≤ length old.units → view_units new ≡ take n old.units
@@ -47,28 +47,25 @@ module _ (equal : EqualCountsAreMarks) (cut : MarksStayInFront) (same : EqualFor
       → AreMarks new.bytes.now (view_units new) (take ((n - 1) / spacing) marks) is_incomplete
   AreMarks-truncate old new n within e marks is_incomplete m =
       let count = (n - 1) / spacing in
-      let form : IsForm new.bytes.now (take n old.units) = subst (IsForm new.bytes.now) e (view_form new) in
+      let form : IsForm new.bytes.now (take n old.units) = rw e at (view_form new) in
       let long : length (view_units new) ≡ n = ap length e ∙ length-take-le n old.units within in
+      let fewer = length-take count marks in
       record {
         kept = λ k d l.
-            let fewer = length-take count marks in
-            let before : k < count = omega (arith, fewer, l) in
-            let own = m.kept k d (omega (arith, fewer, l)) in
+            let own = m.kept k d (omega arith) in
             let mark = get_or marks k d in
-            let units_before : mark.units < n = omega (arith, own.at_most, before) in
-            subst (IsKept new.bytes.now (view_units new) ((k + 1) * spacing)) (sym (get_or-take count marks k d before)) (record {
-              is_mark = subst (λ u. IsMark new.bytes.now u mark.position mark.units) (sym e)
-                  (cut new.bytes.now old.bytes old.units mark.position mark.units n old.form form
-                  (omega (arith, units_before)) within own.is_mark);
+            rw (get_or-take count marks k d (omega arith)) (record {
+              is_mark = rw e (cut new.bytes.now old.bytes old.units mark.position mark.units n old.form form (omega (arith, own.at_most))
+                  within own.is_mark);
               at_most = own.at_most;
               at_least = own.at_least;
-              before_last = omega (arith, units_before, long);
+              before_last = omega (arith, own.at_most);
             });
         all = λ granted not_ascii number l.
             let old_not_ascii : length old.bytes ≢ length old.units =
             λ s. not_ascii (equal_counts_of_front old.bytes new.bytes.now old.units n old.form form within s ∙ sym (ap length e)) in
-            let enough = m.all granted old_not_ascii number (omega (arith, l, long, within)) in
-            omega (arith, length-take count marks, enough, l, long);
+            let enough = m.all granted old_not_ascii number (omega arith) in
+            omega arith;
       }
 
   pub AreMarks-truncated : {X : Type 0} (kept : Option X) (items : X → List UnitMark) (is_incomplete : X → Bool) (old : UnitString)
