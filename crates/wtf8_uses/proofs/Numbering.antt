@@ -18,9 +18,6 @@ slice_get-push [] x (suc k) y e = grind (arith, common_steps, e)
 slice_get-push (z ∷ xs) x zero y e = inl e
 slice_get-push (z ∷ xs) x (suc k) y e = elim (slice_get-push xs x k y e) [ inl l ↦ inl l | inr r ↦ inr (ap suc r.0, r.1) ]
 
-slice_get-same : (us : List (List ℕ)) (k : ℕ) (u v : List ℕ) → slice_get us k ≡ Some u → slice_get us k ≡ Some v → u ≡ v
-slice_get-same us k u v a b = cc
-
 -- If `v` is in the lists, its index is below `head`, and the list at index `head - 1` has the hash of `v`.
 pub record IsReached (lists : List (List ℕ)) (v : List ℕ) (head : ℕ) : Type 0 where
   pub within : head ≤ length lists
@@ -32,18 +29,6 @@ pub AreNumbered-equal_lists : {S : Type 0} {m : HashMap ℕ ℕ S} {b c : List �
     → AreNumbered m c vs
 AreNumbered-equal_lists {m = m} {c = c} {us = us} old e f = subst (AreNumbered m c) f (subst (λ x. AreNumbered m x us) e old)
 
--- if the list at index `head - 1` is not `v`, the search goes on at the next one in its chain
-pub IsReached-next : (us : List (List ℕ)) (u v : List ℕ) (k head e : ℕ) → k + 1 ≡ head → IsReached us v head → slice_get us k ≡ Some u
-    → (u ≡ v → ⊥)
-    → IsChainHead us (hash_of u) k e → IsReached us v e
-IsReached-next us u v k head e is r at differ o =
-    let hash = r.last k u is at in record {
-      within = omega (arith, o.within, r.within, is);
-      before = λ j there. o.before j v (lt_of_le-ne (omega (arith, r.before j there, is))
-          (λ same. differ (slice_get-same us k u v at (subst (λ i. slice_get us i ≡ Some v) same there)))) there (sym hash);
-      last = λ j w e there. o.last j w e there ∙ hash;
-    }
-
 -- the list at index `k`, and the head of its hash's chain in the lists before it
 pub next_in_chain-is_head : {S : Type 0} {m : HashMap ℕ ℕ S} {nexts : List ℕ} {us : List (List ℕ)} → AreNumbered m nexts us → (k e : ℕ)
     → k < length us
@@ -51,13 +36,6 @@ pub next_in_chain-is_head : {S : Type 0} {m : HashMap ℕ ℕ S} {nexts : List �
 next_in_chain-is_head {nexts = nexts} {us = us} old k e within is =
     let at = slice_get-get_or us k [] within in
     (slice_index_or us k [], at, old.nexts_are k e _ at (slice_get_read nexts (length us) k e (sym old.lengths) within is))
-
--- a list occurs at one index only
-pub number_of_list-unique : {S : Type 0} {m : HashMap ℕ ℕ S} {nexts : List ℕ} {us : List (List ℕ)} → AreNumbered m nexts us
-    → (k : ℕ) (v : List ℕ)
-    → slice_get us k ≡ Some v → (n : ℕ) → (Some k ≡ Some n) ↔ (slice_get us n ≡ Some v)
-number_of_list-unique {us = us} old k v at n =
-    (λ e. subst (λ j. slice_get us j ≡ Some v) (same_Some k n e) at, λ there. ap Some (old.distinct k n v at there))
 
 module _ (us : List (List ℕ)) (v : List ℕ) where
   abbrev more : List (List ℕ)
