@@ -13,10 +13,9 @@ loop-index-preserved g c =
     let index = c.loop-index.index in (
       next_index unread_units _ _ _ index c.args.text.now c.next.ensures.steps i.0,
       elim c.if-occurs_next.branch [
-        | then-occurs_next w ↦ subst (IsLastBelow occurs (index + 1)) (sym w.found-is)
-            (IsLastBelow-here occurs index
+        | then-occurs_next w ↦ rw w.found-is (IsLastBelow-here occurs index
             (record { within = omega arith; there = rw (← i.0) (c.occurs_next.ensures.0 w.if-occurs_next.true) }))
-        | else-occurs_next w ↦ subst (IsLastBelow occurs (index + 1)) (sym w.found-is) (IsLastBelow-absent occurs index _ i.1
+        | else-occurs_next w ↦ rw w.found-is (IsLastBelow-absent occurs index _ i.1
             (λ s. false≢true (sym w.if-occurs_next.false ∙ c.occurs_next.ensures.1 (rw i.0 s.there))))
       ],
     )
