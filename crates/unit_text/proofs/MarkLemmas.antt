@@ -1,10 +1,7 @@
 -- Marks that stay valid when units are appended, and the units after a mark.
-use Rattle.std.proofs.Common.{◌≡◌, ℕ, zero, suc, ◌+◌, ◌<◌, ◌≤◌, List, [], ◌∷◌, ◌++◌, length, take, drop, refl, sym, ap, ◌∙◌, subst, arith}
-use Rattle.std.proofs.Common.{length-append, length-drop, ◌≢◌, ◌*◌, ◌/◌, Bool, min, get_or, below_more, Option, Some, None, IfSome}
-use Rattle.std.proofs.Common.{inl, inr}
-use Rattle.std.proofs.lemmas.List.{drop-take, get_or_append_left, get_or_push}
-use Rattle.std.specs.List.{slice_get}
-use Rattle.wtf8.specs.Form.{IsForm}
+use Rattle.std.proofs.Common.{◌≡◌, ℕ, ◌+◌, ◌<◌, ◌≤◌, List, [], ◌∷◌, ◌++◌, length, ap, arith}
+use Rattle.std.proofs.Common.{length-append, ◌≢◌, ◌*◌, ◌/◌, Bool, min, get_or, below_more, Option, Some, None, IfSome}
+use Rattle.std.proofs.lemmas.List.{get_or_append_left, get_or_push}
 use Rattle.wtf8.specs.UnitMark.{IsMark, RoundsDownTo, MarksStay}
 use Rattle.wtf8.specs.UnitString.{UnitString}
 use Rattle.wtf8.specs.View.{view_units, view_form}
@@ -36,15 +33,13 @@ IsKept-mark_at w u mark n m last h = grind arith
 
 -- kept marks with the next kept mark appended are kept
 pub AreKept-push : (w u : List ℕ) (marks : List UnitMark) (mark : UnitMark) (n : ℕ) → length marks ≡ n → AreKept w u marks
-    → IsKept w u ((n + 1) * spacing) mark
-    → AreKept w u (marks ++ mark ∷ [])
+    → IsKept w u ((n + 1) * spacing) mark → AreKept w u (marks ++ mark ∷ [])
 AreKept-push w u marks mark n e old new = λ k d l. below_more (λ j. IsKept w u ((j + 1) * spacing) (get_or (marks ++ mark ∷ []) j d)) n
     (λ j m. rw (get_or_append_left marks (mark ∷ []) d j (omega arith)) (old j d (omega arith)))
     (rw (get_or_push marks mark d n e) new) k (omega (arith, length-append marks (mark ∷ [])))
 
 -- if no mark is missing, the mark that is chosen for `units` is at most `spacing + 1` units before it
-pub chosen_mark_is_close : (w u : List ℕ) (marks : List UnitMark) (units at number : ℕ) → AreEnough w u (length marks)
-    → length w ≢ length u
+pub chosen_mark_is_close : (w u : List ℕ) (marks : List UnitMark) (units at number : ℕ) → AreEnough w u (length marks) → length w ≢ length u
     → units ≤ length u → number ≡ min (length marks) (units / spacing) → number * spacing ≤ at + 1 → units ≤ at + spacing + 1
 chosen_mark_is_close w u marks units at number enough not_ascii h e near =
     let next : (number + 1) * spacing < length u → number + 1 ≤ length marks = enough not_ascii (number + 1) in

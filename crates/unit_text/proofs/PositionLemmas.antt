@@ -1,23 +1,20 @@
 -- Marks of a text that became shorter, and the units before the position of a mark.
-use Rattle.std.proofs.Common.{◌≡◌, ◌≢◌, ℕ, ◌+◌, ◌-◌, ◌*◌, ◌/◌, ◌<◌, ◌≤◌, List, length, take, refl, sym, ap, ◌∙◌, subst, arith, Bool}
+use Rattle.std.proofs.Common.{◌≡◌, ◌≢◌, ℕ, ◌+◌, ◌-◌, ◌*◌, ◌/◌, ◌<◌, ◌≤◌, List, length, take, refl, sym, ap, ◌∙◌, arith, Bool}
 use Rattle.std.proofs.Common.{Option, Some, None, IfSome, get_or}
 use Rattle.std.proofs.lemmas.List.{length-take, length-take-le, get_or-take}
 use Rattle.wtf8.specs.Form.{IsForm}
 use Rattle.wtf8.specs.Laws.{EqualFormsHaveEqualUnits}
-use Rattle.wtf8.specs.Position.{IsBoundary, IsFront}
-use Rattle.wtf8.specs.Unicode.{units}
 use Rattle.wtf8.specs.UnitMark.{IsMark, EqualCountsAreMarks, MarksStayInFront, MarksAreInOneOrder}
 use Rattle.wtf8.specs.UnitString.{UnitString}
 use Rattle.wtf8.specs.View.{view_units, view_form}
 use Rattle.wtf8.specs.declared.strings.view.Wtf8.{Wtf8}
 use Rattle.wtf8.specs.declared.strings.unit_marks.UnitMark.{UnitMark}
-use Rattle.unit_text.specs.Marks.{AreEnough, AreKept, AreMarks, IsKept, spacing}
+use Rattle.unit_text.specs.Marks.{AreEnough, AreKept, AreMarks, spacing}
 
 -- if no mark is missing, a mark at or before `position` has at most `spacing + 1` units more than the kept mark of index
 -- `low - 1`, if the next kept mark is after `position`
 pub kept_mark_before_is_close : MarksAreInOneOrder → (w u : List ℕ) (marks : List UnitMark) → IsForm w u → AreKept w u marks
-    → AreEnough w u (length marks) → length w ≢ length u
-    → (low position at : ℕ) (d : UnitMark) → low ≤ length marks
+    → AreEnough w u (length marks) → length w ≢ length u → (low position at : ℕ) (d : UnitMark) → low ≤ length marks
     → (low < length marks → position < (get_or marks low d).position) → low * spacing ≤ at + 1
     → (k n : ℕ) → IsMark w u k n → k ≤ position → n ≤ at + spacing + 1
 kept_mark_before_is_close order w u marks f kept enough not_ascii low position at d within next near k n mark l =
@@ -42,8 +39,7 @@ module _ (equal : EqualCountsAreMarks) (cut : MarksStayInFront) (same : EqualFor
 
   -- the kept marks before the last unit of a text that became shorter are its marks
   AreMarks-truncate : (old : UnitString) (new : Wtf8) (n : ℕ) → n ≤ length old.units → view_units new ≡ take n old.units
-      → (marks : List UnitMark) (is_incomplete : Bool)
-      → AreMarks old.bytes old.units marks is_incomplete
+      → (marks : List UnitMark) (is_incomplete : Bool) → AreMarks old.bytes old.units marks is_incomplete
       → AreMarks new.bytes.now (view_units new) (take ((n - 1) / spacing) marks) is_incomplete
   AreMarks-truncate old new n within e marks is_incomplete m =
       let count = (n - 1) / spacing in

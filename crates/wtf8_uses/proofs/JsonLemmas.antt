@@ -1,10 +1,10 @@
 -- JSON text that is appended, and code points that it does not escape.
-use Rattle.std.proofs.Common.{◌≡◌, ◌≢◌, ℕ, ◌≤◌, List, [], ◌++◌, refl, sym, ap, ◌∙◌, append_assoc, append-nil, arith}
+use Rattle.std.proofs.Common.{◌≡◌, ◌≢◌, ℕ, ◌≤◌, refl, ◌∙◌, arith}
 use Rattle.std.proofs.lemmas.Bool.Decides.{nat_tests}
 use Rattle.std.specs.Char.{encode_utf8}
 use Rattle.wtf8.specs.Form.{encoding}
 use Rattle.wtf8.specs.Unicode.{IsSurrogate}
-use Rattle.wtf8_uses.specs.Json.{Continues, json_point}
+use Rattle.wtf8_uses.specs.Json.{json_point}
 
 same_bytes : (p : ℕ) → encoding p ≡ encode_utf8 p
 unfolding encoding encode_utf8

@@ -1,11 +1,10 @@
 -- The chains of numbered lists after one more list is numbered.
-use Rattle.std.proofs.Common.{◌≡◌, ℕ, zero, suc, ◌+◌, ◌<◌, ◌≤◌, ◌↔◌, ◌⊎◌, inl, inr, Bool, true, false, cond, eqb, List, [], ◌∷◌, ◌++◌}
+use Rattle.std.proofs.Common.{◌≡◌, ℕ, zero, suc, ◌+◌, ◌<◌, ◌≤◌, ◌⊎◌, inl, inr, Bool, true, false, cond, eqb, List, [], ◌∷◌, ◌++◌}
 use Rattle.std.proofs.Common.{length, slice_get, slice_index_or, Some, refl, sym, ap, subst, ◌∙◌, arith}
-use Rattle.std.proofs.Math.Arith.{lt_of_le-ne}
 use Rattle.std.proofs.lemmas.Bool.Decides.{nat_tests}
 use Rattle.std.proofs.lemmas.Grind.{common_steps}
 use Rattle.std.proofs.lemmas.List.{length-append, map-append}
-use Rattle.std.proofs.lemmas.Option.{same_Some, slice_get-get_or, slice_get_read, slice_get_within}
+use Rattle.std.proofs.lemmas.Option.{slice_get-get_or, slice_get_read, slice_get_within}
 use Rattle.std.specs.HashMap.{HashMap, get}
 use Rattle.std.specs.Prelude.{unwrap_or, nat_eq}
 use Rattle.wtf8.specs.UnitString.{UnitString}
@@ -31,8 +30,7 @@ AreNumbered-equal_lists {m = m} {c = c} {us = us} old e f = subst (AreNumbered m
 
 -- the list at index `k`, and the head of its hash's chain in the lists before it
 pub next_in_chain-is_head : {S : Type 0} {m : HashMap ℕ ℕ S} {nexts : List ℕ} {us : List (List ℕ)} → AreNumbered m nexts us → (k e : ℕ)
-    → k < length us
-    → e ≡ slice_index_or nexts k e → (u : List ℕ) × (slice_get us k ≡ Some u) × IsChainHead us (hash_of u) k e
+    → k < length us → e ≡ slice_index_or nexts k e → (u : List ℕ) × (slice_get us k ≡ Some u) × IsChainHead us (hash_of u) k e
 next_in_chain-is_head {nexts = nexts} {us = us} old k e within is =
     let at = slice_get-get_or us k [] within in
     (slice_index_or us k [], at, old.nexts_are k e _ at (slice_get_read nexts (length us) k e (sym old.lengths) within is))
@@ -115,8 +113,7 @@ module _ (us : List (List ℕ)) (v : List ℕ) where
 
 -- `units_of_strings` after a push
 pub units_of_strings-push : (old mid new : List UnitString) (s : UnitString) {us : List (List ℕ)} {v : List ℕ}
-    → new ≡ mid ++ s ∷ [] → mid ≡ old
-    → units_of_strings old ≡ us → s.units ≡ v → units_of_strings new ≡ us ++ v ∷ []
+    → new ≡ mid ++ s ∷ [] → mid ≡ old → units_of_strings old ≡ us → s.units ≡ v → units_of_strings new ≡ us ++ v ∷ []
 units_of_strings-push old mid new s {us} e f g h =
     ap units_of_strings (e ∙ ap (λ z. z ++ s ∷ []) f)
     ∙ (map-append (λ x. x.units) old (s ∷ []) ∙ (ap (λ z. z ++ s.units ∷ []) g ∙ ap (λ w. us ++ w ∷ []) h))

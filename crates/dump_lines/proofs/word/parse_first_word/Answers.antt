@@ -1,6 +1,5 @@
-use Rattle.std.proofs.Common.{take, sym, ◌∙◌, arith, rules, length-take-le, Option, None, Some, IfSome, IfNone, MatchOption}
+use Rattle.std.proofs.Common.{take, sym, ◌∙◌, arith, rules, length-take-le}
 use Rattle.std.proofs.lemmas.List.{take_rest, get_or-take}
-use Rattle.dump_lines.specs.Word.{IsCall, IsNoCall}
 use Rattle.dump_lines.proofs.Digits.{point_of-no_space}
 use Rattle.dump_lines.proofs.Splitting.{slice_split-at_separator, slice_split-no_separator}
 use Rattle.dump_lines.proofs.word.parse_first_word.Goals as goal

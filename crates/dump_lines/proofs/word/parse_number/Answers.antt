@@ -8,14 +8,20 @@ returns-then-digit-base c = sym (bounded_number-none _ _ _ _ _ c.loop-byte-test.
 pub overflow_mul-number : goal.overflow_mul-number
 overflow_mul-number c =
     let i = c.loop-byte.invariant in
-    omega (arith, next_below _ _ _ _ _ c.loop-byte-test.true (omega arith) c.digit_of-digit.ensures c.args.most c.requires.least_base
-        (omega arith) i.spelled i.digits)
+    omega (
+      arith,
+      next_below _ _ _ _ _ c.loop-byte-test.true (omega arith) c.digit_of-digit.ensures c.args.most c.requires.least_base
+          (omega arith) i.spelled i.digits,
+    )
 
 pub overflow_add-number : goal.overflow_add-number
 overflow_add-number c =
     let i = c.loop-byte.invariant in
-    omega (arith, next_below _ _ _ _ _ c.loop-byte-test.true (omega arith) c.digit_of-digit.ensures c.args.most c.requires.least_base
-        (omega arith) i.spelled i.digits)
+    omega (
+      arith,
+      next_below _ _ _ _ _ c.loop-byte-test.true (omega arith) c.digit_of-digit.ensures c.args.most c.requires.least_base
+          (omega arith) i.spelled i.digits,
+    )
 
 pub loop-byte-preserved : goal.loop-byte-preserved
 loop-byte-preserved c =

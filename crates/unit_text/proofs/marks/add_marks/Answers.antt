@@ -1,9 +1,8 @@
-use Rattle.std.proofs.Common.{◌+◌, ◌*◌, ◌<◌, [], ◌∷◌, length, length-append, ap, refl, sym, subst, arith, ◌≤◌}
+use Rattle.std.proofs.Common.{◌+◌, ◌*◌, ◌<◌, length, length-append, ap, arith, ◌≤◌}
 use Rattle.std.proofs.lemmas.Bool.{false≢true}
 use Rattle.std.specs.Prelude.{vec_capacity}
 use Rattle.wtf8.specs.View.{view_units}
 use Rattle.wtf8.specs.declared.strings.unit_marks.UnitMark.{UnitMark}
-use Rattle.unit_text.specs.Marks.{AreKept}
 use Rattle.unit_text.proofs.MarkLemmas.{IsKept-mark_at, AreKept-push}
 use Rattle.unit_text.proofs.marks.add_marks.Goals as goal
 

@@ -1,7 +1,6 @@
-use Rattle.std.proofs.Common.{◌≡◌, ◌-◌, length, sym, subst, arith}
-use Rattle.wtf8.specs.Form.{bytes}
+use Rattle.std.proofs.Common.{◌≡◌, ◌-◌, arith}
 use Rattle.wtf8.specs.View.{view_points}
-use Rattle.wtf8_uses.specs.JsonString.{BeginsWithCharacters, IsCause, IsMalformedAt}
+use Rattle.wtf8_uses.specs.JsonString.{BeginsWithCharacters, IsMalformedAt}
 use Rattle.wtf8_uses.proofs.JsonReaderLemmas.{characters_more, front_counted, front_follows, front_more, front_of_characters, no_string}
 use Rattle.wtf8_uses.proofs.json_reader.read_json_string.Goals as goal
 
@@ -9,12 +8,10 @@ pub returns-in_default-clause-none : goal.returns-in_default-clause-none
 returns-in_default-clause-none g c = λ _ u after s. c.in_default.ensures.none s.start s.opened
 
 pub loop-point-init : goal.loop-point-init
-loop-point-init g c =
-    rw c.new-string.ensures.units (BeginsWithCharacters.none (view_points c.in-Some.start))
+loop-point-init g c = rw c.new-string.ensures.units (BeginsWithCharacters.none (view_points c.in-Some.start))
 
 pub loop-point-preserved : goal.loop-point-preserved
-loop-point-preserved g c =
-    rw c.in-Ok.ensures.ok (characters_more c.loop-point.invariant c.in-Some-first_character.ensures.some)
+loop-point-preserved g c = rw c.in-Ok.ensures.ok (characters_more c.loop-point.invariant c.in-Some-first_character.ensures.some)
 
 pub overflow_sub-result : goal.overflow_sub-result
 overflow_sub-result g c =

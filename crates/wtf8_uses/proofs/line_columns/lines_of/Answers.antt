@@ -1,7 +1,7 @@
-use Rattle.std.proofs.Common.{◌≡◌, ◌≢◌, ◌+◌, ◌++◌, map, sym, ap, ◌∙◌, subst, arith}
+use Rattle.std.proofs.Common.{◌≡◌, ◌≢◌, ◌+◌, ◌++◌, map, ap, ◌∙◌, arith}
 use Rattle.wtf8.specs.Units.{unread_units}
 use Rattle.wtf8.specs.View.{view_units}
-use Rattle.wtf8_uses.specs.LineColumns.{AreMarksOf, StartsAtFront, line_starts, mark_units, starts_after}
+use Rattle.wtf8_uses.specs.LineColumns.{line_starts, mark_units, starts_after}
 use Rattle.wtf8_uses.proofs.LineLemmas.{next_unread, next_within, starts_more, starts_same, marks_more, first_more}
 use Rattle.wtf8_uses.proofs.line_columns.lines_of.Goals as goal
 

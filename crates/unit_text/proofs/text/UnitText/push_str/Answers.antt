@@ -1,7 +1,6 @@
 use Rattle.std.proofs.Common.{◌∙◌, ap}
 use Rattle.std.specs.Str.{chars}
 use Rattle.wtf8.specs.Unicode.{units}
-use Rattle.wtf8.specs.View.{view_points}
 use Rattle.unit_text.proofs.text.UnitText.push_str.Goals as goal
 
 pub returns-clause-empty : goal.returns-clause-empty

@@ -1,4 +1,4 @@
-use Rattle.std.proofs.Common.{◌≡◌, refl, sym, ap, ◌∙◌, subst, arith, rules, length-take-le, length}
+use Rattle.std.proofs.Common.{◌≡◌, sym, ap, ◌∙◌, arith, rules, length-take-le, length}
 use Rattle.wtf8.specs.Position.{IsBoundary, IsFront}
 use Rattle.wtf8.specs.View.{view_units, view_form}
 use Rattle.unit_text.proofs.text.UnitText.unit_before.Goals as goal

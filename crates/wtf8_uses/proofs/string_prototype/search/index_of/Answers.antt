@@ -1,4 +1,4 @@
-use Rattle.std.proofs.Common.{◌≡◌, length, take, min, subst, sym, ◌∙◌, rules}
+use Rattle.std.proofs.Common.{length, min, sym, ◌∙◌, rules}
 use Rattle.std.proofs.lemmas.Bool.{false≢true}
 use Rattle.wtf8.specs.Units.{unread_units}
 use Rattle.wtf8_uses.specs.StringPrototype.{OccursAt}

@@ -1,8 +1,8 @@
-use Rattle.std.proofs.Common.{◌+◌, sym, subst, ◌∙◌, arith}
+use Rattle.std.proofs.Common.{sym, ◌∙◌, arith}
 use Rattle.std.proofs.lemmas.Bool.{false≢true}
 use Rattle.wtf8.specs.Units.{unread_units}
 use Rattle.wtf8_uses.specs.StringPrototype.{OccursAt}
-use Rattle.wtf8_uses.proofs.IndexLemmas.{IsLastBelow, IsLastBelow-here, IsLastBelow-absent, next_index}
+use Rattle.wtf8_uses.proofs.IndexLemmas.{IsLastBelow-here, IsLastBelow-absent, next_index}
 use Rattle.wtf8_uses.proofs.string_prototype.search.last_index_of.Goals as goal
 use Rattle.wtf8_uses.proofs.string_prototype.search.last_index_of.Goals.{then-occurs_next, else-occurs_next}
 
