@@ -6,5 +6,6 @@ pub returns-clause-divided : goal.returns-clause-divided
 returns-clause-divided g c =
     let view = c.args.self.now.text.view in
     let mark = c.mark_at.result in
-    let whole = c.law_marks.ensures.no_pair view.bytes.now (view_units view) mark.position mark.units (view_form view) c.mark_at.ensures.mark in
+    let whole = c.law_marks.ensures.no_pair view.bytes.now (view_units view) mark.position mark.units (view_form view)
+    c.mark_at.ensures.mark in
     grind (rules, whole)
