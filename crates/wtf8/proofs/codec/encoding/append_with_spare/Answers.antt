@@ -6,3 +6,15 @@ pub returns-in_err-reserve_if_short : goal.returns-in_err-reserve_if_short
 returns-in_err-reserve_if_short g c =
     let one = ap length (encoding_one (number c.args.code_point) (omega arith)) in
     record { ok = search rules; err = search rules; room = grind (arith, common_steps); capacity = search rules }
+
+pub returns-in_err-reserve_if_short-2 : goal.returns-in_err-reserve_if_short-2
+returns-in_err-reserve_if_short-2 g c =
+    record { ok = search rules; err = search rules; room = grind (arith, common_steps); capacity = search rules }
+
+pub returns-in_err-reserve_if_short-3 : goal.returns-in_err-reserve_if_short-3
+returns-in_err-reserve_if_short-3 g c =
+    record { ok = search rules; err = search rules; room = grind (arith, common_steps); capacity = search rules }
+
+pub returns-in_err-reserve_if_short-4 : goal.returns-in_err-reserve_if_short-4
+returns-in_err-reserve_if_short-4 g c =
+    record { ok = search rules; err = search rules; room = grind (arith, common_steps); capacity = search rules }
