@@ -1,4 +1,4 @@
-use Rattle.wtf8.proofs.Common.{arith, take}
+use Rattle.wtf8.proofs.Common.{arith, take, rules}
 use Rattle.wtf8.proofs.lemmas.from_utf16.Kernel.{take-without_lead}
 use Rattle.wtf8.proofs.from_utf16.kernel.write_block.Goals as goal
 
@@ -15,3 +15,9 @@ returns-then-units-eq-LEAD_KIND-clause-bytes c =
     let packed = c.pack_eight-end in
     (take-without_lead packed.new.block (take c.args.len c.args.block.now) c.args.units packed.result c.fits-units.0
     (omega (arith, packed.ensures.order, c.requires)) (omega (arith, lead), omega (arith, lead)) packed.ensures.bytes).1
+
+pub returns-then-units-eq-LEAD_KIND-clause-scalar : goal.returns-then-units-eq-LEAD_KIND-clause-scalar
+returns-then-units-eq-LEAD_KIND-clause-scalar c = search rules
+
+pub returns-clause-scalar : goal.returns-clause-scalar
+returns-clause-scalar c = search rules
