@@ -17,12 +17,12 @@ number_below : (base : ℕ) (word : List ℕ) (i n most : ℕ) → 2 ≤ base �
 number_below base word i n most least few spelled digits =
     let shorter : length (take i word) ≤ most = simp length-take (omega arith) in
     let power : base ^ length (take i word) ≤ base ^ most = pow-le-pow_right (omega arith) shorter in
-    omega (arith, spelled, power, digits_value-lt base (take i word) digits)
+    omega (arith, digits_value-lt base (take i word) digits)
 
 -- the byte at index `i` is the digit `d`, and the digits before it have the value `n`
 module _ (base : ℕ) (word : List ℕ) (i n d : ℕ) (here : i < length word) (lt : d < base) (is : d ≡ digit_value (get_or word i 0)) where
   digit-lt_base : digit_value (get_or word i 0) < base
-  digit-lt_base = omega (arith, lt, is)
+  digit-lt_base = omega arith
 
   pub next_digits : AllDigits base (take i word) → AllDigits base (take (i + 1) word)
   next_digits digits = digits_more base word i here digits digit-lt_base

@@ -14,8 +14,7 @@ AllZip-push_pair R (a ∷ xs) (b ∷ ys) x y h here = (h.0, AllZip-push_pair R x
 
 -- the output for one more line, with its newline, is appended
 pub HoldsOutputs-push : (lines : List (List ℕ)) (out new line output : List ℕ) → HoldsOutputs lines out → IsOutput line output
-    → new ≡ (out ++ output) ++ 10 ∷ []
-    → HoldsOutputs (lines ++ line ∷ []) new
+    → new ≡ (out ++ output) ++ 10 ∷ [] → HoldsOutputs (lines ++ line ∷ []) new
 HoldsOutputs-push lines out new line output h here e = record {
   outputs = h.outputs ++ output ∷ [];
   each = AllZip-push_pair IsOutput lines h.outputs line output h.each here;

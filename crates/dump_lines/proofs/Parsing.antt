@@ -14,8 +14,7 @@ pub record AreParsed (line : List ℕ) (rest : List (List ℕ)) (calls : List Bu
 
 -- one more word is parsed
 pub AreParsed-push : (line word : List ℕ) (rest : List (List ℕ)) (calls : List Build) (call : Build) → AreParsed line (word ∷ rest) calls
-    → IsCall word call
-    → AreParsed line rest (calls ++ call ∷ [])
+    → IsCall word call → AreParsed line rest (calls ++ call ∷ [])
 AreParsed-push line word rest calls call r is = record {
   front = r.front ++ word ∷ [];
   split = r.split ∙ sym (append_assoc r.front (word ∷ []) rest);

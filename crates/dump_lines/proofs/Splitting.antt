@@ -1,7 +1,7 @@
 -- Splitting at the first separator.
 use Rattle.std.proofs.Common.{◌≡◌, ◌≢◌, ℕ, ◌+◌, ◌<◌, ◌≤◌, ◌==◌, Bool, false, List, [], ◌∷◌, ◌++◌, length, get_or, take, drop, All, refl}
 use Rattle.std.proofs.Common.{sym, ap, ◌∙◌, inl, inr, arith, eq-eqb, length-take-le, take-append-drop, take_all, Option, Some, None, IfNone}
-use Rattle.std.proofs.Common.{unwrap_or, subst}
+use Rattle.std.proofs.Common.{unwrap_or}
 use Rattle.std.specs.Borrow.{Bor}
 use Rattle.std.specs.List.{slice_split, onto_first}
 use Rattle.std.proofs.lemmas.Bool.{cases_Bool, ne_eqb}
@@ -15,7 +15,7 @@ use Rattle.dump_lines.specs.Parts.{parts_left}
 module _ (separator : ℕ) (xs : List ℕ) (i : ℕ) (none : (k : ℕ) → k < i → get_or xs k 0 ≢ separator) where
   no_separator_in_prefix : i ≤ length xs → All (λ b. (b == separator) ≡ false) (take i xs)
   no_separator_in_prefix within = All-from_get_or (λ b. (b == separator) ≡ false) (take i xs) 0 (λ k lt.
-      let inside : k < i = omega (arith, lt, length-take-le i xs within) in
+      let inside : k < i = omega (arith, length-take-le i xs within) in
       ne_eqb _ separator (λ is. none k inside (sym (get_or-take i xs k 0 inside) ∙ is)))
 
   -- a separator at index `i` ends the first part
@@ -30,8 +30,7 @@ module _ (separator : ℕ) (xs : List ℕ) (i : ℕ) (none : (k : ℕ) → k < i
 
   -- if `i` is the length, there is one part
   pub slice_split-no_separator : i ≡ length xs → slice_split (λ b. b == separator) xs ≡ xs ∷ []
-  slice_split-no_separator end = slice_split_none _ xs
-      (subst (All (λ b. (b == separator) ≡ false)) (take_all i xs (omega (arith, end))) (no_separator_in_prefix (omega (arith, end))))
+  slice_split-no_separator end = slice_split_none _ xs (rw (take_all i xs (omega arith)) at (no_separator_in_prefix (omega arith)))
 
 -- splitting gives at least one part
 slice_split-nonempty : (p : ℕ → Bool) (xs : List ℕ) → (first : List ℕ) × (rest : List (List ℕ)) × (slice_split p xs ≡ first ∷ rest)

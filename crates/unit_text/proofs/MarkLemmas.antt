@@ -1,10 +1,7 @@
 -- Marks that stay valid when units are appended, and the units after a mark.
-use Rattle.std.proofs.Common.{◌≡◌, ℕ, zero, suc, ◌+◌, ◌<◌, ◌≤◌, List, [], ◌∷◌, ◌++◌, length, take, drop, refl, sym, ap, ◌∙◌, subst, arith}
-use Rattle.std.proofs.Common.{length-append, length-drop, ◌≢◌, ◌*◌, ◌/◌, Bool, min, get_or, below_more, Option, Some, None, IfSome}
-use Rattle.std.proofs.Common.{inl, inr}
-use Rattle.std.proofs.lemmas.List.{drop-take, get_or_append_left, get_or_push}
-use Rattle.std.specs.List.{slice_get}
-use Rattle.wtf8.specs.Form.{IsForm}
+use Rattle.std.proofs.Common.{◌≡◌, ℕ, ◌+◌, ◌<◌, ◌≤◌, List, [], ◌∷◌, ◌++◌, length, ap, arith}
+use Rattle.std.proofs.Common.{length-append, ◌≢◌, ◌*◌, ◌/◌, Bool, min, get_or, below_more, Option, Some, None, IfSome}
+use Rattle.std.proofs.lemmas.List.{get_or_append_left, get_or_push}
 use Rattle.wtf8.specs.UnitMark.{IsMark, RoundsDownTo, MarksStay}
 use Rattle.wtf8.specs.UnitString.{UnitString}
 use Rattle.wtf8.specs.View.{view_units, view_form}
@@ -16,12 +13,11 @@ use Rattle.unit_text.specs.Marks.{AreEnough, AreKept, AreMarks, IsKept, spacing}
 module _ (stay : MarksStay) (old : UnitString) (new : Wtf8) (v : List ℕ) (e : view_units new ≡ old.units ++ v) where
   IsKept-append : (n : ℕ) (mark : UnitMark) → IsKept old.bytes old.units n mark → IsKept new.bytes.now (view_units new) n mark
   IsKept-append n mark k = record {
-    is_mark = subst (λ u. IsMark new.bytes.now u mark.position mark.units) (sym e)
-        (stay old.bytes new.bytes.now old.units v mark.position mark.units old.form
-        (subst (IsForm new.bytes.now) e (view_form new)) k.before_last k.is_mark);
+    is_mark = rw e (stay old.bytes new.bytes.now old.units v mark.position mark.units old.form (rw e at (view_form new)) k.before_last
+        k.is_mark);
     at_most = k.at_most;
     at_least = k.at_least;
-    before_last = omega (arith, k.before_last, ap length e, length-append old.units v);
+    before_last = omega (arith, ap length e, length-append old.units v);
   }
 
   pub AreKept-append : {X : Type 0} (kept : Option X) (items : X → List UnitMark) (is_incomplete : X → Bool)
@@ -33,43 +29,18 @@ module _ (stay : MarksStay) (old : UnitString) (new : Wtf8) (v : List ℕ) (e : 
 -- a mark at `n` units, or one unit before if `n` divides a pair, is kept if `n` is below the number of units
 pub IsKept-mark_at : (w u : List ℕ) (mark : UnitMark) (n : ℕ) → IsMark w u mark.position mark.units → RoundsDownTo u n mark.units
     → n < length u → IsKept w u n mark
-IsKept-mark_at w u mark n m (inl e) h =
-    record { is_mark = m; at_most = omega (arith, e); at_least = omega (arith, e); before_last = omega (arith, e, h) }
-IsKept-mark_at w u mark n m (inr e) h =
-    record { is_mark = m; at_most = omega (arith, e.0); at_least = omega (arith, e.0); before_last = omega (arith, e.0, h) }
+IsKept-mark_at w u mark n m last h = grind arith
 
 -- kept marks with the next kept mark appended are kept
 pub AreKept-push : (w u : List ℕ) (marks : List UnitMark) (mark : UnitMark) (n : ℕ) → length marks ≡ n → AreKept w u marks
-    → IsKept w u ((n + 1) * spacing) mark
-    → AreKept w u (marks ++ mark ∷ [])
+    → IsKept w u ((n + 1) * spacing) mark → AreKept w u (marks ++ mark ∷ [])
 AreKept-push w u marks mark n e old new = λ k d l. below_more (λ j. IsKept w u ((j + 1) * spacing) (get_or (marks ++ mark ∷ []) j d)) n
-    (λ j m. subst (IsKept w u ((j + 1) * spacing)) (sym (get_or_append_left marks (mark ∷ []) d j (omega (arith, m, e))))
-    (old j d (omega (arith, m, e))))
-    (subst (IsKept w u ((n + 1) * spacing)) (sym (get_or_push marks mark d n e)) new) k
-    (omega (arith, l, length-append marks (mark ∷ []), e))
+    (λ j m. rw (get_or_append_left marks (mark ∷ []) d j (omega arith)) (old j d (omega arith)))
+    (rw (get_or_push marks mark d n e) new) k (omega (arith, length-append marks (mark ∷ [])))
 
 -- if no mark is missing, the mark that is chosen for `units` is at most `spacing + 1` units before it
-pub chosen_mark_is_close : (w u : List ℕ) (marks : List UnitMark) (units at number : ℕ) → AreEnough w u (length marks)
-    → length w ≢ length u
+pub chosen_mark_is_close : (w u : List ℕ) (marks : List UnitMark) (units at number : ℕ) → AreEnough w u (length marks) → length w ≢ length u
     → units ≤ length u → number ≡ min (length marks) (units / spacing) → number * spacing ≤ at + 1 → units ≤ at + spacing + 1
 chosen_mark_is_close w u marks units at number enough not_ascii h e near =
     let next : (number + 1) * spacing < length u → number + 1 ≤ length marks = enough not_ascii (number + 1) in
-    grind (arith, next, e, h, near)
-
--- the unit at index `n` is the first of the units from there on
-slice_get-as_first : (u : List ℕ) (n : ℕ) → slice_get u n ≡ slice_get (drop n u) 0
-slice_get-as_first [] zero = refl
-slice_get-as_first [] (suc n) = refl
-slice_get-as_first (x ∷ u) zero = refl
-slice_get-as_first (x ∷ u) (suc n) = slice_get-as_first u n
-
--- if two lists are equal from `n` and from `m` on, their units there are equal
-pub slice_get-equal_drops : (u v : List ℕ) (n m : ℕ) → drop n u ≡ drop m v → slice_get u n ≡ slice_get v m
-slice_get-equal_drops u v n m e = slice_get-as_first u n ∙ (ap (λ w. slice_get w 0) e ∙ sym (slice_get-as_first v m))
-
--- if two lists are equal from `n` and from `m` on, their slices of `k` units there are equal
-pub slice-equal_drops : (u v : List ℕ) (n m k : ℕ) → drop n u ≡ drop m v → drop n (take (n + k) u) ≡ take k (drop m v)
-slice-equal_drops u v n m k e = drop-take n k u ∙ ap (take k) e
-
-pub slice_within : (u v : List ℕ) (n m k : ℕ) → drop n u ≡ drop m v → n ≤ length u → m + k ≤ length v → n + k ≤ length u
-slice_within u v n m k e h l = omega (arith, ap length e, length-drop n u, length-drop m v, h, l)
+    grind arith

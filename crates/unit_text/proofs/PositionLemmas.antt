@@ -1,85 +1,67 @@
 -- Marks of a text that became shorter, and the units before the position of a mark.
-use Rattle.std.proofs.Common.{◌≡◌, ◌≢◌, ℕ, ◌+◌, ◌-◌, ◌*◌, ◌/◌, ◌<◌, ◌≤◌, List, length, take, refl, sym, ap, ◌∙◌, subst, arith, Bool}
+use Rattle.std.proofs.Common.{◌≡◌, ◌≢◌, ℕ, ◌+◌, ◌-◌, ◌*◌, ◌/◌, ◌<◌, ◌≤◌, List, length, take, refl, sym, ap, ◌∙◌, arith, Bool}
 use Rattle.std.proofs.Common.{Option, Some, None, IfSome, get_or}
 use Rattle.std.proofs.lemmas.List.{length-take, length-take-le, get_or-take}
 use Rattle.wtf8.specs.Form.{IsForm}
 use Rattle.wtf8.specs.Laws.{EqualFormsHaveEqualUnits}
-use Rattle.wtf8.specs.Position.{IsBoundary, IsFront}
-use Rattle.wtf8.specs.Unicode.{units}
 use Rattle.wtf8.specs.UnitMark.{IsMark, EqualCountsAreMarks, MarksStayInFront, MarksAreInOneOrder}
 use Rattle.wtf8.specs.UnitString.{UnitString}
 use Rattle.wtf8.specs.View.{view_units, view_form}
 use Rattle.wtf8.specs.declared.strings.view.Wtf8.{Wtf8}
 use Rattle.wtf8.specs.declared.strings.unit_marks.UnitMark.{UnitMark}
-use Rattle.unit_text.specs.Marks.{AreEnough, AreKept, AreMarks, IsKept, spacing}
+use Rattle.unit_text.specs.Marks.{AreEnough, AreKept, AreMarks, spacing}
 
--- the units before a boundary with `v` before it are `v`
-front_of_boundary : (u v : List ℕ) (k : ℕ) → IsBoundary u k → ((x : List ℕ) → IsFront u k x → x ≡ v) → IsFront u k v
-front_of_boundary u v k b same =
-    let front : IsFront u k (units b.front) = record { front = b.front; back = b.back; splits = b.splits; same_units = refl } in
-    subst (IsFront u k) (same (units b.front) front) front
-
--- the units before a mark, also in another list that is the same
-pub front_of_mark : (u v : List ℕ) (k m n : ℕ) → u ≡ v → m ≡ n → IsBoundary u k → ((x : List ℕ) → IsFront u k x → x ≡ take m u)
-    → IsFront v k (take n v)
-front_of_mark u v k m n e units b same =
-    subst (λ w. IsFront w k (take n w)) e (subst (λ i. IsFront u k (take i u)) units (front_of_boundary u (take m u) k b same))
-
--- if no mark is missing, a mark before the kept mark of index `low` has at most `(low + 1) * spacing` units
-pub units_before_next : MarksAreInOneOrder → (w u : List ℕ) (marks : List UnitMark) → IsForm w u → AreKept w u marks
-    → AreEnough w u (length marks) → length w ≢ length u
-    → (low position : ℕ) (d : UnitMark) → low ≤ length marks
-    → (low < length marks → position < (get_or marks low d).position)
-    → (k n : ℕ) → IsMark w u k n → k ≤ position → n ≤ (low + 1) * spacing
-units_before_next order w u marks f kept enough not_ascii low position d within next k n mark l =
+-- if no mark is missing, a mark at or before `position` has at most `spacing + 1` units more than the kept mark of index
+-- `low - 1`, if the next kept mark is after `position`
+pub kept_mark_before_is_close : MarksAreInOneOrder → (w u : List ℕ) (marks : List UnitMark) → IsForm w u → AreKept w u marks
+    → AreEnough w u (length marks) → length w ≢ length u → (low position at : ℕ) (d : UnitMark) → low ≤ length marks
+    → (low < length marks → position < (get_or marks low d).position) → low * spacing ≤ at + 1
+    → (k n : ℕ) → IsMark w u k n → k ≤ position → n ≤ at + spacing + 1
+kept_mark_before_is_close order w u marks f kept enough not_ascii low position at d within next near k n mark l =
     let before_next : low < length marks → n ≤ (low + 1) * spacing = λ h.
     let own = kept low d h in
     let other = get_or marks low d in
     let after = next h in
-    let fewer = (order w u k other.position n other.units f mark own.is_mark).0 (omega (arith, after, l)) in
-    omega (arith, fewer, own.at_most) in
+    let fewer = (order w u k other.position n other.units f mark own.is_mark).0 (omega arith) in
+    omega (arith, own.at_most) in
     let last : (low + 1) * spacing < length u → low + 1 ≤ length marks = enough not_ascii (low + 1) in
     let all = mark.units_within in
-    grind (arith, before_next, last, all, within)
+    grind (arith, before_next, last, all, within, near)
 
 module _ (equal : EqualCountsAreMarks) (cut : MarksStayInFront) (same : EqualFormsHaveEqualUnits) where
   -- the first units of a string with as many bytes as units have as many bytes as units
   equal_counts_of_front : (x w u : List ℕ) (n : ℕ) → IsForm x u → IsForm w (take n u) → n ≤ length u → length x ≡ length u
       → length w ≡ length (take n u)
   equal_counts_of_front x w u n f g within e =
-      let mark = equal x u n f e (omega (arith, e, within)) in
+      let mark = equal x u n f e (omega arith) in
       let front : w ≡ take n x = (same w (take n x) (take n u) (take n u) g mark.before).1 refl in
-      ap length front ∙ (length-take-le n x (omega (arith, e, within)) ∙ sym (length-take-le n u within))
+      ap length front ∙ (length-take-le n x (omega arith) ∙ sym (length-take-le n u within))
 
   -- the kept marks before the last unit of a text that became shorter are its marks
   AreMarks-truncate : (old : UnitString) (new : Wtf8) (n : ℕ) → n ≤ length old.units → view_units new ≡ take n old.units
-      → (marks : List UnitMark) (is_incomplete : Bool)
-      → AreMarks old.bytes old.units marks is_incomplete
+      → (marks : List UnitMark) (is_incomplete : Bool) → AreMarks old.bytes old.units marks is_incomplete
       → AreMarks new.bytes.now (view_units new) (take ((n - 1) / spacing) marks) is_incomplete
   AreMarks-truncate old new n within e marks is_incomplete m =
       let count = (n - 1) / spacing in
-      let form : IsForm new.bytes.now (take n old.units) = subst (IsForm new.bytes.now) e (view_form new) in
+      let form : IsForm new.bytes.now (take n old.units) = rw e at (view_form new) in
       let long : length (view_units new) ≡ n = ap length e ∙ length-take-le n old.units within in
+      let fewer = length-take count marks in
       record {
         kept = λ k d l.
-            let fewer = length-take count marks in
-            let before : k < count = omega (arith, fewer, l) in
-            let own = m.kept k d (omega (arith, fewer, l)) in
+            let own = m.kept k d (omega arith) in
             let mark = get_or marks k d in
-            let units_before : mark.units < n = omega (arith, own.at_most, before) in
-            subst (IsKept new.bytes.now (view_units new) ((k + 1) * spacing)) (sym (get_or-take count marks k d before)) (record {
-              is_mark = subst (λ u. IsMark new.bytes.now u mark.position mark.units) (sym e)
-                  (cut new.bytes.now old.bytes old.units mark.position mark.units n old.form form
-                  (omega (arith, units_before)) within own.is_mark);
+            rw (get_or-take count marks k d (omega arith)) (record {
+              is_mark = rw e (cut new.bytes.now old.bytes old.units mark.position mark.units n old.form form (omega (arith, own.at_most))
+                  within own.is_mark);
               at_most = own.at_most;
               at_least = own.at_least;
-              before_last = omega (arith, units_before, long);
+              before_last = omega (arith, own.at_most);
             });
         all = λ granted not_ascii number l.
             let old_not_ascii : length old.bytes ≢ length old.units =
             λ s. not_ascii (equal_counts_of_front old.bytes new.bytes.now old.units n old.form form within s ∙ sym (ap length e)) in
-            let enough = m.all granted old_not_ascii number (omega (arith, l, long, within)) in
-            omega (arith, length-take count marks, enough, l, long);
+            let enough = m.all granted old_not_ascii number (omega arith) in
+            omega arith;
       }
 
   pub AreMarks-truncated : {X : Type 0} (kept : Option X) (items : X → List UnitMark) (is_incomplete : X → Bool) (old : UnitString)

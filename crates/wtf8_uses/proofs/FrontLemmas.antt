@@ -5,8 +5,7 @@ use Rattle.wtf8_uses.specs.CommonFront.{ShareFront}
 
 -- if the next numbers are equal, the common prefix grows by one
 pub ShareFront-push : {u v rest other : List ℕ} {n : ℕ} → ShareFront u v rest other n → (x y : ℕ) (xs ys : List ℕ) → rest ≡ x ∷ xs
-    → other ≡ y ∷ ys
-    → x ≡ y → ShareFront u v xs ys (n + 1)
+    → other ≡ y ∷ ys → x ≡ y → ShareFront u v xs ys (n + 1)
 ShareFront-push s x y xs ys e f same = record {
   front = s.front ++ x ∷ [];
   joined = s.joined ∙ (ap (λ z. s.front ++ z) e ∙ sym (append_assoc s.front (x ∷ []) xs));

@@ -1,10 +1,10 @@
 -- JSON text that is appended, and code points that it does not escape.
-use Rattle.std.proofs.Common.{◌≡◌, ◌≢◌, ℕ, ◌≤◌, List, [], ◌++◌, refl, sym, ap, ◌∙◌, append_assoc, append-nil, arith}
+use Rattle.std.proofs.Common.{◌≡◌, ◌≢◌, ℕ, ◌≤◌, refl, ◌∙◌, arith}
 use Rattle.std.proofs.lemmas.Bool.Decides.{nat_tests}
 use Rattle.std.specs.Char.{encode_utf8}
 use Rattle.wtf8.specs.Form.{encoding}
 use Rattle.wtf8.specs.Unicode.{IsSurrogate}
-use Rattle.wtf8_uses.specs.Json.{Continues, json_point}
+use Rattle.wtf8_uses.specs.Json.{json_point}
 
 same_bytes : (p : ℕ) → encoding p ≡ encode_utf8 p
 unfolding encoding encode_utf8
@@ -17,12 +17,3 @@ json_point-unescaped p control quote backslash surrogate = grind (arith, nat_tes
 -- a scalar value from U+0020 on that is no quote or backslash is written as its UTF-8 bytes
 pub json_point-bytes : (p : ℕ) → 0x20 ≤ p → p ≢ 0x22 → p ≢ 0x5C → ¬ (IsSurrogate p) → json_point p ≡ encode_utf8 p
 json_point-bytes p control quote backslash surrogate = json_point-unescaped p control quote backslash surrogate ∙ same_bytes p
-
--- a text begins with itself
-pub continues_itself : (t : List ℕ) → Continues t t
-continues_itself t = record { more = []; joined = sym (append-nil t) }
-
--- a text begins with what its front begins with
-pub continues_trans : {a b c : List ℕ} → Continues a b → Continues b c → Continues a c
-continues_trans {a = a} x y =
-    record { more = x.more ++ y.more; joined = y.joined ∙ (ap (λ t. t ++ y.more) x.joined ∙ append_assoc a x.more y.more) }

@@ -74,8 +74,7 @@ digit_at {after = after} {v = v} e x = subst (λ t. BeginsWithDigit t v after) e
 
 -- after `u`, a text that does not begin with four digits is no rest of an escape
 pub no_unit_escape : (text rest : List ℕ) (l : ℕ) → text ≡ l ∷ rest → l ≡ 0x75
-    → ((unit : ℕ) (after : List ℕ) → ¬ (BeginsWithUnit rest unit after))
-    → (p : ℕ) (after : List ℕ) → ¬ (EndsEscape text p after)
+    → ((unit : ℕ) (after : List ℕ) → ¬ (BeginsWithUnit rest unit after)) → (p : ℕ) (after : List ℕ) → ¬ (EndsEscape text p after)
 no_unit_escape text rest l e is none p after (EndsEscape.letter m k t) = no_letter_u m _ (cc (e, k, is)) t
 no_unit_escape text rest l e is none p after (EndsEscape.unit m digits k are t) =
     none p after (subst (λ d. BeginsWithUnit d p after) (cc (e, k)) t)
@@ -89,8 +88,7 @@ no_escape text rest l e is none p after (BeginsWithCharacter.escape m others k a
 
 -- where characters stop and there is no quotation mark, none comes after more characters
 pub no_others : {rest u end after : List ℕ} → ((p : ℕ) (a : List ℕ) → ¬ (BeginsWithCharacter rest p a))
-    → ((a : List ℕ) → ¬ (BeginsWithQuote rest a))
-    → BeginsWithCharacters rest u end → ¬ (BeginsWithQuote end after)
+    → ((a : List ℕ) → ¬ (BeginsWithQuote rest a)) → BeginsWithCharacters rest u end → ¬ (BeginsWithQuote end after)
 no_others no_more unclosed (BeginsWithCharacters.none text) q = unclosed _ q
 no_others no_more unclosed (BeginsWithCharacters.more text rest u after p x xs) q = no_more p rest x
 
@@ -145,8 +143,7 @@ front_follows f n e = record { front = f.front; joined = f.joined; counted = e }
 
 -- where neither characters nor a quotation mark follow, only a backslash is no control character
 pub backslash_stops : (text rest : List ℕ) (p : ℕ) → text ≡ p ∷ rest → 0x20 ≤ p
-    → ((q : ℕ) (after : List ℕ) → ¬ (BeginsWithCharacter text q after))
-    → ((after : List ℕ) → ¬ (BeginsWithQuote text after)) → p ≡ 0x5C
+    → ((q : ℕ) (after : List ℕ) → ¬ (BeginsWithCharacter text q after)) → ((after : List ℕ) → ¬ (BeginsWithQuote text after)) → p ≡ 0x5C
 backslash_stops text rest p e above no_more unclosed =
     elim (cases_eq p 0x5C) [
       | inl is ↦ is

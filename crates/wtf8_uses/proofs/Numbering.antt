@@ -1,11 +1,10 @@
 -- The chains of numbered lists after one more list is numbered.
-use Rattle.std.proofs.Common.{◌≡◌, ℕ, zero, suc, ◌+◌, ◌<◌, ◌≤◌, ◌↔◌, ◌⊎◌, inl, inr, Bool, true, false, cond, eqb, List, [], ◌∷◌, ◌++◌}
+use Rattle.std.proofs.Common.{◌≡◌, ℕ, zero, suc, ◌+◌, ◌<◌, ◌≤◌, ◌⊎◌, inl, inr, Bool, true, false, cond, eqb, List, [], ◌∷◌, ◌++◌}
 use Rattle.std.proofs.Common.{length, slice_get, slice_index_or, Some, refl, sym, ap, subst, ◌∙◌, arith}
-use Rattle.std.proofs.Math.Arith.{lt_of_le-ne}
 use Rattle.std.proofs.lemmas.Bool.Decides.{nat_tests}
 use Rattle.std.proofs.lemmas.Grind.{common_steps}
 use Rattle.std.proofs.lemmas.List.{length-append, map-append}
-use Rattle.std.proofs.lemmas.Option.{same_Some, slice_get-get_or, slice_get_read, slice_get_within}
+use Rattle.std.proofs.lemmas.Option.{slice_get-get_or, slice_get_read, slice_get_within}
 use Rattle.std.specs.HashMap.{HashMap, get}
 use Rattle.std.specs.Prelude.{unwrap_or, nat_eq}
 use Rattle.wtf8.specs.UnitString.{UnitString}
@@ -18,9 +17,6 @@ slice_get-push [] x (suc k) y e = grind (arith, common_steps, e)
 slice_get-push (z ∷ xs) x zero y e = inl e
 slice_get-push (z ∷ xs) x (suc k) y e = elim (slice_get-push xs x k y e) [ inl l ↦ inl l | inr r ↦ inr (ap suc r.0, r.1) ]
 
-slice_get-same : (us : List (List ℕ)) (k : ℕ) (u v : List ℕ) → slice_get us k ≡ Some u → slice_get us k ≡ Some v → u ≡ v
-slice_get-same us k u v a b = cc
-
 -- If `v` is in the lists, its index is below `head`, and the list at index `head - 1` has the hash of `v`.
 pub record IsReached (lists : List (List ℕ)) (v : List ℕ) (head : ℕ) : Type 0 where
   pub within : head ≤ length lists
@@ -32,32 +28,12 @@ pub AreNumbered-equal_lists : {S : Type 0} {m : HashMap ℕ ℕ S} {b c : List �
     → AreNumbered m c vs
 AreNumbered-equal_lists {m = m} {c = c} {us = us} old e f = subst (AreNumbered m c) f (subst (λ x. AreNumbered m x us) e old)
 
--- if the list at index `head - 1` is not `v`, the search goes on at the next one in its chain
-pub IsReached-next : (us : List (List ℕ)) (u v : List ℕ) (k head e : ℕ) → k + 1 ≡ head → IsReached us v head → slice_get us k ≡ Some u
-    → (u ≡ v → ⊥)
-    → IsChainHead us (hash_of u) k e → IsReached us v e
-IsReached-next us u v k head e is r at differ o =
-    let hash = r.last k u is at in record {
-      within = omega (arith, o.within, r.within, is);
-      before = λ j there. o.before j v (lt_of_le-ne (omega (arith, r.before j there, is))
-          (λ same. differ (slice_get-same us k u v at (subst (λ i. slice_get us i ≡ Some v) same there)))) there (sym hash);
-      last = λ j w e there. o.last j w e there ∙ hash;
-    }
-
 -- the list at index `k`, and the head of its hash's chain in the lists before it
 pub next_in_chain-is_head : {S : Type 0} {m : HashMap ℕ ℕ S} {nexts : List ℕ} {us : List (List ℕ)} → AreNumbered m nexts us → (k e : ℕ)
-    → k < length us
-    → e ≡ slice_index_or nexts k e → (u : List ℕ) × (slice_get us k ≡ Some u) × IsChainHead us (hash_of u) k e
+    → k < length us → e ≡ slice_index_or nexts k e → (u : List ℕ) × (slice_get us k ≡ Some u) × IsChainHead us (hash_of u) k e
 next_in_chain-is_head {nexts = nexts} {us = us} old k e within is =
     let at = slice_get-get_or us k [] within in
     (slice_index_or us k [], at, old.nexts_are k e _ at (slice_get_read nexts (length us) k e (sym old.lengths) within is))
-
--- a list occurs at one index only
-pub number_of_list-unique : {S : Type 0} {m : HashMap ℕ ℕ S} {nexts : List ℕ} {us : List (List ℕ)} → AreNumbered m nexts us
-    → (k : ℕ) (v : List ℕ)
-    → slice_get us k ≡ Some v → (n : ℕ) → (Some k ≡ Some n) ↔ (slice_get us n ≡ Some v)
-number_of_list-unique {us = us} old k v at n =
-    (λ e. subst (λ j. slice_get us j ≡ Some v) (same_Some k n e) at, λ there. ap Some (old.distinct k n v at there))
 
 module _ (us : List (List ℕ)) (v : List ℕ) where
   abbrev more : List (List ℕ)
@@ -137,8 +113,7 @@ module _ (us : List (List ℕ)) (v : List ℕ) where
 
 -- `units_of_strings` after a push
 pub units_of_strings-push : (old mid new : List UnitString) (s : UnitString) {us : List (List ℕ)} {v : List ℕ}
-    → new ≡ mid ++ s ∷ [] → mid ≡ old
-    → units_of_strings old ≡ us → s.units ≡ v → units_of_strings new ≡ us ++ v ∷ []
+    → new ≡ mid ++ s ∷ [] → mid ≡ old → units_of_strings old ≡ us → s.units ≡ v → units_of_strings new ≡ us ++ v ∷ []
 units_of_strings-push old mid new s {us} e f g h =
     ap units_of_strings (e ∙ ap (λ z. z ++ s ∷ []) f)
     ∙ (map-append (λ x. x.units) old (s ∷ []) ∙ (ap (λ z. z ++ s.units ∷ []) g ∙ ap (λ w. us ++ w ∷ []) h))

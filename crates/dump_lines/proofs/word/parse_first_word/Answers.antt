@@ -1,6 +1,5 @@
-use Rattle.std.proofs.Common.{take, sym, ◌∙◌, arith, length-take-le, Option, None, Some, IfSome, IfNone, MatchOption}
+use Rattle.std.proofs.Common.{take, sym, ◌∙◌, arith, rules, length-take-le}
 use Rattle.std.proofs.lemmas.List.{take_rest, get_or-take}
-use Rattle.dump_lines.specs.Word.{IsCall, IsNoCall}
 use Rattle.dump_lines.proofs.Digits.{point_of-no_space}
 use Rattle.dump_lines.proofs.Splitting.{slice_split-at_separator, slice_split-no_separator}
 use Rattle.dump_lines.proofs.word.parse_first_word.Goals as goal
@@ -12,7 +11,7 @@ returns-in-Some c =
     let within = length-take-le 4 bytes (omega arith) in (
       take 4 bytes,
       rw take_rest (slice_split-at_separator 32 bytes 4
-          (λ k lt is. point_of-no_space (take 4 bytes) _ k is_point (omega (arith, lt, within)) (get_or-take 4 bytes k 0 lt ∙ is))
+          (λ k lt is. point_of-no_space (take 4 bytes) _ k is_point (omega arith) (get_or-take 4 bytes k 0 lt ∙ is))
           (omega arith) c.if-bytes-eq32.true),
       is_point,
     )
@@ -22,19 +21,9 @@ returns-in-Some-parse_point c =
     let bytes = c.args.bytes.now in
     let is_point = sym c.in-Some-parse_point.ensures in (
       bytes,
-      slice_split-no_separator 32 bytes 4 (λ k lt. point_of-no_space bytes _ k is_point (omega (arith, lt, c.if-bytes-eq-BMP_DIGITS.true)))
-          (omega (arith, c.if-bytes-eq-BMP_DIGITS.true)),
+      slice_split-no_separator 32 bytes 4 (λ k lt. point_of-no_space bytes _ k is_point (omega arith)) (omega arith),
       is_point,
     )
 
-MatchOption-from_both : {A : Type 0} (P : A → Type 0) (Q : Type 0) (o : Option A) → IfSome o P → IfNone o Q → MatchOption o Q P
-MatchOption-from_both P Q None some none = none
-MatchOption-from_both P Q (Some x) some none = some
-
 pub returns : goal.returns
-returns c =
-    let word = c.split_first_part.result.0.now in (
-      word,
-      c.split_first_part.ensures.parts,
-      MatchOption-from_both (IsCall word) (IsNoCall word) c.parse_call.result c.parse_call.ensures.some c.parse_call.ensures.none,
-    )
+returns c = (_, c.split_first_part.ensures.parts, search rules)

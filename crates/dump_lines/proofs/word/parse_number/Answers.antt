@@ -7,23 +7,29 @@ returns-then-digit-base c = sym (bounded_number-none _ _ _ _ _ c.loop-byte-test.
 
 pub overflow_mul-number : goal.overflow_mul-number
 overflow_mul-number c =
+    let i = c.loop-byte.invariant in
     omega (
       arith,
-      next_below _ _ _ _ _ c.loop-byte-test.true (omega arith) c.digit_of-digit.ensures c.args.most c.requires.least_base (omega arith)
-          c.loop-byte.invariant.spelled c.loop-byte.invariant.digits,
+      next_below _ _ _ _ _ c.loop-byte-test.true (omega arith) c.digit_of-digit.ensures c.args.most c.requires.least_base
+          (omega arith) i.spelled i.digits,
     )
 
 pub overflow_add-number : goal.overflow_add-number
 overflow_add-number c =
+    let i = c.loop-byte.invariant in
     omega (
       arith,
-      next_below _ _ _ _ _ c.loop-byte-test.true (omega arith) c.digit_of-digit.ensures c.args.most c.requires.least_base (omega arith)
-          c.loop-byte.invariant.spelled c.loop-byte.invariant.digits,
+      next_below _ _ _ _ _ c.loop-byte-test.true (omega arith) c.digit_of-digit.ensures c.args.most c.requires.least_base
+          (omega arith) i.spelled i.digits,
     )
 
 pub loop-byte-preserved : goal.loop-byte-preserved
-loop-byte-preserved c = record {
-  spelled = next_number _ _ _ _ _ c.loop-byte-test.true (omega arith) c.digit_of-digit.ensures c.loop-byte.invariant.spelled;
-  digits = next_digits _ _ _ c.loop-byte.number _ c.loop-byte-test.true (omega arith) c.digit_of-digit.ensures c.loop-byte.invariant.digits;
-  rest = c.loop-byte.invariant.rest ∙ next_rest _ _ _ c.loop-byte.number _ c.loop-byte-test.true (omega arith) c.digit_of-digit.ensures;
-}
+loop-byte-preserved c =
+    let i = c.loop-byte.invariant in
+    let digit = c.digit_of-digit.ensures in
+    let number = c.loop-byte.number in
+    record {
+      spelled = next_number _ _ _ _ _ c.loop-byte-test.true (omega arith) digit i.spelled;
+      digits = next_digits _ _ _ number _ c.loop-byte-test.true (omega arith) digit i.digits;
+      rest = i.rest ∙ next_rest _ _ _ number _ c.loop-byte-test.true (omega arith) digit;
+    }

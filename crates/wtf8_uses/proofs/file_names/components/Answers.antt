@@ -13,5 +13,4 @@ loop-part-preserved c =
 pub returns : goal.returns
 returns c =
     slice_split-last_part view_units c.loop-part.parts.items c.push-2.new.self.items c.loop-part.rest
-    (view_units c.loop-part.rest) _ c.in_ok-push-2.ensures.items
-    c.loop-part.invariant refl c.in_default.ensures.none
+    (view_units c.loop-part.rest) _ c.in_ok-push-2.ensures.items c.loop-part.invariant refl c.in_default.ensures.none

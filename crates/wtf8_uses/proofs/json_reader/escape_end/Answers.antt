@@ -15,6 +15,5 @@ returns-then-letter-eq117-clause-some c =
     EndsEscape.unit _ _ c.in-Some.ensures.some is_u c.in-Some-first_unit.ensures.some
 
 pub returns-clause-some : goal.returns-clause-some
-returns-clause-some c =
-    EndsEscape.letter _ c.in-Some.ensures.some
+returns-clause-some c = EndsEscape.letter _ c.in-Some.ensures.some
     (cc (c.to_u32-letter.ensures.value, c.escaped_char.ensures, c.in-Some-escaped_char.is, c.from_char.ensures))

@@ -1,7 +1,6 @@
-use Rattle.std.proofs.Common.{◌≡◌, ◌-◌, length, sym, subst, arith}
-use Rattle.wtf8.specs.Form.{bytes}
+use Rattle.std.proofs.Common.{◌≡◌, ◌-◌, arith}
 use Rattle.wtf8.specs.View.{view_points}
-use Rattle.wtf8_uses.specs.JsonString.{BeginsWithCharacters, IsCause, IsMalformedAt}
+use Rattle.wtf8_uses.specs.JsonString.{BeginsWithCharacters, IsMalformedAt}
 use Rattle.wtf8_uses.proofs.JsonReaderLemmas.{characters_more, front_counted, front_follows, front_more, front_of_characters, no_string}
 use Rattle.wtf8_uses.proofs.json_reader.read_json_string.Goals as goal
 
@@ -9,16 +8,10 @@ pub returns-in_default-clause-none : goal.returns-in_default-clause-none
 returns-in_default-clause-none g c = λ _ u after s. c.in_default.ensures.none s.start s.opened
 
 pub loop-point-init : goal.loop-point-init
-loop-point-init g c =
-    let start = view_points c.in-Some.start in
-    subst (λ u. BeginsWithCharacters start u start) (sym c.new-string.ensures.units) (BeginsWithCharacters.none start)
+loop-point-init g c = rw c.new-string.ensures.units (BeginsWithCharacters.none (view_points c.in-Some.start))
 
 pub loop-point-preserved : goal.loop-point-preserved
-loop-point-preserved g c =
-    let start = view_points c.in-Some.start in
-    let after = view_points c.in-Some-first_character.after in
-    let more = characters_more c.loop-point.invariant c.in-Some-first_character.ensures.some in
-    subst (λ u. BeginsWithCharacters start u after) (sym c.in-Ok.ensures.ok) more
+loop-point-preserved g c = rw c.in-Ok.ensures.ok (characters_more c.loop-point.invariant c.in-Some-first_character.ensures.some)
 
 pub overflow_sub-result : goal.overflow_sub-result
 overflow_sub-result g c =
@@ -27,16 +20,13 @@ overflow_sub-result g c =
     c.loop-point.rest.well_formed.encoded in
     omega (arith, counted)
 
-pub returns-in_default-after_quote-clause-malformed :
-    goal.returns-in_default-after_quote-clause-malformed
+pub returns-in_default-after_quote-clause-malformed : goal.returns-in_default-after_quote-clause-malformed
 returns-in_default-after_quote-clause-malformed g c = λ position cause e.
-    let text = view_points c.args.text in
     let front = front_more c.in-Some.ensures.some.joined (front_of_characters c.loop-point.invariant) in
     let counted = front_counted c.args.text.bytes.now c.loop-point.rest.bytes.now front c.args.text.well_formed.encoded
     c.loop-point.rest.well_formed.encoded in
     let here : c.len.result - c.len-in_default-after_quote.result ≡ position = cc e in
-    let length_is : length (bytes front.front) ≡ position = omega (arith, counted, here) in
-    IsMalformedAt.stopped _ _ _ (front_follows front position length_is) c.in-Some.ensures.some c.loop-point.invariant
+    IsMalformedAt.stopped _ _ _ (front_follows front position (omega arith)) c.in-Some.ensures.some c.loop-point.invariant
     c.in_default-first_character.ensures.none c.in_default-after_quote.ensures.none
 
 pub returns-in_default-after_quote-clause-none : goal.returns-in_default-after_quote-clause-none
@@ -49,10 +39,9 @@ returns-in_default-after_quote-clause-cause g c = λ position cause e.
     let counted = front_counted c.args.text.bytes.now c.loop-point.rest.bytes.now front c.args.text.well_formed.encoded
     c.loop-point.rest.well_formed.encoded in
     let here : c.len.result - c.len-in_default-after_quote.result ≡ position = cc e in
-    let why : c.cause_at.result ≡ cause = cc e in
-    let length_is : length (bytes front.front) ≡ position = omega (arith, counted, here) in
+    let why : cause ≡ c.cause_at.result = cc e in
     record {
       rest = view_points c.loop-point.rest;
-      follows = front_follows front position length_is;
-      is_cause = subst (λ k. IsCause k (view_points c.loop-point.rest)) why c.cause_at.ensures;
+      follows = front_follows front position (omega arith);
+      is_cause = rw why c.cause_at.ensures;
     }

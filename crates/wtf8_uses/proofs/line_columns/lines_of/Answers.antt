@@ -1,7 +1,7 @@
-use Rattle.std.proofs.Common.{◌≡◌, ◌≢◌, ◌+◌, ◌++◌, map, sym, ap, ◌∙◌, subst, arith}
+use Rattle.std.proofs.Common.{◌≡◌, ◌≢◌, ◌+◌, ◌++◌, map, ap, ◌∙◌, arith}
 use Rattle.wtf8.specs.Units.{unread_units}
 use Rattle.wtf8.specs.View.{view_units}
-use Rattle.wtf8_uses.specs.LineColumns.{AreMarksOf, StartsAtFront, line_starts, mark_units, starts_after}
+use Rattle.wtf8_uses.specs.LineColumns.{line_starts, mark_units, starts_after}
 use Rattle.wtf8_uses.proofs.LineLemmas.{next_unread, next_within, starts_more, starts_same, marks_more, first_more}
 use Rattle.wtf8_uses.proofs.line_columns.lines_of.Goals as goal
 
@@ -23,9 +23,9 @@ loop-unit-preserved-in-Continue-branch-2 g c =
       unread = next_unread u before after n c.in-Some.unit i.unread c.in-Some.ensures.steps;
       within = next_within u before after n c.in-Some.unit i.unread c.in-Some.ensures.steps;
       is_mark = found.mark;
-      before = omega (arith, found.units);
-      marks = subst (AreMarksOf bytes u) (sym pushed) (marks_more bytes u c.loop-unit.starts.items mark i.marks found.mark);
-      first = subst StartsAtFront (sym pushed) (first_more c.loop-unit.starts.items mark i.first);
+      before = omega arith;
+      marks = rw pushed (marks_more bytes u c.loop-unit.starts.items mark i.marks found.mark);
+      first = rw pushed (first_more c.loop-unit.starts.items mark i.first);
       starts = ap (λ m. map mark_units m ++ starts_after (n + 1) after) pushed ∙ starts;
     }
 
@@ -41,7 +41,7 @@ loop-unit-preserved g c =
       unread = next_unread u before after n c.in-Some.unit i.unread c.in-Some.ensures.steps;
       within = next_within u before after n c.in-Some.unit i.unread c.in-Some.ensures.steps;
       is_mark = i.is_mark;
-      before = omega (arith, i.before);
+      before = omega arith;
       marks = i.marks;
       first = i.first;
       starts = starts_same (map mark_units c.loop-unit.starts.items) n c.in-Some.unit before after

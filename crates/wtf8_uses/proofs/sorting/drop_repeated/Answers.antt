@@ -18,5 +18,4 @@ returns-clause-sorted g c = λ sorted.
     let ties = λ (s : UnitString) (t : UnitString). texts_ties s.bytes t.bytes
     ∙ ap is_eq (slice_cmp-bytes_as_points c.law_byte_order.ensures.compares s t) in
     rw (dedup_is _ _ _ c.dedup.ensures.filtered)
-    (IsStrictlySortedBy-dedup (on_total (λ (s : UnitString). s.form.points) nat_list_cmp_total) ties
-    c.args.strings.now.items sorted)
+    (IsStrictlySortedBy-dedup (on_total (λ (s : UnitString). s.form.points) nat_list_cmp_total) ties c.args.strings.now.items sorted)

@@ -1,4 +1,4 @@
-use Rattle.std.proofs.Common.{◌≡◌, ◌++◌, [], true, refl, sym, subst, rules, arith}
+use Rattle.std.proofs.Common.{◌≡◌, ◌++◌, [], true, refl, sym, rules, arith}
 use Rattle.std.proofs.lemmas.Bool.{MatchBool-at_true}
 use Rattle.std.proofs.lemmas.Bool.Decides.{nat_tests}
 use Rattle.std.proofs.lemmas.List.{append-nil, nil_from_length}
@@ -15,8 +15,7 @@ returns g c =
     let read = MatchBool-at_true _ _ all c.in_ok-parse_calls.ensures in
     let string = c.apply_all.new.self in
     let n = c.in-Ok.refused in
-    let run : Run [] calls string.units n = subst (λ calls. Run [] calls string.units n) c.as_slice.ensures.value
-    (subst (λ u. Run u c.as_slice.result.now string.units n) c.clear.ensures.units c.in-Ok.ensures.run) in
+    let run : Run [] calls string.units n = rw (c.clear.ensures.units, c.as_slice.ensures.value) at c.in-Ok.ensures.run in
     record {
       output = on_ok_weaker c.push_dump_with_note.result (λ e. (
         hex string.bytes ++ note string.bytes n,
@@ -32,4 +31,4 @@ empty_output =
 pub returns-then-is_empty : goal.returns-then-is_empty
 returns-then-is_empty g c =
     let none = nil_from_length c.args.line.now (grind (arith, nat_tests)) in
-    record { output = ([], subst (λ line. IsOutput line []) (sym none) empty_output, sym (append-nil c.args.out.now.items)) }
+    record { output = ([], rw none empty_output, sym (append-nil c.args.out.now.items)) }

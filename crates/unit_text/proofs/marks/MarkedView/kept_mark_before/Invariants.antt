@@ -8,8 +8,7 @@ invariant-loop-low g l = record {
   order : l.low ≤ l.high;
   within : l.high ≤ length l.marks;
   before : 0 < l.low → (slice_index_or l.marks (l.low - 1) record { position = 0; units = 0 }).position ≤ l.position;
-  after : l.high < length l.marks
-      → l.position < (slice_index_or l.marks l.high record { position = 0; units = 0 }).position;
+  after : l.high < length l.marks → l.position < (slice_index_or l.marks l.high record { position = 0; units = 0 }).position;
 }
 
 abbrev pub decreases-loop-low : goal.decreases-loop-low

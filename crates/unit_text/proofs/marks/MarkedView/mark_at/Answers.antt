@@ -1,15 +1,11 @@
-use Rattle.std.proofs.Common.{inl, inr, sym, subst}
-use Rattle.wtf8.specs.UnitPosition.{DividesPair}
+use Rattle.std.proofs.Common.{rules}
 use Rattle.wtf8.specs.View.{view_units, view_form}
 use Rattle.unit_text.proofs.marks.MarkedView.mark_at.Goals as goal
 
 pub returns-clause-divided : goal.returns-clause-divided
-returns-clause-divided g c = λ divides.
+returns-clause-divided g c =
     let view = c.args.self.now.text.view in
     let mark = c.mark_at.result in
-    elim c.mark_at.ensures.last [
-      | inl e ↦ absurd
-          (c.law_marks.ensures.no_pair view.bytes.now (view_units view) mark.position mark.units (view_form view) c.mark_at.ensures.mark
-          (subst (DividesPair (view_units view)) (sym e) divides))
-      | inr e ↦ e.0
-    ]
+    let whole = c.law_marks.ensures.no_pair view.bytes.now (view_units view) mark.position mark.units (view_form view)
+    c.mark_at.ensures.mark in
+    grind (rules, whole)

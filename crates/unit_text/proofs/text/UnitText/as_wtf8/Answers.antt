@@ -7,5 +7,4 @@ pub returns-clause-reading : goal.returns-clause-reading
 returns-clause-reading g c =
     let view = c.as_wtf8.result in
     reading-unique c.law_one_reading.ensures.unique c.law_one_reading.ensures.of_units c.law_concat.ensures.reads
-    (view_points view) c.args.self.now
-    (record { clean = view.well_formed.clean; same_units = c.as_wtf8.ensures.units ∙ c.self.view_is })
+    (view_points view) c.args.self.now (record { clean = view.well_formed.clean; same_units = c.as_wtf8.ensures.units ∙ c.self.view_is })

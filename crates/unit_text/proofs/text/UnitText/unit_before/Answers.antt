@@ -1,7 +1,6 @@
-use Rattle.std.proofs.Common.{◌≡◌, refl, sym, ap, ◌∙◌, subst, arith, length-take-le, length}
+use Rattle.std.proofs.Common.{◌≡◌, sym, ap, ◌∙◌, arith, rules, length-take-le, length}
 use Rattle.wtf8.specs.Position.{IsBoundary, IsFront}
 use Rattle.wtf8.specs.View.{view_units, view_form}
-use Rattle.unit_text.proofs.PositionLemmas.{front_of_mark}
 use Rattle.unit_text.proofs.text.UnitText.unit_before.Goals as goal
 
 pub returns-clause-before : goal.returns-clause-before
@@ -13,11 +12,10 @@ returns-clause-before g c =
     record {
       boundary = mark.position;
       within = omega (arith, found.mark.units_within, ap length same);
-      front = front_of_mark (view_units view) c.args.self.now mark.position mark.units mark.units same refl c.law_mark.ensures.boundary
-          c.law_mark.ensures.front;
+      front = search rules;
       at_or_before = omega (arith, found.before, c.min.ensures);
       last = λ m b l.
-          let own = subst (λ u. IsBoundary u m) (sym same) b in
+          let own : IsBoundary (view_units view) m = rw same b in
           let inside = c.law_positions.ensures.beyond view.bytes.now (view_units view) m (view_form view) own in
           found.last m own (omega (arith, l, inside, c.len.ensures.bytes, c.min.ensures));
     }
@@ -27,11 +25,10 @@ returns-clause-exact g c = λ v front.
     let view = c.marked-marked.result.text.view in
     let mark = c.mark_before-mark.result in
     let found = c.mark_before-mark.ensures in
-    let own : IsFront (view_units view) c.args.position v =
-    subst (λ u. IsFront u c.args.position v) (sym c.marked-marked.ensures.units) front in
-    let boundary : IsBoundary (view_units view) c.args.position = record { front = own.front; back = own.back; splits = own.splits } in
+    let own : IsFront (view_units view) c.args.position v = rw c.marked-marked.ensures.units front in
+    let boundary : IsBoundary (view_units view) c.args.position = search rules in
     let inside = c.law_positions.ensures.beyond view.bytes.now (view_units view) c.args.position (view_form view) boundary in
     let after = found.last c.args.position boundary (omega (arith, inside, c.len.ensures.bytes, c.min.ensures)) in
     let here : c.args.position ≡ mark.position = omega (arith, after, found.before, c.min.ensures) in
-    sym (ap length (c.law_mark.ensures.front v (subst (λ k. IsFront (view_units view) k v) here own))
-    ∙ length-take-le mark.units (view_units view) found.mark.units_within)
+    let at_mark : IsFront (view_units view) mark.position v = rw (← here) own in
+    sym (ap length (c.law_mark.ensures.front v at_mark) ∙ length-take-le mark.units (view_units view) found.mark.units_within)

@@ -1,4 +1,4 @@
-use Rattle.wtf8.proofs.Common.{arith, take}
+use Rattle.wtf8.proofs.Common.{arith, take, rules}
 use Rattle.wtf8.proofs.lemmas.from_utf16.Kernel.{take-without_lead}
 use Rattle.wtf8.proofs.from_utf16.kernel.write_block.Goals as goal
 
@@ -11,3 +11,9 @@ overflow_sub-result-then-units-eq-LEAD_KIND c =
 
 pub returns-then-units-eq-LEAD_KIND-clause-bytes : goal.returns-then-units-eq-LEAD_KIND-clause-bytes
 returns-then-units-eq-LEAD_KIND-clause-bytes c = grind (arith, take-without_lead, c.if-units-eq-LEAD_KIND.true, c.requires)
+
+pub returns-then-units-eq-LEAD_KIND-clause-scalar : goal.returns-then-units-eq-LEAD_KIND-clause-scalar
+returns-then-units-eq-LEAD_KIND-clause-scalar c = search rules
+
+pub returns-clause-scalar : goal.returns-clause-scalar
+returns-clause-scalar c = search rules

@@ -12,14 +12,7 @@ invariant_of-self-inside-2 c =
     let i = c.self.inside in
     let old = AreNumbered-equal_lists i.numbered refl c.self.view_is in
     let count : c.len-number.result ≡ length c.args.self.now =
-    omega (
-      arith,
-      c.len-number.ensures,
-      c.in_ok-reserve.ensures.len,
-      i.strings.ok.0,
-      length-map i.strings.items (λ s. s.units),
-      ap length c.self.view_is,
-    ) in
+    omega (arith, c.in_ok-reserve.ensures.len, i.strings.ok.0, length-map i.strings.items (λ s. s.units), ap length c.self.view_is) in
     let nexts : c.push_reserved-2.new.self.items ≡ i.nexts.items ++ unwrap_or (get nat_eq i.heads c.args.hash) 0 ∷ [] = search rules in
     let strings : units_of_strings c.push_reserved.new.self.items ≡ c.args.self.now ++ view_units c.args.string ∷ [] =
     units_of_strings-push _ _ _ _ c.push_reserved.ensures.items c.in_ok-reserve.ensures.items c.self.view_is

@@ -1,8 +1,8 @@
-use Rattle.wtf8.proofs.Common.{◌≡◌, ◌<◌, ◌+◌, ℕ, List, [], ◌∷◌, ◌++◌, length, get_or, Bool, false, cond, Some, refl, ap, ◌∙◌, sym}
-use Rattle.wtf8.proofs.Common.{subst, arith, append_assoc, All, Step, Run, CallsAppend, IsNoTruncation, Build}
-use Rattle.wtf8.proofs.Common.{◌≤◌, take, drop, inl, inr, false≢true, cases_lt, append-nil, IsForm, EachCallFits, All-nil}
-use Rattle.wtf8.proofs.Common.{All-cons, take_all, All-get_or, FitWithin, none-some, LeavesReserved}
-use Rattle.std.proofs.lemmas.Option.{same_Some}
+use Rattle.wtf8.proofs.Common.{◌≡◌, ◌<◌, ◌+◌, ℕ, List, [], ◌∷◌, ◌++◌, length, get_or, Bool, false, cond, Some, refl, ap, ◌∙◌, sym, subst}
+use Rattle.wtf8.proofs.Common.{arith, append_assoc, All, Step, Run, CallsAppend, IsNoTruncation, Build, ◌≤◌, take, drop, inl, inr}
+use Rattle.wtf8.proofs.Common.{false≢true, cases_lt, append-nil, IsForm, EachCallFits, All-nil, All-cons, take_all, All-get_or, FitWithin}
+use Rattle.wtf8.proofs.Common.{none-some, LeavesReserved, true, Reserve, Truncate, TruncateUnits, rules, length-append}
+use Rattle.std.proofs.lemmas.Option.{same_Some, slice_get_read}
 use Rattle.wtf8.specs.Building.{appended_units, reserved_bytes}
 use Rattle.wtf8.proofs.lemmas.strings.StringLaws.{reserved_more}
 use Rattle.wtf8.proofs.lemmas.strings.Concatenation.{take-cons-drop, take-push}
@@ -142,3 +142,30 @@ pub returns-clause-appends : goal.returns-clause-appends
 returns-clause-appends g c v all =
     let whole = take_all c.loop-done.done c.args.calls.now (omega arith) in
     run_appends _ _ _ _ v c.loop-done.invariant.ran (subst (λ d. CallsAppend d v) (sym whole) all)
+
+-- the goals from here on are proved without an answer too, but in 15 seconds
+pub loop-done-init : goal.loop-done-init
+loop-done-init g c = record {
+  ran = search rules;
+  counted = search rules;
+  found = search rules;
+  reserved = λ front back n v r e. absurd (omega (arith, ap length e, length-append front (Reserve n ∷ back)));
+  no_smaller = search rules;
+}
+
+pub returns-in_default-clause-stopped : goal.returns-in_default-clause-stopped
+returns-in_default-clause-stopped g c =
+    let calls = c.args.calls.now in record {
+      call = c.index-calls-done.result;
+      here = slice_get_read calls (length calls) c.loop-done.done c.index-calls-done.result refl (omega arith) c.index-calls-done.is;
+      mid = c.loop-done.self.units;
+      refused = c.loop-done.refused;
+      before = c.loop-done.invariant.ran;
+      leaves = c.in_default.ensures.refused;
+    }
+
+pub returns-clause-run : goal.returns-clause-run
+returns-clause-run g c = rw (take_all c.loop-done.done c.args.calls.now (omega arith)) at c.loop-done.invariant.ran
+
+pub returns-clause-reserved : goal.returns-clause-reserved
+returns-clause-reserved g c = rw (take_all c.loop-done.done c.args.calls.now (omega arith)) at c.loop-done.invariant.reserved
