@@ -1,7 +1,6 @@
-use Rattle.std.proofs.Common.{refl, inl, inr, arith, le_refl, to_z, of_z, w32}
+use Rattle.std.proofs.Common.{rules, refl, inl, inr, arith, le_refl}
 use Rattle.std.proofs.lemmas.Bool.{false≢true}
-use Rattle.wtf8_c.specs.Contents.{contents}
-use Rattle.wtf8_c.proofs.Outcomes.{other_code, IsCodeOf, returned, done_memory_or, no_other, Opened, opened, appended, kept_unless_done}
+use Rattle.wtf8_c.proofs.Outcomes.{other_code, returned, done_memory_or, no_other, opened, kept_unless_done}
 use Rattle.wtf8_c.proofs.Outcomes.{kept_same, room, capacity_kept, capacity_same}
 use Rattle.wtf8_c.proofs.appending.wtf8_push_utf8.Goals as goal
 
@@ -25,31 +24,33 @@ returns-in_default-open c = record {
   capacity = capacity_same c.in_default-open.ensures.kept;
 }
 
-code : (c : goal.After-code_of) → IsCodeOf c.push_str-pushed.result (to_z w32 (of_z w32 c.code_of.result))
-code c = returned c.code_of.type_inv c.code_of.ensures.done c.code_of.ensures.memory
-
-taken : (c : goal.After-code_of) → Opened (contents c.args.string.now) c.deref_mut.result.now c.args.string.now.full
-taken c =
-    let old = c.in-Ok-open.ensures in
-    opened c.deref_mut.ensures.value old.units old.bytes old.capacity old.held
-
 pub returns-clause-code : goal.returns-clause-code
-returns-clause-code c = done_memory_or _ _ (code c)
+returns-clause-code c = done_memory_or _ _ (returned c.code_of.type_inv c.code_of.ensures.done c.code_of.ensures.memory)
 
 pub returns-clause-no_utf8 : goal.returns-clause-no_utf8
 returns-clause-no_utf8 c =
-    (no_other _ _ 6 (code c) (omega arith), λ not. absurd (not c.in-Ok.ensures.cases.1))
+    let k = returned c.code_of.type_inv c.code_of.ensures.done c.code_of.ensures.memory in
+    (no_other _ _ 6 k (omega arith), λ not. absurd (not c.in-Ok.ensures.cases.1))
 
 pub returns-clause-done : goal.returns-clause-done
-returns-clause-done c =
-    appended _ (code c) (taken c) c.put.ensures.contents (rw (← c.in-Ok.ensures.cases.0) c.push_str-pushed.ensures.ok)
+returns-clause-done c = search rules
 
 pub returns-clause-kept : goal.returns-clause-kept
-returns-clause-kept c = kept_unless_done (code c) (taken c) c.put.ensures.contents c.push_str-pushed.ensures.kept
+returns-clause-kept c =
+    let k = returned c.code_of.type_inv c.code_of.ensures.done c.code_of.ensures.memory in
+    let old = c.in-Ok-open.ensures in
+    let o = opened c.deref_mut.ensures.value old.units old.bytes old.capacity old.held in
+    kept_unless_done k o c.put.ensures.contents c.push_str-pushed.ensures.kept
 
 pub returns-clause-room : goal.returns-clause-room
 returns-clause-room c full _ =
-    room _ (code c) (taken c) (rw (← c.in-Ok.ensures.cases.0) c.push_str-pushed.ensures.room) full
+    let k = returned c.code_of.type_inv c.code_of.ensures.done c.code_of.ensures.memory in
+    let old = c.in-Ok-open.ensures in
+    let o = opened c.deref_mut.ensures.value old.units old.bytes old.capacity old.held in
+    room _ k o (rw (← c.in-Ok.ensures.cases.0) c.push_str-pushed.ensures.room) full
 
 pub returns-clause-capacity : goal.returns-clause-capacity
-returns-clause-capacity c = capacity_kept (taken c) c.put.ensures.contents c.push_str-pushed.ensures.capacity
+returns-clause-capacity c =
+    let old = c.in-Ok-open.ensures in
+    let o = opened c.deref_mut.ensures.value old.units old.bytes old.capacity old.held in
+    capacity_kept o c.put.ensures.contents c.push_str-pushed.ensures.capacity

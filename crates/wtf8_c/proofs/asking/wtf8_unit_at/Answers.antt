@@ -1,12 +1,18 @@
 use Rattle.std.proofs.Common.{◌≡◌, ◌≤◌, ℕ, List, None, length, sym, ap, ◌∙◌, inl, inr, refl}
 use Rattle.std.proofs.lemmas.Bool.{cases_lt}
 use Rattle.std.specs.List.{slice_get}
-use Rattle.std.proofs.lemmas.Option.{none-some, slice_get-get_or}
-use Rattle.wtf8_c.proofs.Outcomes.{other_code}
+use Rattle.std.proofs.lemmas.Option.{none-some, slice_get-get_or, slice_get_within}
+use Rattle.wtf8_c.proofs.Outcomes.{other_code, outside}
 use Rattle.wtf8_c.proofs.asking.wtf8_unit_at.Goals as goal
 
 pub returns-in-Some-clause-code : goal.returns-in-Some-clause-code
 returns-in-Some-clause-code c = inl refl
+
+pub returns-in-Some-clause-position : goal.returns-in-Some-clause-position
+returns-in-Some-clause-position c =
+    let units = c.view.ensures.units ∙ ap (λ x. x.units) c.take-held.ensures.contents in
+    let found = sym (c.in-Some.ensures ∙ ap (λ x. slice_get x c.args.index) units) in
+    (other_code _ _ refl, λ past. outside (slice_get_within _ _ _ found) past)
 
 pub returns-in-Some-clause-done : goal.returns-in-Some-clause-done
 returns-in-Some-clause-done c _ =
