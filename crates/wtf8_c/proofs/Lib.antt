@@ -1,3 +1,4 @@
 pub mod Boxed
 pub mod Empty
+pub mod Outcomes
 pub mod Steps

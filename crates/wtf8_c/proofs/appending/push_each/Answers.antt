@@ -1,4 +1,4 @@
-use Rattle.std.proofs.Common.{◌≡◌, ◌<◌, ◌++◌, ◌∷◌, [], ◌+◌, length, take, drop, get_or, ap, sym, ◌∙◌, take_at, subst, append_assoc}
+use Rattle.std.proofs.Common.{◌≡◌, ℕ, List, ◌<◌, ◌++◌, ◌∷◌, [], ◌+◌, length, take, drop, get_or, ap, sym, ◌∙◌, take_at, subst, append_assoc}
 use Rattle.std.proofs.Common.{take-append-drop, arith}
 use Rattle.std.proofs.lemmas.List.{take_more}
 use Rattle.wtf8.specs.Form.{IsForm}
@@ -6,6 +6,22 @@ use Rattle.wtf8.specs.Unicode.{units_of}
 use Rattle.wtf8.proofs.lemmas.codec.Readings.{units_one}
 use Rattle.wtf8.proofs.lemmas.strings.ExtendedForms.{beginning_of_form}
 use Rattle.wtf8_c.proofs.appending.push_each.Goals as goal
+
+-- one more unit of `v` is appended
+one_more : (b u v : List ℕ) (i x : ℕ) → b ≡ u ++ take i v → x ≡ get_or v i 0 → i < length v → b ++ (x ∷ []) ≡ u ++ take (i + 1) v
+one_more b u v i x so is within =
+    ap (λ y. y ++ (x ∷ [])) so ∙ append_assoc u (take i v) (x ∷ [])
+    ∙ ap (λ y. u ++ y) (ap (λ y. take i v ++ (y ∷ [])) is ∙ sym (take_more v i 0 within))
+
+pub loop-unit-preserved : goal.loop-unit-preserved
+loop-unit-preserved c =
+    let i = c.loop-unit.unit-index in
+    let is = c.from_u32_unchecked.ensures ∙ c.from.ensures in
+    let one = c.in_default.ensures.one_unit (omega (arith, (c.type_inv.units i).fits, is)) in
+    record {
+      appended = one ∙ one_more _ _ _ i _ c.loop-unit.invariant.appended is c.loop-unit-test.true;
+      capacity = omega (arith, c.loop-unit.invariant.capacity, c.push.ensures.capacity);
+    }
 
 -- the units that were pushed are cut off again, and the bytes are the form of the units
 pub returns-in-Err-clause-kept : goal.returns-in-Err-clause-kept
@@ -27,9 +43,9 @@ returns-in-Err-clause-room c fit =
     let is : x ≡ get_or v i 0 = c.from_u32_unchecked.ensures ∙ c.from.ensures in
     let one : units_of x ≡ x ∷ [] = units_one x (omega (arith, (c.type_inv.units i).fits, is)) in
     let front : c.loop-unit.buf.units ++ units_of x ≡ u ++ take (i + 1) v =
-    cc (c.loop-unit.invariant.appended, one, is, append_assoc u (take i v) (x ∷ []), take_more v i 0 within) in
+    ap (λ y. c.loop-unit.buf.units ++ y) one ∙ one_more _ u v i x c.loop-unit.invariant.appended is within in
     let parts : u ++ v ≡ (u ++ take (i + 1) v) ++ drop (i + 1) v =
-    cc (append_assoc u (take (i + 1) v) (drop (i + 1) v), take-append-drop (i + 1) v) in
+    sym (append_assoc u (take (i + 1) v) (drop (i + 1) v) ∙ ap (λ y. u ++ y) (take-append-drop (i + 1) v)) in
     let b = beginning_of_form (u ++ take (i + 1) v) (drop (i + 1) v) fit.whole (subst (IsForm fit.whole) parts fit.form) in
     c.in-Err.ensures.room (record {
       whole = b.whole;

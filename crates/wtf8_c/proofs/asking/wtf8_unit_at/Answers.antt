@@ -1,12 +1,29 @@
-use Rattle.std.proofs.Common.{rules, ◌≡◌, ◌≤◌, ℕ, List, None, length, sym, ◌∙◌, inl, inr, refl}
+use Rattle.std.proofs.Common.{◌≡◌, ◌≤◌, ℕ, List, None, length, sym, ap, ◌∙◌, inl, inr, refl}
 use Rattle.std.proofs.lemmas.Bool.{cases_lt}
 use Rattle.std.specs.List.{slice_get}
-use Rattle.std.proofs.lemmas.Option.{none-some, slice_get-get_or}
-use Rattle.wtf8_c.specs.Contents.{contents}
+use Rattle.std.proofs.lemmas.Option.{none-some, slice_get-get_or, slice_get_within}
+use Rattle.wtf8_c.proofs.Outcomes.{other_code, outside}
 use Rattle.wtf8_c.proofs.asking.wtf8_unit_at.Goals as goal
 
+pub returns-in-Some-clause-code : goal.returns-in-Some-clause-code
+returns-in-Some-clause-code c = inl refl
+
+pub returns-in-Some-clause-position : goal.returns-in-Some-clause-position
+returns-in-Some-clause-position c =
+    let units = c.view.ensures.units ∙ ap (λ x. x.units) c.take-held.ensures.contents in
+    let found = sym (c.in-Some.ensures ∙ ap (λ x. slice_get x c.args.index) units) in
+    (other_code _ _ refl, λ past. outside (slice_get_within _ _ _ found) past)
+
 pub returns-in-Some-clause-done : goal.returns-in-Some-clause-done
-returns-in-Some-clause-done c = search rules
+returns-in-Some-clause-done c _ =
+    let units = c.view.ensures.units ∙ ap (λ x. x.units) c.take-held.ensures.contents in
+    sym (c.in-Some.ensures ∙ ap (λ x. slice_get x c.args.index) units)
+
+pub returns-in-Some-clause-unit : goal.returns-in-Some-clause-unit
+returns-in-Some-clause-unit c = other_code _ _ refl
+
+pub returns-in-Some-clause-kept : goal.returns-in-Some-clause-kept
+returns-in-Some-clause-kept c = c.put_back.ensures ∙ c.take-held.ensures.contents
 
 -- no unit is at an index that is not below the length
 none_past : (u : List ℕ) (i : ℕ) → slice_get u i ≡ None → length u ≤ i
@@ -15,7 +32,14 @@ none_past u i e = elim (cases_lt i (length u)) [
   | inr h ↦ h
 ]
 
-pub returns-in-None-clause-position : goal.returns-in-None-clause-position
-returns-in-None-clause-position c =
-    let none : slice_get (contents c.args.string.now).units c.args.index ≡ None = search rules in
-    (λ _. none_past _ _ none, λ _. refl)
+pub returns-in-None : goal.returns-in-None
+returns-in-None c =
+    let units = c.view.ensures.units ∙ ap (λ x. x.units) c.take-held.ensures.contents in
+    let none = sym (c.in-None.ensures ∙ ap (λ x. slice_get x c.args.index) units) in
+    record {
+      code = inr refl;
+      position = (λ _. none_past _ _ none, λ _. refl);
+      done = other_code _ _ refl;
+      unit = λ _. refl;
+      kept = c.put_back.ensures ∙ c.take-held.ensures.contents;
+    }

@@ -1,5 +1,19 @@
-use Rattle.std.proofs.Common.{rules}
+use Rattle.std.proofs.Common.{rules, refl, inr, ap, ◌∙◌, length}
+use Rattle.wtf8_c.proofs.Outcomes.{other_code}
 use Rattle.wtf8_c.proofs.units_out.wtf8_copy_lossy.Goals as goal
+
+pub returns-then-out-needed : goal.returns-then-out-needed
+returns-then-out-needed c =
+    let is = c.len-needed.ensures.bytes ∙ ap length (c.view-text.ensures.bytes ∙ ap (λ x. x.bytes) c.take-held.ensures.contents) in
+    record {
+      code = inr (inr refl);
+      short = (λ _. rw is at c.if-out-needed.true, λ _. refl);
+      done = other_code _ _ refl;
+      out = λ _. refl;
+      len = λ _. is;
+      len_kept = other_code _ _ refl;
+      kept = c.put_back.ensures ∙ c.take-held.ensures.contents;
+    }
 
 pub returns-clause-short : goal.returns-clause-short
 returns-clause-short c = search rules
@@ -9,3 +23,6 @@ returns-clause-done c = search rules
 
 pub returns-clause-len : goal.returns-clause-len
 returns-clause-len c = search rules
+
+pub returns-clause-kept : goal.returns-clause-kept
+returns-clause-kept c = c.put_back-2.ensures ∙ c.take-held.ensures.contents

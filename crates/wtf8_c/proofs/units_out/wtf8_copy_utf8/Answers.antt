@@ -1,4 +1,4 @@
-use Rattle.std.proofs.Common.{rules}
+use Rattle.std.proofs.Common.{rules, ◌∙◌}
 use Rattle.wtf8_c.proofs.units_out.wtf8_copy_utf8.Goals as goal
 
 pub returns-clause-short : goal.returns-clause-short
@@ -9,3 +9,6 @@ returns-clause-done c = search rules
 
 pub returns-clause-len : goal.returns-clause-len
 returns-clause-len c = search rules
+
+pub returns-clause-kept : goal.returns-clause-kept
+returns-clause-kept c = c.put_back.ensures ∙ c.take-held.ensures.contents
