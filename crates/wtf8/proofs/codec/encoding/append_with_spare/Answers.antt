@@ -1,4 +1,4 @@
-use Rattle.wtf8.proofs.Common.{arith, common_steps}
+use Rattle.wtf8.proofs.Common.{arith, rules, common_steps}
 use Rattle.wtf8.proofs.lemmas.codec.Encoding.{encoding_one}
 use Rattle.wtf8.proofs.codec.encoding.append_with_spare.Goals as goal
 
