@@ -40,7 +40,8 @@ abbrev pub cut_of : {w u : List ℕ} (h : IsWellFormed w) {k n : ℕ} → IsMark
 cut_of {w} {u} h {k} {n} m =
     let front = m.before.points in
     let back = m.after.points in
-    let whole : bytes (front ++ back) ≡ w = grind (arith, bytes-append, take-append-drop) in
+    let whole : bytes (front ++ back) ≡ w = bytes-append front back
+    ∙ (ap (λ v. v ++ bytes back) m.before.encoded ∙ (ap (λ v. take k w ++ v) m.after.encoded ∙ take-append-drop k w)) in
     record {
       front = front;
       back = back;
