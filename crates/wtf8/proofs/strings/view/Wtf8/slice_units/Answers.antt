@@ -1,5 +1,6 @@
-use Rattle.wtf8.proofs.Common.{nat_tests, length-append, length-drop, length-take, view_units, option_to_list, DividesPair, take-append-add}
-use Rattle.wtf8.proofs.Common.{◌≤◌, ◌≡◌, ◌∙◌, ◌+◌, ◌-◌, [], ◌++◌, ap, sym, subst, length, take, arith, drop, drop_all, units, drop-take}
+use Rattle.wtf8.proofs.Common.{nat_tests, ◌≤◌, ◌≡◌, ◌∙◌, ◌+◌, ◌-◌, [], ◌++◌, ap, sym, subst, length, take, arith, length-append}
+use Rattle.wtf8.proofs.Common.{length-drop, length-take, drop, drop_all, units, view_units, drop-take, option_to_list, DividesPair}
+use Rattle.wtf8.proofs.Common.{take-append-add}
 use Rattle.wtf8.proofs.lemmas.codec.Readings.{points-nil}
 use Rattle.wtf8.proofs.lemmas.strings.UnitCuts.{divides_after}
 use Rattle.wtf8.proofs.strings.view.Wtf8.slice_units.Goals.{After-half_len}
