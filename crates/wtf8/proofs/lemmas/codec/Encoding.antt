@@ -1,7 +1,7 @@
 -- The bytes of code points, and what the first bytes determine.
 use Rattle.wtf8.proofs.Common.{◌≡◌, ℕ, zero, suc, ◌+◌, ◌/◌, ◌%◌, ◌<◌, ◌≤◌, ◌⊎◌, List, [], ◌∷◌, ◌++◌, length, get_or, refl, sym}
 use Rattle.wtf8.proofs.Common.{ap, ◌∙◌, arith, lt-ltb, length-append, le-ltb, cases_lt, append-nil, flat_map-append, IsSurrogate, bytes}
-use Rattle.wtf8.proofs.Common.{encoding_is_encode, ◌-◌, ◌*◌, subst, IsCodePoint, encoding, BeginsWithPoint, encode_same, FirstPointByLead}
+use Rattle.wtf8.proofs.Common.{encoding_is_encode, subst, IsCodePoint, encoding, BeginsWithPoint, encode_same, FirstPointByLead}
 use Rattle.std.proofs.Math.Nat.{div-div-eq-div-mul}
 use Rattle.wtf8.specs.Form.{encoding}
 
@@ -111,8 +111,3 @@ begins_with p r w range e = record {
 
 abbrev pub BeginsWithPoint-equal_bytes : {v w : List ℕ} → BeginsWithPoint v → w ≡ v → BeginsWithPoint w
 BeginsWithPoint-equal_bytes b e = begins_with b.point b.rest _ b.in_range (e ∙ b.encoded)
-
--- the lead surrogate of a supplementary code point, from its first three bytes
-abbrev pub LeadRead : List ℕ → ℕ → Type 0
-LeadRead w p =
-    0xD7C0 + ((get_or w 0 0 - 0xF0) * 64 + (get_or w 1 0 - 0x80)) * 4 + (get_or w 2 0 - 0x80) / 16 ≡ 0xD800 + (p - 0x10000) / 0x400
