@@ -1,8 +1,7 @@
 use Rattle.wtf8.proofs.Common.{arith, get_or, utf16_len, sum_by_more}
 use Rattle.wtf8.proofs.lemmas.lanes.UnitCounts.{utf16_len-ascii, utf16_len-continuation}
-use Rattle.wtf8.proofs.strings.unit_positions.find_unit.Goals.{then-byte-lt128+else-units-unit}
 use Rattle.wtf8.proofs.strings.unit_positions.find_unit.Goals.{else-byte-lt128+then-byte-ge192+else-unit-units}
-use Rattle.wtf8.proofs.strings.unit_positions.find_unit.Goals.{else-byte-lt128+else-byte-ge192}
+use Rattle.wtf8.proofs.strings.unit_positions.find_unit.Goals.{then-byte-lt128+else-units-unit, else-byte-lt128+else-byte-ge192}
 use Rattle.wtf8.proofs.strings.unit_positions.find_unit.Goals as goal
 
 pub returns-then-units-unit : goal.returns-then-units-unit

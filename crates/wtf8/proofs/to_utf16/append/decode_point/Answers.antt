@@ -53,7 +53,8 @@ write_units-requires-in_default c =
     let r = first_point_read view.well_formed p c.read-width.result.1 c.requires.nonempty c.read-width.ensures in
     let two = units_two p (omega (arith, c.to_u32-value.ensures.value, c.if-value-lt65536.false)) in
     let begins = subst (λ v. BeginsWithUnits view.bytes.now v c.read-width.result.1) two r.begins in
-    let all = subst (λ v. BeginsWithUnits view.bytes.now v c.read-width.result.1) (sym (ap (take 2) (c.pair_of-pair.ensures ∙ two))) begins in
+    let all = subst (λ v. BeginsWithUnits view.bytes.now v c.read-width.result.1) (sym (ap (take 2) (c.pair_of-pair.ensures ∙ two)))
+    begins in
     (omega arith, (omega arith, (omega (arith, c.requires.room, ap length (begins view.well_formed).1), ((omega arith, r.within), all))))
 
 pub returns-then-value-lt65536-clause-shorter : goal.returns-then-value-lt65536-clause-shorter

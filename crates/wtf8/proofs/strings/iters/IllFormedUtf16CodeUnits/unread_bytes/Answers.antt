@@ -34,14 +34,8 @@ returns-clause-value c =
     let s = c.self.inside in
     let held = ap (λ u. length u.held) c.self.view_is in
     let points = ap (λ u. length (bytes u.points)) c.self.view_is in
-    omega (
-      arith,
-      held,
-      points,
-      c.held_units.ensures.value,
-      length-held (drop s.position s.bytes.now) s.after,
-      length-drop s.position s.bytes.now,
-    )
+    omega
+    (arith, held, points, c.held_units.ensures.value, length-held (drop s.position s.bytes.now) s.after, length-drop s.position s.bytes.now)
 
 pub returns-clause-at_least_units : goal.returns-clause-at_least_units
 returns-clause-at_least_units c = let b = lists_have_lengths c.args.self.now.points in omega (arith, b.units_least, returns-clause-value c)

@@ -18,16 +18,14 @@ pub invariant_of-self-inside : goal.invariant_of-self-inside
 invariant_of-self-inside c =
     let s = c.self.inside in
     let t = Taken-from_first s.bytes.now s.position s.well_formed (number c.read-after.result.0) c.read-after.result.1
-    (omega (arith, s.within, c.if-self.false))
-    (λ b. c.read-after.ensures (BeginsWithPoint-equal_bytes b c.split_at.ensures.back)) in
+    (omega (arith, s.within, c.if-self.false)) (λ b. c.read-after.ensures (BeginsWithPoint-equal_bytes b c.split_at.ensures.back)) in
     (t.within, (t.rest, tt))
 
 pub returns-clause-steps : goal.returns-clause-steps
 returns-clause-steps c =
     let s = c.self.inside in
     let t = Taken-from_first s.bytes.now s.position s.well_formed (number c.read-after.result.0) c.read-after.result.1
-    (omega (arith, s.within, c.if-self.false))
-    (λ b. c.read-after.ensures (BeginsWithPoint-equal_bytes b c.split_at.ensures.back)) in
+    (omega (arith, s.within, c.if-self.false)) (λ b. c.read-after.ensures (BeginsWithPoint-equal_bytes b c.split_at.ensures.back)) in
     sym c.self.view_is ∙ (t.joined ∙ ap (λ r. number c.read-after.result.0 ∷ r) (same_points t.rest c.self-1.given.1.0 refl))
 
 pub returns-clause-goes : goal.returns-clause-goes

@@ -6,13 +6,8 @@ pub returns-clause-lower : goal.returns-clause-lower
 returns-clause-lower c _ =
     let s = c.self.inside.well_formed in
     let b = lists_have_lengths s.points in
-    omega (
-      arith,
-      ap length s.encoded,
-      ap length c.self.view_is,
-      c.div_ceil.ensures,
-      length-drop c.self.inside.position c.self.inside.bytes.now,
-    )
+    omega
+    (arith, ap length s.encoded, ap length c.self.view_is, c.div_ceil.ensures, length-drop c.self.inside.position c.self.inside.bytes.now)
 
 pub returns-clause-upper : goal.returns-clause-upper
 returns-clause-upper c =
