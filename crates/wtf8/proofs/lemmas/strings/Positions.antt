@@ -1,7 +1,7 @@
 -- Positions at which the bytes of a string may be cut, and the number of units before them.
 use Rattle.wtf8.proofs.Common.{◌≡◌, ◌-◌, ◌≤◌, ◌<◌, ℕ, zero, suc, inl, inr, List, [], ◌∷◌, ◌++◌, length, get_or, refl, ap, ◌∙◌, sym, subst}
 use Rattle.wtf8.proofs.Common.{arith, length-append, cases_lt, append-nil, get_or-append_right, encoding, bytes, take, drop, append_assoc}
-use Rattle.wtf8.proofs.Common.{take_at, drop_at, units, IsClean, Reads, IsWellFormed, IsForm, IsBoundary, IsFront, IsBack, ◌+◌, ◌/◌, ◌%◌}
+use Rattle.wtf8.proofs.Common.{take_at, drop_at, units, IsClean, Reads, IsWellFormed, IsForm, IsBoundary, IsFront, IsBack, ◌+◌, ◌%◌}
 use Rattle.wtf8.proofs.Common.{take-add, chunk, units_of, utf16_len, sum_utf16_len, IsCursorOfUnit, sum_by-append}
 use Rattle.wtf8.proofs.Common.{sum_by_more, Splits, IsMiddle, UnitCursor, common_steps}
 use Rattle.wtf8.proofs.lemmas.lanes.UnitCounts.{utf16_len-ascii, utf16_len-continuation, utf16_len-lead_below_F0, utf16_len-lead_from_F0}

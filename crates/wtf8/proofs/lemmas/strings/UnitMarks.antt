@@ -3,7 +3,7 @@ use Rattle.wtf8.proofs.Common.{◌≡◌, ◌+◌, ◌<◌, ◌≤◌, ℕ, List
 use Rattle.wtf8.proofs.Common.{length-append, append_assoc, take-append-drop, bytes-injective, units_of, encoding, units, bytes}
 use Rattle.wtf8.proofs.Common.{IsWellFormed, IsForm, UnitCursor, glue, ◌-◌, drop, length-take-le, AreAscii}
 use Rattle.wtf8.proofs.Common.{take_all, length-drop, get_or, IsLead, IsTrail, IsBoundary, IsMiddle, IsFront, inl, inr, cases_lt, take_at}
-use Rattle.wtf8.proofs.Common.{drop_at, drop-append-le, All, IsUnit, MeetsAsPair, get_or-append_seam, DividesPair, common_steps}
+use Rattle.wtf8.proofs.Common.{drop_at, drop-append-le, All, IsUnit, MeetsAsPair, get_or-append_seam, DividesPair}
 use Rattle.std.proofs.lemmas.List.{take-append-le}
 use Rattle.wtf8.specs.PositionLaws.{EqualBoundariesHaveEqualFronts, BoundariesAreInOneOrder, BoundariesDivideNoPair}
 use Rattle.wtf8.specs.UnitMark.{IsMark, EqualCountsAreMarks, MarksStay, MarksDivideNoPair, EqualMarksHaveEqualUnits, MarksAreInOneOrder}

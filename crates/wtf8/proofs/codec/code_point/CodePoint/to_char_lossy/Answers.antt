@@ -1,4 +1,4 @@
-use Rattle.wtf8.proofs.Common.{false≢true, unwrap_or, arith}
+use Rattle.wtf8.proofs.Common.{false≢true, arith}
 use Rattle.wtf8.proofs.lemmas.codec.Scalars.{replace_surrogate-surrogate, kind_by_surrogates}
 use Rattle.wtf8.proofs.codec.code_point.CodePoint.to_char_lossy.Goals as goal
 

@@ -1,4 +1,4 @@
-use Rattle.wtf8.proofs.Common.{arith, bytes, false_from_ne_true}
+use Rattle.wtf8.proofs.Common.{arith, false_from_ne_true}
 use Rattle.wtf8.proofs.lemmas.strings.ExtendedForms.{scalar-characters}
 use Rattle.wtf8.proofs.lemmas.strings.Surrogates.{scalars_true, lossy_points-scalar}
 use Rattle.wtf8.proofs.formatting.display_text.Wtf8Display.fmt.Goals as goal

@@ -1,7 +1,7 @@
 use Rattle.wtf8.proofs.Common.{◌≡◌, ◌<◌, ◌+◌, ℕ, List, [], ◌∷◌, ◌++◌, length, get_or, Bool, false, cond, Some, refl, ap, ◌∙◌, sym, subst}
 use Rattle.wtf8.proofs.Common.{arith, append_assoc, All, Step, Run, CallsAppend, IsNoTruncation, Build, ◌≤◌, take, drop, inl, inr}
 use Rattle.wtf8.proofs.Common.{false≢true, cases_lt, append-nil, IsForm, EachCallFits, All-nil, All-cons, take_all, All-get_or, FitWithin}
-use Rattle.wtf8.proofs.Common.{none-some, LeavesReserved, true, Reserve, Truncate, TruncateUnits, rules, length-append}
+use Rattle.wtf8.proofs.Common.{none-some, LeavesReserved, Reserve, rules, length-append}
 use Rattle.std.proofs.lemmas.Option.{same_Some, slice_get_read}
 use Rattle.wtf8.specs.Building.{appended_units, reserved_bytes}
 use Rattle.wtf8.proofs.lemmas.strings.StringLaws.{reserved_more}

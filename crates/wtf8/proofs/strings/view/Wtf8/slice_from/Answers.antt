@@ -1,4 +1,4 @@
-use Rattle.wtf8.proofs.Common.{◌∙◌, rules, units, view_units, IsBack, arith}
+use Rattle.wtf8.proofs.Common.{◌∙◌, rules, view_units, IsBack, arith}
 use Rattle.wtf8.proofs.lemmas.strings.Positions.{cut_at}
 use Rattle.wtf8.proofs.lemmas.strings.PositionLaws.{front_and_back}
 use Rattle.wtf8.proofs.strings.view.Wtf8.slice_from.Goals as goal

@@ -1,4 +1,4 @@
-use Rattle.wtf8.proofs.Common.{◌∙◌, rules, units, view_units, IsFront, arith}
+use Rattle.wtf8.proofs.Common.{◌∙◌, rules, view_units, IsFront, arith}
 use Rattle.wtf8.proofs.lemmas.strings.Positions.{cut_at}
 use Rattle.wtf8.proofs.lemmas.codec.Readings.{IsWellFormed-equal_bytes}
 use Rattle.wtf8.proofs.lemmas.strings.PositionLaws.{front_and_back}
