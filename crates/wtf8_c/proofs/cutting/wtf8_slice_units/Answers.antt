@@ -32,9 +32,10 @@ returns-in-Ok-clause-code c = done_memory_or_as c.replace.type_inv c.replace.ens
 
 pub returns-in-Ok-clause-position : goal.returns-in-Ok-clause-position
 returns-in-Ok-clause-position c =
-    let is = c.unit_len.ensures ∙ ap length (units c) in
-    (no_other_as 2 (omega arith) c.replace.type_inv c.replace.ensures.code,
-    λ not. absurd (not (c.if-end-begin.false, rw is at c.if-unit_len-end.false)))
+    let is = c.unit_len.ensures ∙ ap length (units c) in (
+      no_other_as 2 (omega arith) c.replace.type_inv c.replace.ensures.code,
+      λ not. absurd (not (c.if-end-begin.false, rw is at c.if-unit_len-end.false)),
+    )
 
 pub returns-in-Ok-clause-done : goal.returns-in-Ok-clause-done
 returns-in-Ok-clause-done c =

@@ -10,21 +10,25 @@ returns-then-end-begin-clause-code c = inr (inr (inl refl))
 
 pub returns-then-end-begin-clause-position : goal.returns-then-end-begin-clause-position
 returns-then-end-begin-clause-position c =
-    let units = c.view-text.ensures.units ∙ ap (λ x. x.units) c.take-held.ensures.contents in
-    (λ _ fit. elim c.then-end-begin.branch [
-    | then-end-begin-via-then-end-begin w ↦ outside w.if-end-begin.true fit.0
-    | then-end-begin-via-else-end-begin+then-unit_len-end w ↦
-      outside (rw (w.unit_len.ensures ∙ ap length units) at w.if-unit_len-end.true) fit.1
-    ], λ _. refl)
+    let units = c.view-text.ensures.units ∙ ap (λ x. x.units) c.take-held.ensures.contents in (
+      λ _ fit. elim c.then-end-begin.branch [
+        | then-end-begin-via-then-end-begin w ↦ outside w.if-end-begin.true fit.0
+        | then-end-begin-via-else-end-begin+then-unit_len-end w ↦
+            outside (rw (w.unit_len.ensures ∙ ap length units) at w.if-unit_len-end.true) fit.1
+      ],
+      λ _. refl,
+    )
 
 pub returns-then-end-begin-clause-short : goal.returns-then-end-begin-clause-short
 returns-then-end-begin-clause-short c =
-    let units = c.view-text.ensures.units ∙ ap (λ x. x.units) c.take-held.ensures.contents in
-    (other_code _ _ refl, λ fit. elim c.then-end-begin.branch [
-    | then-end-begin-via-then-end-begin w ↦ outside w.if-end-begin.true fit.0
-    | then-end-begin-via-else-end-begin+then-unit_len-end w ↦
-      outside (rw (w.unit_len.ensures ∙ ap length units) at w.if-unit_len-end.true) fit.1
-    ])
+    let units = c.view-text.ensures.units ∙ ap (λ x. x.units) c.take-held.ensures.contents in (
+      other_code _ _ refl,
+      λ fit. elim c.then-end-begin.branch [
+        | then-end-begin-via-then-end-begin w ↦ outside w.if-end-begin.true fit.0
+        | then-end-begin-via-else-end-begin+then-unit_len-end w ↦
+            outside (rw (w.unit_len.ensures ∙ ap length units) at w.if-unit_len-end.true) fit.1
+      ],
+    )
 
 pub returns-then-end-begin-clause-done : goal.returns-then-end-begin-clause-done
 returns-then-end-begin-clause-done c = other_code _ _ refl
