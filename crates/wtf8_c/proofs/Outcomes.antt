@@ -11,7 +11,7 @@ use Rattle.wtf8.specs.Appending.{KeepsContents, HasRoomFor}
 use Rattle.wtf8.specs.UnitString.{UnitString}
 use Rattle.wtf8_c.specs.Front.{with_front}
 
--- ---- a code is none of the others
+-- a code is none of the others
 pub other_code : {A : Type 0} (m n : ℕ) → nat_eq m n ≡ false → pos m ≡ pos n → A
 other_code m n d e = absurd (grind (arith, nat_tests))
 
@@ -24,7 +24,18 @@ above_codes m n e = cc
 pub either : {A B C : Type 0} → (A → C) → (B → C) → A ⊎ B → C
 either f g h = elim h [ inl a ↦ f a | inr b ↦ g b ]
 
--- ---- an outcome
+-- one of two is one of three
+pub or_third : {A B C : Type 0} → A ⊎ B → A ⊎ (B ⊎ C)
+or_third = either inl (λ b. inr (inl b))
+
+-- a code that is DONE or MEMORY is no greater one
+pub no_greater : {A : Type 0} {k : ℤ} (m : ℕ) → 1 < m → (k ≡ pos 0) ⊎ (k ≡ pos 1) → k ≡ pos m → A
+no_greater m l h e = elim h [
+  | inl d ↦ other_code 0 m (grind (arith, nat_tests)) (sym d ∙ e)
+  | inr d ↦ other_code 1 m (grind (arith, nat_tests)) (sym d ∙ e)
+]
+
+-- an outcome
 on_ok : {T E P : Type 0} (r : Result T E) → OnOk r P → IsOk r → P
 on_ok (Ok x) p e = p
 on_ok (Err x) p e = cc
@@ -33,7 +44,7 @@ on_err : {T E P : Type 0} (r : Result T E) → OnErr r P → IsErr r → P
 on_err (Ok x) p e = cc
 on_err (Err x) p e = p
 
--- ---- the code that a call passes on as it got it: DONE or MEMORY
+-- the code that a call passes on as it got it: DONE or MEMORY
 same_code : {k z : ℤ} → mag k < 2147483648 → k ≡ z → to_z w32 (of_z w32 k) ≡ z
 same_code {k} fits e = to_z-of_z (sfits_of {w = w32} {z = k} fits) ∙ e
 
@@ -44,22 +55,11 @@ pub done_or_memory_as : {k : ℤ} → mag k < 2147483648 → (k ≡ pos 0) ⊎ (
     → (to_z w32 (of_z w32 k) ≡ pos 0) ⊎ (to_z w32 (of_z w32 k) ≡ pos 1)
 done_or_memory_as fits = either (λ e. inl (same_code fits e)) (λ e. inr (same_code fits e))
 
-pub done_memory_or_as : {A : Type 0} {k : ℤ} → mag k < 2147483648 → (k ≡ pos 0) ⊎ (k ≡ pos 1)
-    → (to_z w32 (of_z w32 k) ≡ pos 0) ⊎ ((to_z w32 (of_z w32 k) ≡ pos 1) ⊎ A)
-done_memory_or_as fits = either (λ e. inl (same_code fits e)) (λ e. inr (inl (same_code fits e)))
-
-pub no_other_as : {A : Type 0} {k : ℤ} (m : ℕ) → 1 < m → mag k < 2147483648 → (k ≡ pos 0) ⊎ (k ≡ pos 1)
-    → to_z w32 (of_z w32 k) ≡ pos m → A
-no_other_as m l fits h e = elim h [
-  | inl d ↦ other_code 0 m (grind (arith, nat_tests)) (sym d ∙ if_code fits (λ x. x) e)
-  | inr d ↦ other_code 1 m (grind (arith, nat_tests)) (sym d ∙ if_code fits (λ x. x) e)
-]
-
 pub unless_done : {A : Type 0} {k : ℤ} → mag k < 2147483648 → (k ≡ pos 0) ⊎ (k ≡ pos 1) → (k ≡ pos 1 → A)
     → ¬ (to_z w32 (of_z w32 k) ≡ pos 0) → A
 unless_done fits h f not = elim h [ inl d ↦ absurd (not (same_code fits d)) | inr d ↦ f d ]
 
--- ---- the code for the outcome `r` of an append: DONE or MEMORY
+-- the code for the outcome `r` of an append: DONE or MEMORY
 pub record IsCodeOf {T E : Type 0} (r : Result T E) (code : ℤ) : Type 0 where
   pub done : code ≡ pos 0 ↔ IsOk r
   pub memory : code ≡ pos 1 ↔ IsErr r
@@ -72,17 +72,10 @@ pub done_or_memory : {T E : Type 0} (r : Result T E) (k : ℤ) → IsCodeOf r k 
 done_or_memory (Ok x) k h = inl (h.done.1 refl)
 done_or_memory (Err x) k h = inr (h.memory.1 refl)
 
-pub done_memory_or : {T E A : Type 0} (r : Result T E) (k : ℤ) → IsCodeOf r k → (k ≡ pos 0) ⊎ ((k ≡ pos 1) ⊎ A)
-done_memory_or r k h = either inl (λ e. inr (inl e)) (done_or_memory r k h)
-
-pub no_other : {T E A : Type 0} (r : Result T E) (k : ℤ) (m : ℕ) → IsCodeOf r k → 1 < m → k ≡ pos m → A
-no_other (Ok x) k m h l e = other_code 0 m (grind (arith, nat_tests)) (sym (h.done.1 refl) ∙ e)
-no_other (Err x) k m h l e = other_code 1 m (grind (arith, nat_tests)) (sym (h.memory.1 refl) ∙ e)
-
 pub once_done : {T E P : Type 0} {r : Result T E} {k : ℤ} → IsCodeOf r k → OnOk r P → k ≡ pos 0 → P
 once_done {r = r} h p e = on_ok r p (h.done.0 e)
 
--- ---- the buffer `d` that was taken out of the string `old`, or made for it, and, changed to `n`, put back: the string is `s` then
+-- the buffer `d` that was taken out of the string `old`, or made for it, and, changed to `n`, put back: the string is `s` then
 pub record Opened (old d : UnitString) (full : Bool) : Type 0 where
   pub units : d.units ≡ old.units
   pub bytes : d.bytes ≡ old.bytes
@@ -126,7 +119,7 @@ kept_same same = record { units = ap (λ x. x.units) same; bytes = ap (λ x. x.b
 pub capacity_same : {old s : UnitString} → s ≡ old → old.capacity ≤ s.capacity
 capacity_same same = omega (arith, ap (λ x. x.capacity) same)
 
--- ---- the part from `b` to before `e` of a list, and a slice of `n` items for it
+-- the part from `b` to before `e` of a list, and a slice of `n` items for it
 pub outside : {A : Type 0} {a b : ℕ} → a < b → b ≤ a → A
 outside l m = absurd (omega arith)
 
@@ -142,7 +135,7 @@ too_short b e n l = omega arith
 pub long_enough : {A : Type 0} (b e n : ℕ) → e - b ≤ n → b + n < e → A
 long_enough b e n l m = absurd (omega arith)
 
--- ---- the items `d` of a vector that was empty, `old`, before a call appended `s`
+-- the items `d` of a vector that was empty, `old`, before a call appended `s`
 pub copied : {T E : Type 0} {d items old s t : List ℕ} (r : Result T E) → d ≡ items → OnOk r (items ≡ old ++ s) → old ≡ []
     → false ≡ is_err r → s ≡ t → d ≡ t
 copied {s = s} (Ok x) de ok none e part = de ∙ ok ∙ ap (λ x. x ++ s) none ∙ part

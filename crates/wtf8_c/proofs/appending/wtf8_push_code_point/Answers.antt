@@ -1,7 +1,8 @@
 use Rattle.std.proofs.Common.{refl, inl, inr, arith, le_refl, to_z, of_z, w32}
 use Rattle.std.proofs.lemmas.Bool.{false≢true}
 use Rattle.wtf8_c.specs.Contents.{contents}
-use Rattle.wtf8_c.proofs.Outcomes.{other_code, IsCodeOf, returned, done_memory_or, no_other, Opened, opened, appended, kept_unless_done}
+use Rattle.wtf8_c.proofs.Outcomes.{other_code, IsCodeOf, returned, done_or_memory, no_greater, or_third, Opened, opened, appended}
+use Rattle.wtf8_c.proofs.Outcomes.{kept_unless_done}
 use Rattle.wtf8_c.proofs.Outcomes.{kept_same, room, capacity_kept, capacity_same}
 use Rattle.wtf8_c.proofs.appending.wtf8_push_code_point.Goals as goal
 
@@ -33,11 +34,11 @@ taken c =
     opened c.deref_mut.ensures.value c.in-Ok.ensures.units c.in-Ok.ensures.bytes c.in-Ok.ensures.capacity c.in-Ok.ensures.held
 
 pub returns-clause-code : goal.returns-clause-code
-returns-clause-code c = done_memory_or _ _ (code c)
+returns-clause-code c = or_third (done_or_memory _ _ (code c))
 
 pub returns-clause-no_code_point : goal.returns-clause-no_code_point
 returns-clause-no_code_point c =
-    (no_other _ _ 5 (code c) (omega arith), λ not. absurd (not (c.in-Some.ensures.some.0 refl)))
+    (no_greater 5 (omega arith) (done_or_memory _ _ (code c)), λ not. absurd (not (c.in-Some.ensures.some.0 refl)))
 
 pub returns-clause-done : goal.returns-clause-done
 returns-clause-done c =

@@ -1,6 +1,6 @@
 use Rattle.std.proofs.Common.{rules, refl, inl, inr, arith, le_refl}
 use Rattle.std.proofs.lemmas.Bool.{false≢true}
-use Rattle.wtf8_c.proofs.Outcomes.{other_code, returned, done_memory_or, no_other, opened, kept_unless_done}
+use Rattle.wtf8_c.proofs.Outcomes.{other_code, returned, done_or_memory, no_greater, opened, kept_unless_done, or_third}
 use Rattle.wtf8_c.proofs.Outcomes.{kept_same, room, capacity_kept, capacity_same}
 use Rattle.wtf8_c.proofs.appending.wtf8_push_utf8.Goals as goal
 
@@ -25,12 +25,12 @@ returns-in_default-open c = record {
 }
 
 pub returns-clause-code : goal.returns-clause-code
-returns-clause-code c = done_memory_or _ _ (returned c.code_of.type_inv c.code_of.ensures.done c.code_of.ensures.memory)
+returns-clause-code c = or_third (done_or_memory _ _ (returned c.code_of.type_inv c.code_of.ensures.done c.code_of.ensures.memory))
 
 pub returns-clause-no_utf8 : goal.returns-clause-no_utf8
 returns-clause-no_utf8 c =
     let k = returned c.code_of.type_inv c.code_of.ensures.done c.code_of.ensures.memory in
-    (no_other _ _ 6 k (omega arith), λ not. absurd (not c.in-Ok.ensures.cases.1))
+    (no_greater 6 (omega arith) (done_or_memory _ _ k), λ not. absurd (not c.in-Ok.ensures.cases.1))
 
 pub returns-clause-done : goal.returns-clause-done
 returns-clause-done c = search rules

@@ -1,7 +1,7 @@
 use Rattle.std.proofs.Common.{rules, refl, inl, inr, ap, ◌∙◌, ◌≡◌, length, drop, take, arith}
 use Rattle.wtf8.specs.View.{view_units}
 use Rattle.wtf8_c.specs.Contents.{contents}
-use Rattle.wtf8_c.proofs.Outcomes.{other_code, done_memory_or_as, no_other_as, if_code, unless_done}
+use Rattle.wtf8_c.proofs.Outcomes.{other_code, done_or_memory_as, no_greater, if_code, unless_done, or_third}
 use Rattle.wtf8_c.proofs.cutting.wtf8_slice_units.Goals as goal
 
 pub returns-then-end-begin : goal.returns-then-end-begin
@@ -28,12 +28,12 @@ units : (c : goal.After-replace) → view_units c.view-text.result ≡ (contents
 units c = c.view-text.ensures.units ∙ ap (λ x. x.units) c.take-held.ensures.contents
 
 pub returns-in-Ok-clause-code : goal.returns-in-Ok-clause-code
-returns-in-Ok-clause-code c = done_memory_or_as c.replace.type_inv c.replace.ensures.code
+returns-in-Ok-clause-code c = or_third (done_or_memory_as c.replace.type_inv c.replace.ensures.code)
 
 pub returns-in-Ok-clause-position : goal.returns-in-Ok-clause-position
 returns-in-Ok-clause-position c =
     let is = c.unit_len.ensures ∙ ap length (units c) in (
-      no_other_as 2 (omega arith) c.replace.type_inv c.replace.ensures.code,
+      no_greater 2 (omega arith) (done_or_memory_as c.replace.type_inv c.replace.ensures.code),
       λ not. absurd (not (c.if-end-begin.false, rw is at c.if-unit_len-end.false)),
     )
 

@@ -1,15 +1,15 @@
 use Rattle.std.proofs.Common.{ap, ◌∙◌, arith}
 use Rattle.std.specs.Str.{chars}
 use Rattle.wtf8.specs.Unicode.{units}
-use Rattle.wtf8_c.proofs.Outcomes.{done_memory_or_as, no_other_as, if_code, unless_done}
+use Rattle.wtf8_c.proofs.Outcomes.{done_or_memory_as, no_greater, if_code, unless_done, or_third}
 use Rattle.wtf8_c.proofs.making.wtf8_set_utf8.Goals as goal
 
 pub returns-in-Ok-from_str-clause-code : goal.returns-in-Ok-from_str-clause-code
-returns-in-Ok-from_str-clause-code c = done_memory_or_as c.replace.type_inv c.replace.ensures.code
+returns-in-Ok-from_str-clause-code c = or_third (done_or_memory_as c.replace.type_inv c.replace.ensures.code)
 
 pub returns-in-Ok-from_str-clause-no_utf8 : goal.returns-in-Ok-from_str-clause-no_utf8
 returns-in-Ok-from_str-clause-no_utf8 c =
-    (no_other_as 6 (omega arith) c.replace.type_inv c.replace.ensures.code, λ not. absurd (not c.in-Ok.ensures.cases.1))
+    (no_greater 6 (omega arith) (done_or_memory_as c.replace.type_inv c.replace.ensures.code), λ not. absurd (not c.in-Ok.ensures.cases.1))
 
 pub returns-in-Ok-from_str-clause-done : goal.returns-in-Ok-from_str-clause-done
 returns-in-Ok-from_str-clause-done c =
