@@ -1,9 +1,9 @@
 -- `IsWellFormed` and `IsForm` have at most one proof each, as is required of a fact that a type holds.
 use Rattle.std.specs.Prelude.{◌≡◌, ℕ, List, [], ◌∷◌, ◌++◌, refl}
-use Rattle.std.specs.Coded.{×_prop, →_prop, Unit-prop, le_prop, Coded-set, coded_list, coded_ℕ}
+use Rattle.std.specs.Coded.{→_prop, Unit-prop, le_prop, Coded-set, coded_list, coded_ℕ}
 use Rattle.std.proofs.Common.{ap, sym, ◌∙◌}
 use Rattle.std.proofs.lemmas.Str.{encodes_same}
-use mathlib.Core.HLevel.{Σ_prop_path, ⊥_prop, ×₃_prop}
+use mathlib.Core.HLevel.{is_prop→PathP, ⊥_prop, ×₃_prop}
 use lib.Utf8.{encode, encodes}
 use Rattle.wtf8.specs.Form.{IsClean, encoding, bytes, IsWellFormed, IsForm}
 use Rattle.wtf8.specs.Unicode.{units}
@@ -32,36 +32,21 @@ IsClean-prop (p ∷ q ∷ c) = ×₃_prop le_prop (→_prop ⊥_prop) (IsClean-p
 list_set : IsSet (List ℕ)
 list_set = Coded-set (coded_list coded_ℕ)
 
--- The fields of `IsWellFormed` as nested pairs, the form in which the library's lemmas take them.
-abbrev WellFormed : List ℕ → Type 0
-WellFormed w = (c : List ℕ) × (IsClean c × (bytes c ≡ w))
-
--- `IsWellFormed` from its fields as pairs.
-abbrev well_formed : {w : List ℕ} → WellFormed w → IsWellFormed w
-well_formed t = record { points = t.0; clean = t.1.0; encoded = t.1.1 }
-
 -- Bytes have at most one proof that they are well-formed.
 pub IsWellFormed-prop : (w : List ℕ) → IsProp (IsWellFormed w)
 IsWellFormed-prop w x y =
-    let same : (c : List ℕ) → IsProp (IsClean c × (bytes c ≡ w)) = λ c. ×_prop (IsClean-prop c) (list_set (bytes c) w) in
-    ap well_formed (Σ_prop_path same {u = (x.points, (x.clean, x.encoded))} {v = (y.points, (y.clean, y.encoded))}
-    (bytes-injective x.points y.points (x.encoded ∙ sym y.encoded)))
-
--- The fields of `IsForm` as nested pairs.
-abbrev Form : List ℕ → List ℕ → Type 0
-Form w u = (c : List ℕ) × ((IsClean c × (units c ≡ u)) × (bytes c ≡ w))
-
--- `IsForm` from its fields as pairs.
-abbrev form : {w u : List ℕ} → Form w u → IsForm w u
-form t = record { points = t.0; reads = record { clean = t.1.0.0; same_units = t.1.0.1 }; encoded = t.1.1 }
-
--- The fields of `IsForm`, taken apart into pairs.
-abbrev form_parts : {w u : List ℕ} → IsForm w u → Form w u
-form_parts x = (x.points, ((x.reads.clean, x.reads.same_units), x.encoded))
+    let same : x.points ≡ y.points = bytes-injective x.points y.points (x.encoded ∙ sym y.encoded) in
+    λ i. record {
+      points = same i;
+      clean = is_prop→PathP (λ j. IsClean (same j)) (λ j. IsClean-prop (same j)) x.clean y.clean i;
+      encoded = is_prop→PathP (λ j. bytes (same j) ≡ w) (λ j. list_set (bytes (same j)) w) x.encoded y.encoded i;
+    }
 
 -- Bytes have at most one proof that they are the form of given units.
 pub IsForm-prop : (w u : List ℕ) → IsProp (IsForm w u)
 IsForm-prop w u x y =
-    let same : (c : List ℕ) → IsProp ((IsClean c × (units c ≡ u)) × (bytes c ≡ w)) =
-    λ c. ×_prop (×_prop (IsClean-prop c) (list_set (units c) u)) (list_set (bytes c) w) in
-    ap form (Σ_prop_path same {u = form_parts x} {v = form_parts y} (bytes-injective x.points y.points (x.encoded ∙ sym y.encoded)))
+    let well_formed : IsForm w u → IsWellFormed w = λ f. record { points = f.points; clean = f.reads.clean; encoded = f.encoded } in
+    let same = IsWellFormed-prop w (well_formed x) (well_formed y) in
+    let c : units x.points ≡ units y.points = ap (λ h. units h.points) same in
+    let same_units = is_prop→PathP (λ i. c i ≡ u) (λ i. list_set (c i) u) x.reads.same_units y.reads.same_units in
+    λ i. record { points = (same i).points; reads = record { clean = (same i).clean; same_units = same_units i }; encoded = (same i).encoded }

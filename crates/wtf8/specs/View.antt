@@ -14,8 +14,6 @@ view_units view = units view.well_formed.points
 
 -- A view's bytes are the form of its units.
 abbrev pub view_form : (view : Wtf8) → IsForm view.bytes.now (view_units view)
-view_form view = record {
-  points = view.well_formed.points;
-  reads = record { clean = view.well_formed.clean; same_units = refl };
-  encoded = view.well_formed.encoded;
-}
+view_form view =
+    let h = view.well_formed in
+    record { points = h.points; reads = record { clean = h.clean; same_units = refl }; encoded = h.encoded }
