@@ -46,7 +46,7 @@ IsWellFormed-prop w x y =
 pub IsForm-prop : (w u : List ℕ) → IsProp (IsForm w u)
 IsForm-prop w u x y =
     let well_formed : IsForm w u → IsWellFormed w = λ f. record { points = f.points; clean = f.reads.clean; encoded = f.encoded } in
-    let same = IsWellFormed-prop w (well_formed x) (well_formed y) in
-    let c : units x.points ≡ units y.points = ap (λ h. units h.points) same in
+    let one = IsWellFormed-prop w (well_formed x) (well_formed y) in
+    let c : units x.points ≡ units y.points = ap (λ h. units h.points) one in
     let same_units = is_prop→PathP (λ i. c i ≡ u) (λ i. list_set (c i) u) x.reads.same_units y.reads.same_units in
-    λ i. record { points = (same i).points; reads = record { clean = (same i).clean; same_units = same_units i }; encoded = (same i).encoded }
+    λ i. record { points = (one i).points; reads = record { clean = (one i).clean; same_units = same_units i }; encoded = (one i).encoded }

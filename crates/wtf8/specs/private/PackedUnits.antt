@@ -48,17 +48,13 @@ last_byte n =
     else if nat_lt n 0xDC00 then 0x80 + (n - 0xD7C0) / 4 % 64
     else scalar_last_byte n
 
--- 1 if the unit adds more than one byte, else 0.
-abbrev pub multi_byte_bit : ℕ → ℕ
-multi_byte_bit n = if nat_lt n 0x80 then 0 else 1
-
 -- 1 if the unit adds three bytes, else 0.
 abbrev pub three_byte_bit : ℕ → ℕ
 three_byte_bit n = if nat_lt n 0x800 then 0 else if nat_lt n 0xD800 then 1 else if nat_lt n 0xE000 then 0 else 1
 
 -- The number of bytes that a unit adds.
 abbrev pub byte_count : ℕ → ℕ
-byte_count n = 1 + multi_byte_bit n + three_byte_bit n
+byte_count n = (if nat_lt n 0x80 then 1 else 2) + three_byte_bit n
 
 -- The second bytes and the last bytes of the units, as if a 0 came before them, and for each unit 0x80 if it adds three
 -- bytes, else 0.
