@@ -44,7 +44,7 @@ pub use Rattle.wtf8.specs.Concatenation.{MeetsAsPair, is_pair, glue}
 pub use Rattle.wtf8.specs.Debug.{escape_surrogate}
 pub use Rattle.wtf8.specs.Form.{bytes, encoding, IsClean, Reads, IsWellFormed, IsForm}
 pub use Rattle.wtf8.specs.Hex.{digit, hex_of, hex}
-pub use Rattle.wtf8.specs.OneForm.{bytes-injective, bytes_are_encodes, encoding_is_encode}
+pub use Rattle.wtf8.specs.OneForm.{bytes-injective, bytes_are_encodes, encoding_is_encode, form_of, well_formed_of}
 pub use Rattle.wtf8.specs.Order.{Before}
 pub use Rattle.wtf8.specs.Position.{IsBoundary, IsFront, IsBack, IsMiddle, Splits}
 pub use Rattle.wtf8.specs.Surrogates.{AreScalar, replace_surrogate, lossy_points}

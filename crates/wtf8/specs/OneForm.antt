@@ -1,4 +1,4 @@
--- `IsWellFormed` and `IsForm` have at most one proof each, as is required of a fact that a type holds.
+-- `IsWellFormed` and `IsForm`, each from the other; both have at most one proof, as a fact that a type holds must have.
 use Rattle.std.specs.Prelude.{◌≡◌, ℕ, List, [], ◌∷◌, ◌++◌, refl}
 use Rattle.std.specs.Coded.{→_prop, Unit-prop, le_prop, Coded-set, coded_list, coded_ℕ}
 use Rattle.std.proofs.Common.{ap, sym, ◌∙◌}
@@ -28,10 +28,6 @@ IsClean-prop [] = Unit-prop
 IsClean-prop (p ∷ []) = le_prop
 IsClean-prop (p ∷ q ∷ c) = ×₃_prop le_prop (→_prop ⊥_prop) (IsClean-prop (q ∷ c))
 
--- Two lists of numbers have at most one proof that they are equal.
-list_set : IsSet (List ℕ)
-list_set = Coded-set (coded_list coded_ℕ)
-
 -- Bytes have at most one proof that they are well-formed.
 pub IsWellFormed-prop : (w : List ℕ) → IsProp (IsWellFormed w)
 IsWellFormed-prop w x y =
@@ -39,14 +35,21 @@ IsWellFormed-prop w x y =
     λ i. record {
       points = same i;
       clean = is_prop→PathP (λ j. IsClean (same j)) (λ j. IsClean-prop (same j)) x.clean y.clean i;
-      encoded = is_prop→PathP (λ j. bytes (same j) ≡ w) (λ j. list_set (bytes (same j)) w) x.encoded y.encoded i;
+      encoded = is_prop→PathP (λ j. bytes (same j) ≡ w) (λ j. Coded-set (coded_list coded_ℕ) (bytes (same j)) w) x.encoded y.encoded i;
     }
+
+-- Well-formed bytes are the form of the units of their code points.
+abbrev pub form_of : {w : List ℕ} (h : IsWellFormed w) → IsForm w (units h.points)
+form_of h = record { points = h.points; reads = record { clean = h.clean; same_units = refl }; encoded = h.encoded }
+
+-- Bytes that are the form of units are well-formed.
+abbrev pub well_formed_of : {w u : List ℕ} → IsForm w u → IsWellFormed w
+well_formed_of f = record { points = f.points; clean = f.reads.clean; encoded = f.encoded }
 
 -- Bytes have at most one proof that they are the form of given units.
 pub IsForm-prop : (w u : List ℕ) → IsProp (IsForm w u)
 IsForm-prop w u x y =
-    let well_formed : IsForm w u → IsWellFormed w = λ f. record { points = f.points; clean = f.reads.clean; encoded = f.encoded } in
-    let one = IsWellFormed-prop w (well_formed x) (well_formed y) in
+    let one = IsWellFormed-prop w (well_formed_of x) (well_formed_of y) in
     let c : units x.points ≡ units y.points = ap (λ h. units h.points) one in
-    let same_units = is_prop→PathP (λ i. c i ≡ u) (λ i. list_set (c i) u) x.reads.same_units y.reads.same_units in
+    let same_units = is_prop→PathP (λ i. c i ≡ u) (λ i. Coded-set (coded_list coded_ℕ) (c i) u) x.reads.same_units y.reads.same_units in
     λ i. record { points = (one i).points; reads = record { clean = (one i).clean; same_units = same_units i }; encoded = (one i).encoded }

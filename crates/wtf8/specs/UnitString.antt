@@ -2,7 +2,6 @@
 use Rattle.std.specs.Prelude.{◌≡◌, ℕ, ◌≤◌, List, length, refl}
 use Rattle.std.specs.Coded.{Coded, code_by, coded×, coded_list, coded_ℕ, ×_prop, le_prop}
 use base.Stored.{coded_sub}
-use Rattle.std.proofs.Common.{subst}
 use Rattle.wtf8.specs.Form.{IsForm}
 use Rattle.wtf8.specs.OneForm.{IsForm-prop}
 
@@ -23,7 +22,3 @@ unit_string_code =
     (λ s. ((s.units, (s.bytes, s.capacity)), (s.form, s.fits)))
     (λ q. record { units = q.0.0; bytes = q.0.1.0; form = q.1.0; capacity = q.0.1.1; fits = q.1.1 })
     (λ _. refl)
-
--- A number that equals a length of at most `k` is at most `k`.
-pub fits_as_items : {n m k : ℕ} → n ≡ m → n ≤ k → m ≤ k
-fits_as_items {n} {m} {k} e h = subst (λ x. x ≤ k) e h

@@ -1,7 +1,8 @@
 -- What contracts see of a `Wtf8`.
-use Rattle.std.specs.Prelude.{ℕ, List, refl}
+use Rattle.std.specs.Prelude.{ℕ, List}
 use Rattle.wtf8.specs.Unicode.{units}
 use Rattle.wtf8.specs.Form.{IsForm}
+use Rattle.wtf8.specs.OneForm.{form_of}
 use Rattle.wtf8.specs.declared.strings.view.Wtf8.{Wtf8}
 
 -- The code points that a view's bytes encode.
@@ -14,6 +15,4 @@ view_units view = units view.well_formed.points
 
 -- A view's bytes are the form of its units.
 abbrev pub view_form : (view : Wtf8) → IsForm view.bytes.now (view_units view)
-view_form view =
-    let h = view.well_formed in
-    record { points = h.points; reads = record { clean = h.clean; same_units = refl }; encoded = h.encoded }
+view_form view = form_of view.well_formed

@@ -24,8 +24,7 @@ module _ {S : Type 0} (steps : S → Option ℕ → S → Type 0) where
 
   -- A step yields the item at the front of the units left, or `None` if no unit is left.
   abbrev pub decode_steps : DecodeUtf16 S → Option (Result ℕ ℕ) → DecodeUtf16 S → Type 0
-  decode_steps s r t =
-      MatchOption r (peekable_steps steps s.units None t.units) (λ item. DecodesItem s.units item t.units)
+  decode_steps s r t = MatchOption r (peekable_steps steps s.units None t.units) (λ item. DecodesItem s.units item t.units)
 
   -- The items' code points are clean, and the iterator yields exactly their units and then ends.
   pub record ReadsAll (iter : S) (items : List (Result ℕ ℕ)) : Type 0 where

@@ -5,8 +5,7 @@ use Rattle.std.specs.declared.vec.Vec.{Vec}
 use Rattle.wtf8.specs.Unicode.{IsCodePoint, units}
 use Rattle.wtf8.specs.Form.{encoding, IsWellFormed, IsForm}
 
--- What holds of bytes that begin with the code point `p` of `n` bytes, by their lead byte: a field for each row of the
--- table (WTF-8, "Generalized UTF-8").
+-- What `w` is if it begins with a code point `p` of `n` bytes, by its lead byte (WTF-8, "Generalized UTF-8").
 pub record FirstPointByLead (w : List ℕ) (p n : ℕ) : Type 0 where
   pub nonempty : 0 < length w
   pub one : slice_index w 0 < 0x80 → (p ≡ slice_index w 0) × (n ≡ 1)
@@ -51,21 +50,18 @@ abbrev pub map_run : ℕ → (List ℕ → ℕ) → ℕ → List ℕ → List �
 map_run n f zero w = []
 map_run n f (suc k) w = f w ∷ map_run n f k (drop n w)
 
--- If the bytes `w` are well-formed, so is the rest from index `at` on, and the units of `w` are `v` followed by the units
--- of the rest.
+-- If `w` is well-formed, so is its rest from index `at` on, and its units are `v` followed by the units of the rest.
 abbrev pub BeginsWithUnits : List ℕ → List ℕ → ℕ → Type 0
 BeginsWithUnits w v at = (h : IsWellFormed w) → (rest : IsWellFormed (drop at w)) × (units h.points ≡ v ++ units rest.points)
 
--- The first of the units `left` were written at `at..end`, and `rest` is what is left now: `new` before `end`,
--- then `rest`, is `old` before `at`, then `left`.
+-- `left` less `rest` was written at `at..end`: `new` before `end`, then `rest`, is `old` before `at`, then `left`.
 pub record Writes (old : List ℕ) (at : ℕ) (left new : List ℕ) (end : ℕ) (rest : List ℕ) : Type 0 where
   pub units : take end new ++ rest ≡ take at old ++ left
   pub same_total : end + length rest ≡ at + length left
   pub len : length new ≡ length old
 
 module _ {T E Z : Type 0} where
-  -- A call leaves `whole`, or on an error the old items. It succeeds if `whole` fits in the old capacity, and the
-  -- capacity never shrinks.
+  -- A call leaves `whole`, or on an error the old items. It succeeds if `whole` fits the capacity, which never shrinks.
   pub record BecomesOrKeeps (old : Vec ℕ Z) (whole : List ℕ) (new : Vec ℕ Z) (r : Result T E) : Type 0 where
     pub ok : OnOk r (new.items ≡ whole)
     pub err : OnErr r (new.items ≡ old.items)

@@ -32,8 +32,7 @@ scalar_second_byte n = (if nat_lt n 0x800 then 0xC0 else 0x80) + n / 64 % 64
 abbrev pub scalar_last_byte : ℕ → ℕ
 scalar_last_byte n = if nat_lt n 0x80 then n else 0x80 + n % 64
 
--- The second of the three bytes of a unit after `before`; the lead of a pair adds the first two of the pair's four bytes,
--- the trail the last two.
+-- The second of the three bytes of a unit after `before`; of a pair's four bytes the lead adds two, then the trail two.
 abbrev pub second_byte : ℕ → ℕ → ℕ
 second_byte before n =
     if nat_lt n 0xD800 then scalar_second_byte n
@@ -56,8 +55,7 @@ three_byte_bit n = if nat_lt n 0x800 then 0 else if nat_lt n 0xD800 then 1 else 
 abbrev pub byte_count : ℕ → ℕ
 byte_count n = (if nat_lt n 0x80 then 1 else 2) + three_byte_bit n
 
--- The second bytes and the last bytes of the units, as if a 0 came before them, and for each unit 0x80 if it adds three
--- bytes, else 0.
+-- The second and the last bytes of the units, as if after a 0, and for each unit 0x80 if it adds three bytes, else 0.
 pub record AreLaterBytes (u seconds lasts longs : List ℕ) : Type 0 where
   pub second : seconds ≡ zip2 second_byte (0 ∷ u) u
   pub last : lasts ≡ map last_byte u

@@ -33,8 +33,7 @@ is_continuation b = if nat_lt b 0x80 then false else nat_lt b 0xC0
 abbrev pub trail_from_bytes : ℕ → ℕ → ℕ
 trail_from_bytes a b = 0xDC00 + a % 16 * 64 + b % 64
 
--- The trail at the front of bytes that begin with the last two bytes of a supplementary code point; nothing if a code
--- point begins there.
+-- The trail of a supplementary code point whose last two bytes begin the bytes; nothing if a code point begins there.
 abbrev pub held_trail : List ℕ → List ℕ
 held_trail (a ∷ b ∷ w) = if is_continuation a then trail_from_bytes a b ∷ [] else []
 held_trail w = []
@@ -44,8 +43,7 @@ abbrev pub after_held_trail : List ℕ → List ℕ
 after_held_trail (a ∷ b ∷ w) = if is_continuation a then w else a ∷ b ∷ w
 after_held_trail w = w
 
--- What is left after the first unit: that is the held trail or, if none is held, the first unit of a code point, whose
--- trail, if any, is then held.
+-- What is left after the first unit, the held trail or else a code point's first, whose trail, if any, is then held.
 abbrev pub left_after : List ℕ → List ℕ → Unread
 left_after (t ∷ held) c = record { held = held; points = c }
 left_after [] [] = record { held = []; points = [] }
