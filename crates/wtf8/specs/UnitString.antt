@@ -1,5 +1,5 @@
 -- What contracts see of a `Wtf8Buf`.
-use Rattle.std.specs.Prelude.{◌≡◌, ℕ, ◌≤◌, List, length, refl}
+use Rattle.std.specs.Prelude.{ℕ, ◌≤◌, List, length, refl}
 use Rattle.std.specs.Coded.{Coded, code_by, coded×, coded_list, coded_ℕ, ×_prop, le_prop}
 use base.Stored.{coded_sub}
 use Rattle.wtf8.specs.Form.{IsForm}
