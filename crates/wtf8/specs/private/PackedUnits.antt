@@ -1,6 +1,5 @@
 -- The bytes that each unit adds: the last one, two or three of three, computed from the tagged unit and the one before.
-use Rattle.std.specs.Prelude.{◌≡◌, ℕ, ◌+◌, ◌-◌, ◌*◌, ◌/◌, ◌%◌, ◌≤◌, List, [], ◌∷◌, ◌++◌, map, take, drop, nat_lt, if◌then◌else◌}
-use Rattle.std.specs.Prelude.{slice_index_or}
+use Rattle.std.specs.Prelude.{◌≡◌, ℕ, ◌+◌, ◌-◌, ◌*◌, ◌/◌, ◌%◌, ◌≤◌, List, [], ◌∷◌, ◌++◌, map, take, drop, get_or, nat_lt, if◌then◌else◌}
 use lib.Lanes.{zip2}
 
 -- The unit `n` between two others, 0x10000 above its value if it is a surrogate in no pair (Unicode 3.8, "Surrogates").
@@ -14,7 +13,7 @@ tagged before n after =
 -- The units between `before` and `after`, each tagged.
 abbrev pub tagged_units : ℕ → List ℕ → ℕ → List ℕ
 tagged_units before [] after = []
-tagged_units before (n ∷ u) after = tagged before n (slice_index_or u 0 after) ∷ tagged_units n u after
+tagged_units before (n ∷ u) after = tagged before n (get_or u 0 after) ∷ tagged_units n u after
 
 -- The units, each tagged: the first is after no lead, and a lead at the end is half of a pair.
 abbrev pub tagged_block : List ℕ → List ℕ
@@ -80,9 +79,7 @@ table_index a b c d = a / 2 + b / 2 * 2 + c / 2 * 4 + d / 2 * 8 + (a / 3 + b / 3
 
 -- The table index for the first four units of a list.
 abbrev pub units_table_index : List ℕ → ℕ
-units_table_index u =
-    let count = λ (k : ℕ). byte_count (slice_index_or u k 0) in
-    table_index (count 0) (count 1) (count 2) (count 3)
+units_table_index u = let count = λ (k : ℕ). byte_count (get_or u k 0) in table_index (count 0) (count 1) (count 2) (count 3)
 
 -- The lanes of the last `n` of the three bytes of unit `k` of four.
 abbrev pub source_lanes : ℕ → ℕ → List ℕ

@@ -44,14 +44,10 @@ after_held_trail (a ∷ b ∷ w) = if is_continuation a then w else a ∷ b ∷ 
 after_held_trail w = w
 
 -- What is left after the first unit, the held trail or else a code point's first, whose trail, if any, is then held.
-abbrev pub left_after : List ℕ → List ℕ → Unread
-left_after (t ∷ held) c = record { held = held; points = c }
-left_after [] [] = record { held = []; points = [] }
-left_after [] (p ∷ c) = record { held = drop 1 (units_of p); points = c }
-
--- What an iterator has left after its first unit.
-abbrev pub unread_after : Unread → Unread
-unread_after s = left_after s.held s.points
+abbrev pub unread_after : List ℕ → List ℕ → Unread
+unread_after (t ∷ held) c = record { held = held; points = c }
+unread_after [] [] = record { held = []; points = [] }
+unread_after [] (p ∷ c) = record { held = drop 1 (units_of p); points = c }
 
 -- What is unread at byte position `position`: the trail that begins there, if any, and the code points after it.
 abbrev pub unread_at : (v : List ℕ) (position : ℕ) → IsWellFormed (after_held_trail (drop position v)) → Unread
@@ -62,4 +58,4 @@ pub record StepsUnit (v : List ℕ) (position : ℕ) (h : IsWellFormed (after_he
   pub within : next ≤ length v
   pub after : IsWellFormed (after_held_trail (drop next v))
   pub first : unread_units (unread_at v position h) ≡ unit ∷ unread_units (unread_at v next after)
-  pub left : unread_at v next after ≡ unread_after (unread_at v position h)
+  pub left : unread_at v next after ≡ unread_after (held_trail (drop position v)) h.points

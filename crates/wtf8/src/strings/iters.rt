@@ -188,7 +188,7 @@ impl<'a> IllFormedUtf16CodeUnits<'a> {
     #[inline(always)]
     fn next_unit(&mut self) -> Option<u16>
         ensures first { YieldsFirst unread_units self.old result self.new }
-        ensures left { self.new ≡ unread_after self.old }
+        ensures left { self.new ≡ unread_after self.old.held self.old.points }
     {
         if self.position == self.bytes.len() {
             return None;

@@ -1,7 +1,7 @@
 -- The items of a decoder are a reading of its iterator's units.
 use Rattle.wtf8.proofs.Common.{◌≡◌, ◌+◌, ◌-◌, ◌<◌, length, take, drop, get_or, append-nil, Reads, inl, inr, ℕ, List, [], ◌∷◌, ◌++◌, Option}
 use Rattle.wtf8.proofs.Common.{None, Some, Result, Ok, Err, refl, sym, ap, ◌∙◌, subst, arith, Drains, peekable_steps, peekable_peeked}
-use Rattle.wtf8.proofs.Common.{point_of_item, map, decode_steps, ReadsAll, IsClean, IsCodePoint, IsLead, IsTrail}
+use Rattle.wtf8.proofs.Common.{point_of_item, map, decode_steps, ReadsAll, IsClean, IsCodePoint, IsLead, IsTrail, IsReadTo}
 use Rattle.wtf8.proofs.Common.{IsSurrogate, MatchResult, units, pair, MatchOption, IfSome, Bool, IsTrue, ◌≢◌, AreScalar, IsKnownForm, bytes}
 use Rattle.wtf8.proofs.Common.{encoding, map-append, take-append-drop, ◌≤◌, cases_lt, lt-ltb, le-ltb, append_assoc, length-append}
 use Rattle.wtf8.proofs.Common.{length-drop, take_all, DividesPair, MeetsAsPair, copied_steps, iter_steps, iter_rest, common_steps}
@@ -16,7 +16,6 @@ use Rattle.std.specs.declared.iter.Ahead.{Ahead}
 use Rattle.wtf8.specs.Unicode.{units_of}
 use Rattle.wtf8.specs.private.Decoding.{DecodesItem}
 use Rattle.wtf8.specs.declared.from_utf16.decode.DecodeUtf16.{DecodeUtf16}
-use Rattle.wtf8.specs.private.Prefixes.{IsReadTo}
 use Rattle.wtf8.proofs.lemmas.codec.Encoding.{bytes-append}
 use Rattle.wtf8.proofs.lemmas.from_utf16.Transcode.{IsKnownForm-append, undivided-after_no_lead}
 use Rattle.wtf8.proofs.lemmas.codec.Readings.{units_one, units_pair, unpaired-nil_right, unpaired-before_no_trail}

@@ -1,12 +1,11 @@
 -- Blocks of units of any kinds: their tags, and the piece of bytes that each unit contributes.
 use Rattle.wtf8.proofs.Common.{◌≡◌, ℕ, zero, suc, ◌+◌, ◌-◌, ◌/◌, ◌%◌, ◌<◌, ◌≤◌, List, [], ◌∷◌, ◌++◌, length, take, get_or, refl, sym}
-use Rattle.wtf8.proofs.Common.{ap, ◌∙◌, arith, lt-ltb, le-ltb, subst, cases_lt, inl, inr, true, drop, append-nil, append_assoc}
+use Rattle.wtf8.proofs.Common.{ap, ◌∙◌, arith, lt-ltb, le-ltb, subst, cases_lt, inl, inr, true, drop, append-nil, append_assoc, IsReadTo}
 use Rattle.wtf8.proofs.Common.{IsSurrogate, encoding, IsKnownForm, Fits, Each1, Bool, IsTrue, ◌&&◌, MeetsAsPair, DividesPair}
 use Rattle.wtf8.proofs.Common.{length-chunk, take_all, w16, take-append-add, length-take-le, take-take, Each1-from_get_or, get_or-drop}
 use Rattle.wtf8.proofs.Common.{length-take, ◌⊎◌, IsUnit, IsLead, IsTrail, pair}
 use Rattle.std.proofs.lemmas.List.{take-append-le, get_or-take, drop_more}
 use Rattle.std.proofs.lemmas.Grind.{get_or_default_zero}
-use Rattle.wtf8.specs.private.Prefixes.{IsReadTo}
 use Rattle.wtf8.specs.private.PackedUnits.{packed_unit, packed_units, tagged, tagged_units, tagged_block}
 use Rattle.wtf8.proofs.lemmas.codec.Encoding.{encoding_one, encoding_two, encoding_three, encoding_four, third_row}
 use Rattle.wtf8.proofs.lemmas.codec.Readings.{unpaired-after_no_lead, unpaired-before_no_trail, unpaired-nil_right, units_one, units_pair}
