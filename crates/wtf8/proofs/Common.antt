@@ -44,7 +44,7 @@ pub use Rattle.wtf8.specs.Concatenation.{MeetsAsPair, is_pair, glue}
 pub use Rattle.wtf8.specs.Debug.{escape_surrogate}
 pub use Rattle.wtf8.specs.Form.{bytes, encoding, IsClean, Reads, IsWellFormed, IsForm}
 pub use Rattle.wtf8.specs.Hex.{digit, hex_of, hex}
-pub use Rattle.wtf8.specs.OneForm.{bytes-injective, bytes_are_encodes, encoding_is_encode}
+pub use Rattle.wtf8.specs.OneForm.{bytes-injective, bytes_are_encodes, encoding_is_encode, form_of, well_formed_of}
 pub use Rattle.wtf8.specs.Order.{Before}
 pub use Rattle.wtf8.specs.Position.{IsBoundary, IsFront, IsBack, IsMiddle, Splits}
 pub use Rattle.wtf8.specs.Surrogates.{AreScalar, replace_surrogate, lossy_points}
@@ -58,17 +58,13 @@ pub use Rattle.wtf8.specs.declared.strings.build.Build.{Build}
 pub use Rattle.wtf8.specs.declared.strings.build.Build.TheVariants.{Reserve, Truncate, TruncateUnits}
 pub use Rattle.wtf8.specs.declared.strings.unit_counts.UnitCursor.{UnitCursor}
 pub use Rattle.wtf8.specs.declared.strings.view.Wtf8.{Wtf8}
-pub use Rattle.wtf8.specs.private.ConvertedPrefix.{IsKnownForm, DividesNoPair, AreAscii}
-pub use Rattle.wtf8.specs.private.Decoding.{point_of_item, points_of_items, units_left, decode_steps, ReadsAll}
+pub use Rattle.wtf8.specs.private.Decoding.{point_of_item, decode_steps, ReadsAll}
 pub use Rattle.wtf8.specs.private.EncodedBytes.{ExtendsForm, ExtendsFormOrKeeps, BeginsWithPoint, FirstPointByLead, FirstPointIs}
-pub use Rattle.wtf8.specs.private.EncodedRuns.{BeginsWithUnits, HasBitPrefix, Writes, unit_of_three, unit_of_two}
-pub use Rattle.wtf8.specs.private.FirstIndex.{IsFirst, IsLeast, NoneIn, IsFirstIn, IsFirstSet, IsSet}
-pub use Rattle.wtf8.specs.private.Mismatch.{IsMismatch, SupplementaryBegins, DifferAt, DecidesNone}
-pub use Rattle.wtf8.specs.private.ScalarPrefix.{AreScalarTo}
-pub use Rattle.wtf8.specs.private.SpacedHex.{spaced_hex}
-pub use Rattle.wtf8.specs.private.SurrogateSearch.{SurrogateAt}
-pub use Rattle.wtf8.specs.private.UnitCounts.{IsCursor, IsCursorOfUnit, utf16_len, sum_utf16_len}
-pub use Rattle.wtf8.specs.private.UnitIterator.{held_trail, after_held_trail, trail_from_bytes, unread_after, StepsUnit, is_continuation}
-pub use Rattle.wtf8.specs.private.UnitIterator.{unread_at}
+pub use Rattle.wtf8.specs.private.EncodedBytes.{BeginsWithUnits, Writes, unit_of_three, unit_of_two}
+pub use Rattle.wtf8.specs.private.Prefixes.{IsKnownForm, AreAscii, AreScalarTo, IsReadTo, AreScalarUnits}
+pub use Rattle.wtf8.specs.private.Search.{IsFirst, IsLeast, NoneIn, IsFirstIn, IsFirstSet, IsSet, IsMismatch, DifferAt, DecidesNone}
+pub use Rattle.wtf8.specs.private.Search.{SupplementaryBegins, SurrogateAt}
+pub use Rattle.wtf8.specs.private.UnitsInBytes.{IsCursor, IsCursorOfUnit, utf16_len, sum_utf16_len, held_trail, after_held_trail}
+pub use Rattle.wtf8.specs.private.UnitsInBytes.{trail_from_bytes, unread_after, StepsUnit, is_continuation, unread_at}
 pub use lib.Lanes.{zip2, Each1, chunk, mask_l, top, sel_l, Each2, fold_l, sum_l}
 pub use lib.Utf8.{scalars, scalar, low_scalar}

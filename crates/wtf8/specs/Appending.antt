@@ -36,8 +36,7 @@ HasRoomFor s v = FitWithin (s.units ++ v) 0 s.capacity
 abbrev pub Outgrows : UnitString → List ℕ → Type 0
 Outgrows s v = (w : List ℕ) → IsForm w (s.units ++ v) → s.capacity < length w
 
--- The new length in bytes is the old one plus the length of `other`, less 2 if a lead ends the old units and a trail
--- begins those of `other`.
+-- The new length in bytes is the old one plus that of `other`, less 2 if their units meet as a pair.
 pub record AddsLength (old : UnitString) (other : Wtf8) (new : UnitString) : Type 0 where
   pub pair : MeetsAsPair old.units (view_units other) → length new.bytes + 2 ≡ length old.bytes + length other.bytes.now
   pub apart : ¬ (MeetsAsPair old.units (view_units other)) → length new.bytes ≡ length old.bytes + length other.bytes.now

@@ -11,8 +11,7 @@ use Rattle.wtf8.specs.UnitPosition.{TruncatesUnits}
 use Rattle.wtf8.specs.declared.strings.build.Build.{Build}
 use Rattle.wtf8.specs.declared.strings.build.Build.TheVariants.{Push, PushChar, PushStr, PushWtf8, Extend, Reserve, Truncate, TruncateUnits}
 
--- A truncation of `u` at a boundary `k` leaves the units before it as `v`, and `r` is 0. At any other position it is
--- refused: `v` is `u`, and `r` is 1.
+-- Truncating `u` at a boundary `k` leaves the units `v` before it, and `r` is 0; else `v` is `u` and `r` is 1: refused.
 abbrev pub Truncates : List ℕ → ℕ → List ℕ → ℕ → Type 0
 Truncates u k v r = (IsFront u k v × (r ≡ 0)) ⊎ (¬ (IsBoundary u k) × (v ≡ u) × (r ≡ 1))
 
@@ -79,21 +78,18 @@ abbrev pub reserved_bytes : Build → ℕ
 reserved_bytes (Reserve n) = n
 reserved_bytes call = 0
 
--- The call is no truncation and takes `u` to `v`, and the length of the form of `v`, plus the number of bytes that the
--- call reserves, is at most `capacity`.
+-- The call is no truncation, takes `u` to `v`, and the form of `v` plus the bytes that it reserves fits `capacity`.
 pub record CallFits (u : List ℕ) (call : Build) (v : List ℕ) (capacity : ℕ) : Type 0 where
   pub no_truncation : IsNoTruncation call
   pub step : Step u call v 0
   pub fits : FitWithin v (reserved_bytes call) capacity
 
--- Each call of the list fits `capacity` when its turn comes, as `CallFits` says, and together they take the units from
--- `u` to `v`.
+-- Each call, when its turn comes, fits `capacity` as `CallFits` says, and together they take the units `u` to `v`.
 abbrev pub EachCallFits : List ℕ → List Build → List ℕ → ℕ → Type 0
 EachCallFits u [] v capacity = v ≡ u
 EachCallFits u (call ∷ calls) v capacity = (mid : List ℕ) × CallFits u call mid capacity × EachCallFits mid calls v capacity
 
--- For each `Reserve n` with no truncation after it in the list, the length of the form of the units that the calls
--- before it leave, plus `n`, is at most `capacity`.
+-- If no truncation comes after a `Reserve n`, the form of what the calls before it leave, plus `n`, fits `capacity`.
 abbrev pub LeavesReserved : List ℕ → List Build → ℕ → Type 0
 LeavesReserved u calls capacity =
     (front back : List Build) (n : ℕ) (v : List ℕ) (r : ℕ) → calls ≡ front ++ Reserve n ∷ back → All IsNoTruncation back

@@ -19,8 +19,7 @@ upper_hex n =
 abbrev pub debug_point : ℕ → List ℕ
 debug_point p = codes "U+" ++ upper_hex p
 
--- A code point in the debug text of a string: a surrogate as `\u{`, its value in hexadecimal and `}`, any other as its
--- own bytes.
+-- A code point in the debug text of a string: a surrogate as `\u{`, its hexadecimal value, `}`, another as its bytes.
 unfoldable pub escape_surrogate : ℕ → List ℕ
 escape_surrogate p = if nat_le 0xD800 p && nat_le p 0xDFFF then codes "\\u{" ++ upper_hex p ++ codes "}" else encoding p
 

@@ -71,8 +71,7 @@ abbrev pub PairFormsBoth : Type 0
 PairFormsBoth = (w v a b : List ℕ) → IsForm w a → IsForm v b → (m : MeetsAsPair a b)
     → IsForm ((take (length w - 3) w ++ encoding (pair m.lead m.trail)) ++ drop 3 v) (a ++ b)
 
--- If no lead at the end of `a` meets a trail at the start of `b`, the form of `a` and then `b` is the form of `a`
--- followed by the form of `b`.
+-- If `a` and `b` do not meet as a pair, the form of `a` and then `b` is the form of `a` followed by the form of `b`.
 abbrev pub OthersFormBoth : Type 0
 OthersFormBoth = (w v a b : List ℕ) → IsForm w a → IsForm v b → ¬ (MeetsAsPair a b) → IsForm (w ++ v) (a ++ b)
 

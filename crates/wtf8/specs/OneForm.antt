@@ -1,9 +1,9 @@
--- `IsWellFormed` and `IsForm` have at most one proof each, as is required of a fact that a type holds.
+-- `IsWellFormed` and `IsForm`, each from the other; both have at most one proof, as a fact that a type holds must have.
 use Rattle.std.specs.Prelude.{◌≡◌, ℕ, List, [], ◌∷◌, ◌++◌, refl}
-use Rattle.std.specs.Coded.{×_prop, →_prop, Unit-prop, le_prop, Coded-set, coded_list, coded_ℕ}
+use Rattle.std.specs.Coded.{→_prop, Unit-prop, le_prop, Coded-set, coded_list, coded_ℕ}
 use Rattle.std.proofs.Common.{ap, sym, ◌∙◌}
 use Rattle.std.proofs.lemmas.Str.{encodes_same}
-use mathlib.Core.HLevel.{Σ_prop_path, ⊥_prop, ×₃_prop}
+use mathlib.Core.HLevel.{is_prop→PathP, ⊥_prop, ×₃_prop}
 use lib.Utf8.{encode, encodes}
 use Rattle.wtf8.specs.Form.{IsClean, encoding, bytes, IsWellFormed, IsForm}
 use Rattle.wtf8.specs.Unicode.{units}
@@ -28,40 +28,28 @@ IsClean-prop [] = Unit-prop
 IsClean-prop (p ∷ []) = le_prop
 IsClean-prop (p ∷ q ∷ c) = ×₃_prop le_prop (→_prop ⊥_prop) (IsClean-prop (q ∷ c))
 
--- Two lists of numbers have at most one proof that they are equal.
-list_set : IsSet (List ℕ)
-list_set = Coded-set (coded_list coded_ℕ)
-
--- The fields of `IsWellFormed` as nested pairs, the form in which the library's lemmas take them.
-abbrev WellFormed : List ℕ → Type 0
-WellFormed w = (c : List ℕ) × (IsClean c × (bytes c ≡ w))
-
--- `IsWellFormed` from its fields as pairs.
-abbrev well_formed : {w : List ℕ} → WellFormed w → IsWellFormed w
-well_formed t = record { points = t.0; clean = t.1.0; encoded = t.1.1 }
-
 -- Bytes have at most one proof that they are well-formed.
 pub IsWellFormed-prop : (w : List ℕ) → IsProp (IsWellFormed w)
 IsWellFormed-prop w x y =
-    let same : (c : List ℕ) → IsProp (IsClean c × (bytes c ≡ w)) = λ c. ×_prop (IsClean-prop c) (list_set (bytes c) w) in
-    ap well_formed (Σ_prop_path same {u = (x.points, (x.clean, x.encoded))} {v = (y.points, (y.clean, y.encoded))}
-    (bytes-injective x.points y.points (x.encoded ∙ sym y.encoded)))
+    let same : x.points ≡ y.points = bytes-injective x.points y.points (x.encoded ∙ sym y.encoded) in
+    λ i. record {
+      points = same i;
+      clean = is_prop→PathP (λ j. IsClean (same j)) (λ j. IsClean-prop (same j)) x.clean y.clean i;
+      encoded = is_prop→PathP (λ j. bytes (same j) ≡ w) (λ j. Coded-set (coded_list coded_ℕ) (bytes (same j)) w) x.encoded y.encoded i;
+    }
 
--- The fields of `IsForm` as nested pairs.
-abbrev Form : List ℕ → List ℕ → Type 0
-Form w u = (c : List ℕ) × ((IsClean c × (units c ≡ u)) × (bytes c ≡ w))
+-- Well-formed bytes are the form of the units of their code points.
+abbrev pub form_of : {w : List ℕ} (h : IsWellFormed w) → IsForm w (units h.points)
+form_of h = record { points = h.points; reads = record { clean = h.clean; same_units = refl }; encoded = h.encoded }
 
--- `IsForm` from its fields as pairs.
-abbrev form : {w u : List ℕ} → Form w u → IsForm w u
-form t = record { points = t.0; reads = record { clean = t.1.0.0; same_units = t.1.0.1 }; encoded = t.1.1 }
-
--- The fields of `IsForm`, taken apart into pairs.
-abbrev form_parts : {w u : List ℕ} → IsForm w u → Form w u
-form_parts x = (x.points, ((x.reads.clean, x.reads.same_units), x.encoded))
+-- Bytes that are the form of units are well-formed.
+abbrev pub well_formed_of : {w u : List ℕ} → IsForm w u → IsWellFormed w
+well_formed_of f = record { points = f.points; clean = f.reads.clean; encoded = f.encoded }
 
 -- Bytes have at most one proof that they are the form of given units.
 pub IsForm-prop : (w u : List ℕ) → IsProp (IsForm w u)
 IsForm-prop w u x y =
-    let same : (c : List ℕ) → IsProp ((IsClean c × (units c ≡ u)) × (bytes c ≡ w)) =
-    λ c. ×_prop (×_prop (IsClean-prop c) (list_set (units c) u)) (list_set (bytes c) w) in
-    ap form (Σ_prop_path same {u = form_parts x} {v = form_parts y} (bytes-injective x.points y.points (x.encoded ∙ sym y.encoded)))
+    let one = IsWellFormed-prop w (well_formed_of x) (well_formed_of y) in
+    let c : units x.points ≡ units y.points = ap (λ h. units h.points) one in
+    let same_units = is_prop→PathP (λ i. c i ≡ u) (λ i. Coded-set (coded_list coded_ℕ) (c i) u) x.reads.same_units y.reads.same_units in
+    λ i. record { points = (one i).points; reads = record { clean = (one i).clean; same_units = same_units i }; encoded = (one i).encoded }

@@ -1,8 +1,7 @@
 -- The lexicographic order of lists.
 use Rattle.std.specs.Prelude.{◌≡◌, ℕ, ◌<◌, ◌⊎◌, List, [], ◌∷◌, ⊤}
 
--- The first list is less than the second in lexicographic order: its number at the first difference is less, or it is a
--- proper prefix of the second.
+-- Lexicographic order: the first list has the smaller number at the first difference or is a proper prefix.
 abbrev pub Before : List ℕ → List ℕ → Type 0
 Before [] [] = ⊥
 Before [] (y ∷ ys) = ⊤

@@ -7,8 +7,7 @@ use Rattle.std.specs.declared.iter.Skip.{Skip}
 use Rattle.wtf8.specs.CodePoint.{number, numbers}
 use Rattle.wtf8.specs.declared.codec.code_point.CodePoint.{CodePoint}
 
--- A step of an iterator over code points, which is seen as the values that it has left: it yields the first of them, or
--- `None` if there is none.
+-- A step of an iterator over code points, seen as the values left: it yields the first, or `None` if there is none.
 abbrev pub StepsPoint : List ℕ → Option CodePoint → List ℕ → Type 0
 StepsPoint = YieldsFirstBy number (λ points. points)
 

@@ -72,8 +72,7 @@ BothAreNoLonger = (w v x a b : List ℕ) → IsForm w a → IsForm v b → IsFor
 abbrev pub PointsHaveOneToFourBytes : Type 0
 PointsHaveOneToFourBytes = (p : ℕ) → (1 ≤ length (encoding p)) × (length (encoding p) ≤ 4)
 
--- There are no more code points than units, no more units than bytes, and at most 3 bytes for each unit and 4 for each
--- code point.
+-- No more code points than units, no more units than bytes, at most 3 bytes for each unit and 4 for each code point.
 pub record Lengths (c : List ℕ) : Type 0 where
   pub points : length c ≤ length (units c)
   pub units_least : length (units c) ≤ length (bytes c)

@@ -26,8 +26,7 @@ EqualBufferAndViewHaveEqualUnits = (s : UnitString) (t : Wtf8) → (s.bytes ≡ 
 abbrev pub EqualViewsHaveEqualUnits : Type 0
 EqualViewsHaveEqualUnits = (s t : Wtf8) → (s.bytes.now ≡ t.bytes.now) ↔ (view_units s ≡ view_units t)
 
--- If no lead at the end of `s` meets a trail at the start of `t`, a string with the units of `s` and then `t` has the
--- bytes of `s` and then `t`.
+-- If `s` and `t` do not meet as a pair, a string with the units of `s` and then `t` has the bytes of `s` and then `t`.
 abbrev pub StringsAreJoined : Type 0
 StringsAreJoined =
     (s t both : UnitString) → both.units ≡ s.units ++ t.units → ¬ (MeetsAsPair s.units t.units) → both.bytes ≡ s.bytes ++ t.bytes

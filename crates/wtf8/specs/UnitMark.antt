@@ -19,8 +19,7 @@ pub record IsMark (w u : List ℕ) (k n : ℕ) : Type 0 where
 abbrev pub IsMarkOf : Wtf8 → UnitMark → Type 0
 IsMarkOf view mark = IsMark view.bytes.now (view_units view) mark.position mark.units
 
--- `n` units, rounded down so that the cut divides no pair, are `m`: `n`, or `n - 1` if a cut after `n` units divides a
--- pair (Unicode 3.8, "Surrogates").
+-- `m` is `n` or, if a cut after `n` units divides a pair, `n - 1` (Unicode 3.8, "Surrogates").
 abbrev pub RoundsDownTo : List ℕ → ℕ → ℕ → Type 0
 RoundsDownTo u n m = (m ≡ n) ⊎ ((m + 1 ≡ n) × DividesPair u n)
 

@@ -5,8 +5,7 @@ use Rattle.wtf8.specs.Concatenation.{MeetsAsPair}
 use Rattle.wtf8.specs.View.{view_units}
 use Rattle.wtf8.specs.declared.strings.unit_slices.UnitSlice.{UnitSlice}
 
--- The units of a slice: the trail of a pair cut at its start, if any, the units of its whole code points, and the lead
--- of a pair cut at its end, if any.
+-- The trail of a pair cut at a slice's start, if any, the units of whole code points, the lead of one cut at its end.
 abbrev pub units_of_slice : UnitSlice → List ℕ
 units_of_slice s = option_to_list s.trail ++ (view_units s.whole ++ option_to_list s.lead)
 
@@ -14,7 +13,6 @@ units_of_slice s = option_to_list s.trail ++ (view_units s.whole ++ option_to_li
 abbrev pub DividesPair : List ℕ → ℕ → Type 0
 DividesPair u n = MeetsAsPair (take n u) (drop n u)
 
--- A truncation of `u` to `n` units leaves the first `n` units as `v`, and `r` is 0. If `u` has fewer than `n`, it is
--- refused: `v` is `u`, and `r` is 1.
+-- Truncating `u` to `n` units leaves the first `n`, `v`, and `r` is 0; if it has fewer, `v` is `u`, `r` is 1: refused.
 abbrev pub TruncatesUnits : List ℕ → ℕ → List ℕ → ℕ → Type 0
 TruncatesUnits u n v r = ((n ≤ length u) × (v ≡ take n u) × (r ≡ 0)) ⊎ ((length u < n) × (v ≡ u) × (r ≡ 1))

@@ -1,7 +1,8 @@
 -- What contracts see of a `Wtf8`.
-use Rattle.std.specs.Prelude.{ℕ, List, refl}
+use Rattle.std.specs.Prelude.{ℕ, List}
 use Rattle.wtf8.specs.Unicode.{units}
 use Rattle.wtf8.specs.Form.{IsForm}
+use Rattle.wtf8.specs.OneForm.{form_of}
 use Rattle.wtf8.specs.declared.strings.view.Wtf8.{Wtf8}
 
 -- The code points that a view's bytes encode.
@@ -14,8 +15,4 @@ view_units view = units view.well_formed.points
 
 -- A view's bytes are the form of its units.
 abbrev pub view_form : (view : Wtf8) → IsForm view.bytes.now (view_units view)
-view_form view = record {
-  points = view.well_formed.points;
-  reads = record { clean = view.well_formed.clean; same_units = refl };
-  encoded = view.well_formed.encoded;
-}
+view_form view = form_of view.well_formed

@@ -1,12 +1,6 @@
 pub mod Decoding
-pub mod Mismatch
-pub mod FirstIndex
 pub mod EncodedBytes
-pub mod ScalarPrefix
-pub mod SpacedHex
-pub mod SurrogateSearch
-pub mod UnitCounts
-pub mod ConvertedPrefix
 pub mod PackedUnits
-pub mod EncodedRuns
-pub mod UnitIterator
+pub mod Prefixes
+pub mod Search
+pub mod UnitsInBytes

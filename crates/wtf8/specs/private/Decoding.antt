@@ -12,14 +12,6 @@ abbrev pub point_of_item : Result ℕ ℕ → ℕ
 point_of_item (Ok c) = c
 point_of_item (Err u) = u
 
--- The code points of a list of items.
-abbrev pub points_of_items : List (Result ℕ ℕ) → List ℕ
-points_of_items items = map point_of_item items
-
--- The units that a decoder has left: a peeked one, if any, and the units of its iterator.
-abbrev pub units_left : {S : Type 0} → DecodeUtf16 S → Ahead S ℕ
-units_left s = s.units
-
 module _ {S : Type 0} (steps : S → Option ℕ → S → Type 0) where
   -- The units of the item, a scalar value or a surrogate, came off the front. The next unit may have been peeked; after
   -- a lone lead it was, and either it is no trail or no unit was left.
@@ -32,10 +24,9 @@ module _ {S : Type 0} (steps : S → Option ℕ → S → Type 0) where
 
   -- A step yields the item at the front of the units left, or `None` if no unit is left.
   abbrev pub decode_steps : DecodeUtf16 S → Option (Result ℕ ℕ) → DecodeUtf16 S → Type 0
-  decode_steps s r t =
-      MatchOption r (peekable_steps steps (units_left s) None (units_left t)) (λ item. DecodesItem (units_left s) item (units_left t))
+  decode_steps s r t = MatchOption r (peekable_steps steps s.units None t.units) (λ item. DecodesItem s.units item t.units)
 
   -- The items' code points are clean, and the iterator yields exactly their units and then ends.
   pub record ReadsAll (iter : S) (items : List (Result ℕ ℕ)) : Type 0 where
-    pub clean : IsClean (points_of_items items)
-    pub all_units : Drains steps iter (units (points_of_items items))
+    pub clean : IsClean (map point_of_item items)
+    pub all_units : Drains steps iter (units (map point_of_item items))

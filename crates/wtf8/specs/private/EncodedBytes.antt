@@ -1,11 +1,11 @@
--- The code point that bytes begin with, and calls that append units to a vector of bytes.
-use Rattle.std.specs.Prelude.{◌≡◌, ℕ, ◌+◌, ◌-◌, ◌*◌, ◌<◌, ◌≤◌, length, List, ◌++◌, slice_index, Result, OnOk, OnErr, IsOk, vec_capacity}
+-- The code points that bytes begin with, their units, and calls that append units to a vector of bytes.
+use Rattle.std.specs.Prelude.{◌≡◌, ℕ, zero, suc, ◌+◌, ◌-◌, ◌*◌, ◌%◌, ◌<◌, ◌≤◌, length, List, [], ◌∷◌, ◌++◌, take, drop, get_or}
+use Rattle.std.specs.Prelude.{slice_index, Result, OnOk, OnErr, IsOk, vec_capacity}
 use Rattle.std.specs.declared.vec.Vec.{Vec}
-use Rattle.wtf8.specs.Unicode.{IsCodePoint}
-use Rattle.wtf8.specs.Form.{encoding, IsForm}
+use Rattle.wtf8.specs.Unicode.{IsCodePoint, units}
+use Rattle.wtf8.specs.Form.{encoding, IsWellFormed, IsForm}
 
--- What holds of bytes that begin with the code point `p` of `n` bytes, by their lead byte: a field for each row of the
--- table (WTF-8, "Generalized UTF-8").
+-- What `w` is if it begins with a code point `p` of `n` bytes, by its lead byte (WTF-8, "Generalized UTF-8").
 pub record FirstPointByLead (w : List ℕ) (p n : ℕ) : Type 0 where
   pub nonempty : 0 < length w
   pub one : slice_index w 0 < 0x80 → (p ≡ slice_index w 0) × (n ≡ 1)
@@ -37,9 +37,31 @@ FirstPointIs w p n = (b : BeginsWithPoint w) → (p ≡ b.point) × (n ≡ lengt
 abbrev pub ExtendsForm : List ℕ → List ℕ → List ℕ → Type 0
 ExtendsForm old new v = (u : List ℕ) → IsForm old u → IsForm new (u ++ v)
 
+-- The unit in an encoding of two bytes: the low five and six bits (Unicode 3.9, "UTF-8", Table 3-6).
+abbrev pub unit_of_two : List ℕ → ℕ
+unit_of_two w = get_or w 0 0 % 32 * 64 + get_or w 1 0 % 64
+
+-- The unit in an encoding of three bytes: the low four, six and six bits (Unicode 3.9, "UTF-8", Table 3-6).
+abbrev pub unit_of_three : List ℕ → ℕ
+unit_of_three w = (get_or w 0 0 % 16 * 64 + get_or w 1 0 % 64) * 64 + get_or w 2 0 % 64
+
+-- What `f` computes from each of `k` encodings of `n` bytes, one after the other.
+abbrev pub map_run : ℕ → (List ℕ → ℕ) → ℕ → List ℕ → List ℕ
+map_run n f zero w = []
+map_run n f (suc k) w = f w ∷ map_run n f k (drop n w)
+
+-- If `w` is well-formed, so is its rest from index `at` on, and its units are `v` followed by the units of the rest.
+abbrev pub BeginsWithUnits : List ℕ → List ℕ → ℕ → Type 0
+BeginsWithUnits w v at = (h : IsWellFormed w) → (rest : IsWellFormed (drop at w)) × (units h.points ≡ v ++ units rest.points)
+
+-- `left` less `rest` was written at `at..end`: `new` before `end`, then `rest`, is `old` before `at`, then `left`.
+pub record Writes (old : List ℕ) (at : ℕ) (left new : List ℕ) (end : ℕ) (rest : List ℕ) : Type 0 where
+  pub units : take end new ++ rest ≡ take at old ++ left
+  pub same_total : end + length rest ≡ at + length left
+  pub len : length new ≡ length old
+
 module _ {T E Z : Type 0} where
-  -- A call leaves `whole`, or on an error the old items. It succeeds if `whole` fits in the old capacity, and the
-  -- capacity never shrinks.
+  -- A call leaves `whole`, or on an error the old items. It succeeds if `whole` fits the capacity, which never shrinks.
   pub record BecomesOrKeeps (old : Vec ℕ Z) (whole : List ℕ) (new : Vec ℕ Z) (r : Result T E) : Type 0 where
     pub ok : OnOk r (new.items ≡ whole)
     pub err : OnErr r (new.items ≡ old.items)

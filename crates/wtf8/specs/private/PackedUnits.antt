@@ -1,6 +1,5 @@
 -- The bytes that each unit adds: the last one, two or three of three, computed from the tagged unit and the one before.
-use Rattle.std.specs.Prelude.{◌≡◌, ℕ, ◌+◌, ◌-◌, ◌*◌, ◌/◌, ◌%◌, ◌≤◌, List, [], ◌∷◌, ◌++◌, map, take, drop, nat_lt, if◌then◌else◌}
-use Rattle.std.specs.Prelude.{slice_index_or}
+use Rattle.std.specs.Prelude.{◌≡◌, ℕ, ◌+◌, ◌-◌, ◌*◌, ◌/◌, ◌%◌, ◌≤◌, List, [], ◌∷◌, ◌++◌, map, take, drop, get_or, nat_lt, if◌then◌else◌}
 use lib.Lanes.{zip2}
 
 -- The unit `n` between two others, 0x10000 above its value if it is a surrogate in no pair (Unicode 3.8, "Surrogates").
@@ -14,7 +13,7 @@ tagged before n after =
 -- The units between `before` and `after`, each tagged.
 abbrev pub tagged_units : ℕ → List ℕ → ℕ → List ℕ
 tagged_units before [] after = []
-tagged_units before (n ∷ u) after = tagged before n (slice_index_or u 0 after) ∷ tagged_units n u after
+tagged_units before (n ∷ u) after = tagged before n (get_or u 0 after) ∷ tagged_units n u after
 
 -- The units, each tagged: the first is after no lead, and a lead at the end is half of a pair.
 abbrev pub tagged_block : List ℕ → List ℕ
@@ -32,8 +31,7 @@ scalar_second_byte n = (if nat_lt n 0x800 then 0xC0 else 0x80) + n / 64 % 64
 abbrev pub scalar_last_byte : ℕ → ℕ
 scalar_last_byte n = if nat_lt n 0x80 then n else 0x80 + n % 64
 
--- The second of the three bytes of a unit after `before`; the lead of a pair adds the first two of the pair's four bytes,
--- the trail the last two.
+-- The second of the three bytes of a unit after `before`; of a pair's four bytes the lead adds two, then the trail two.
 abbrev pub second_byte : ℕ → ℕ → ℕ
 second_byte before n =
     if nat_lt n 0xD800 then scalar_second_byte n
@@ -48,20 +46,15 @@ last_byte n =
     else if nat_lt n 0xDC00 then 0x80 + (n - 0xD7C0) / 4 % 64
     else scalar_last_byte n
 
--- 1 if the unit adds more than one byte, else 0.
-abbrev pub multi_byte_bit : ℕ → ℕ
-multi_byte_bit n = if nat_lt n 0x80 then 0 else 1
-
 -- 1 if the unit adds three bytes, else 0.
 abbrev pub three_byte_bit : ℕ → ℕ
 three_byte_bit n = if nat_lt n 0x800 then 0 else if nat_lt n 0xD800 then 1 else if nat_lt n 0xE000 then 0 else 1
 
 -- The number of bytes that a unit adds.
 abbrev pub byte_count : ℕ → ℕ
-byte_count n = 1 + multi_byte_bit n + three_byte_bit n
+byte_count n = (if nat_lt n 0x80 then 1 else 2) + three_byte_bit n
 
--- The second bytes and the last bytes of the units, as if a 0 came before them, and for each unit 0x80 if it adds three
--- bytes, else 0.
+-- The second and the last bytes of the units, as if after a 0, and for each unit 0x80 if it adds three bytes, else 0.
 pub record AreLaterBytes (u seconds lasts longs : List ℕ) : Type 0 where
   pub second : seconds ≡ zip2 second_byte (0 ∷ u) u
   pub last : lasts ≡ map last_byte u
@@ -86,9 +79,7 @@ table_index a b c d = a / 2 + b / 2 * 2 + c / 2 * 4 + d / 2 * 8 + (a / 3 + b / 3
 
 -- The table index for the first four units of a list.
 abbrev pub units_table_index : List ℕ → ℕ
-units_table_index u =
-    let count = λ (k : ℕ). byte_count (slice_index_or u k 0) in
-    table_index (count 0) (count 1) (count 2) (count 3)
+units_table_index u = let count = λ (k : ℕ). byte_count (get_or u k 0) in table_index (count 0) (count 1) (count 2) (count 3)
 
 -- The lanes of the last `n` of the three bytes of unit `k` of four.
 abbrev pub source_lanes : ℕ → ℕ → List ℕ

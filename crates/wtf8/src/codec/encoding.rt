@@ -4,7 +4,7 @@ ghost use Rattle.wtf8.specs.CodePoint.{number};
 ghost use Rattle.wtf8.specs.Form.{encoding};
 ghost use Rattle.wtf8.specs.private.EncodedBytes.{BeginsWithPoint, FirstPointIs, BecomesOrKeeps};
 ghost use Rattle.wtf8.specs.Unicode.{IsCodePoint, IsLead};
-ghost use Rattle.wtf8.specs.private.UnitIterator.{trail_from_bytes};
+ghost use Rattle.wtf8.specs.private.UnitsInBytes.{trail_from_bytes};
 
 use crate::codec::code_point::CodePoint;
 use crate::vec::capacity::{reserve_if_short, spare_capacity};

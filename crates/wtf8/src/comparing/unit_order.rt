@@ -4,7 +4,7 @@
 ghost use Rattle.std.specs.Cmp.Lexicographic.{slice_cmp};
 ghost use Rattle.std.specs.Ordering.{MatchOrdering, is_ge, is_gt, is_le, is_lt, nat_cmp};
 ghost use Rattle.std.specs.Prelude.{◌≡◌, ◌↔◌, IsTrue};
-ghost use Rattle.wtf8.specs.private.Mismatch.{SupplementaryBegins};
+ghost use Rattle.wtf8.specs.private.Search.{SupplementaryBegins};
 ghost use Rattle.wtf8.specs.Order.{Before};
 ghost use Rattle.wtf8.specs.View.{view_units};
 

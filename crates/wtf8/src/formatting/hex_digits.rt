@@ -1,10 +1,9 @@
 // Bytes as upper-case hexadecimal text.
 ghost use Rattle.std.specs.List.{flat_map};
-ghost use Rattle.std.specs.Prelude.{◌≡◌, [], ◌++◌, ◌+◌, ◌*◌, ◌<◌, ◌≤◌, length, map, vec_len, vec_capacity, IfOk, OnOk, OnErr, IsOk};
+ghost use Rattle.std.specs.Prelude.{◌≡◌, [], ◌∷◌, ◌++◌, ◌+◌, ◌*◌, ◌<◌, ◌≤◌, length, map, vec_len, vec_capacity, IfOk, OnOk, OnErr, IsOk};
 ghost use Rattle.std.specs.Simd.Lanes.{Each1};
 ghost use Rattle.std.specs.String.{string_bytes};
 ghost use Rattle.wtf8.specs.Hex.{digit, hex_of, hex};
-ghost use Rattle.wtf8.specs.private.SpacedHex.{spaced_hex};
 
 use crate::lanes::VECTOR;
 use crate::strings::view::Wtf8;
@@ -60,7 +59,7 @@ fn upper_digits(values: u8x16) -> u8x16
 #[inline(always)]
 #[tactic(auto, using(crate::proofs::lemmas::formatting::HexDigits::highs_below, crate::proofs::lemmas::formatting::HexDigits::lows_below, crate::proofs::lemmas::formatting::HexDigits::block_text))]
 fn spaced_block(bytes: u8x16) -> [u8; SPACED_LEN]
-    ensures { result ≡ flat_map spaced_hex bytes }
+    ensures { result ≡ flat_map (λ b. 32 ∷ hex_of b) bytes }
 {
     let high = upper_digits(bytes >> u8x16::splat(4));
     let low = upper_digits(bytes & u8x16::splat(15));
@@ -91,7 +90,7 @@ fn push_hex_byte<A: Allocator>(text: &mut Vec<u8, A>, byte: u8)
 #[inline(always)]
 fn push_spaced<A: Allocator>(text: &mut Vec<u8, A>, bytes: &[u8])
     requires { vec_len text.old + 3 * length bytes.now ≤ vec_capacity text.old }
-    ensures { text.new.items ≡ text.old.items ++ flat_map spaced_hex bytes.now }
+    ensures { text.new.items ≡ text.old.items ++ flat_map (λ b. 32 ∷ hex_of b) bytes.now }
 {
     for byte in bytes {
         text.push_reserved(b' ');

@@ -3,10 +3,10 @@ ghost use Rattle.std.specs.Prelude.{◌≡◌, ◌↔◌, ℕ, ◌-◌, ◌<◌,
 ghost use Rattle.std.specs.Iterator.{count_map, Drains};
 ghost use Rattle.std.specs.Iterator.Adapters.{peekable_can, peekable_source, peekable_peeked, items_left_with_peeked};
 ghost use Rattle.wtf8.specs.CodePoint.{number};
-ghost use Rattle.wtf8.specs.private.Decoding.{point_of_item, units_left, decode_steps, ReadsAll};
+ghost use Rattle.wtf8.specs.private.Decoding.{point_of_item, decode_steps, ReadsAll};
 ghost use Rattle.wtf8.specs.Form.{Reads};
 ghost use Rattle.wtf8.specs.Unicode.{IsCodePoint, IsLead, IsTrail, IsSurrogate, pair};
-ghost use Rattle.wtf8.specs.private.ConvertedPrefix.{DividesNoPair};
+ghost use Rattle.wtf8.specs.UnitPosition.{DividesPair};
 
 use crate::codec::code_point::CodePoint;
 use crate::codec::surrogates::{self, FIRST_LEAD, LAST_LEAD, LAST_TRAIL};
@@ -16,8 +16,8 @@ use std::iter::Ahead;
 ///
 /// A lead and the trail directly after it are one `char`, and so is a unit that is not a surrogate.
 pub(crate) fn decode_utf16<I: Iterator<Item = u16>>(iter: I) -> DecodeUtf16<I>
-    ensures source { peekable_source (units_left result) ≡ iter }
-    ensures peeked { peekable_peeked (units_left result) ≡ None }
+    ensures source { peekable_source result.units ≡ iter }
+    ensures peeked { peekable_peeked result.units ≡ None }
 
     // The items up to the end are a reading of the units, whatever units the iterator yields.
     ensures reads { (items : List (Result ℕ ℕ)) → Drains (decode_steps I.next_gives) result items → ReadsAll I.next_gives iter items }
@@ -68,11 +68,11 @@ fn char_of_pair(lead: u16, trail: u16) -> char
 impl<I: Iterator<Item = u16>> Iterator for DecodeUtf16<I> {
     type Item = Result<char, u16>;
 
-    ghost can_next = { λ s. peekable_can I.can_next (units_left s) };
+    ghost can_next = { λ s. peekable_can I.can_next s.units };
 
     ghost next_gives = { decode_steps I.next_gives };
 
-    ghost remaining = { λ s. count_map (items_left_with_peeked (peekable_peeked (units_left s))) (I.remaining (peekable_source (units_left s))) };
+    ghost remaining = { λ s. count_map (items_left_with_peeked (peekable_peeked s.units)) (I.remaining (peekable_source s.units)) };
 
     fn next(&mut self) -> Option<Result<char, u16>> {
         let unit = self.units.next()?;
@@ -101,7 +101,7 @@ pub(crate) fn read_point(v: &[u16], at: usize) -> (CodePoint, usize, bool)
     requires { at < length v.now }
     ensures order { at < result.1 }
     ensures within { result.1 ≤ length v.now }
-    ensures divides_no_pair { DividesNoPair v.now result.1 }
+    ensures divides_no_pair { ¬ (DividesPair v.now result.1) }
     ensures reads { Reads (number result.0 ∷ []) (take (result.1 - at) (drop at v.now)) }
     ensures scalar { IsTrue result.2 → ¬ (IsSurrogate (number result.0)) }
 {

@@ -22,7 +22,7 @@
 ghost use Rattle.std.specs.Prelude.{◌≡◌, ◌⊎◌, ℕ, List, Bool, ◌&&◌, ◌+◌, ◌-◌, ◌*◌, ◌%◌, ◌/◌, ◌^◌, ◌<◌, ◌≤◌, ◌++◌, length, map, take, drop, slice_index_or, IfOk, IsTrue, nat_lt, if◌then◌else◌};
 ghost use lib.Lanes.{Each1};
 ghost use Rattle.wtf8.specs.Unicode.{IsLead, IsUnit};
-ghost use Rattle.wtf8.specs.private.ConvertedPrefix.{AreScalarUnits, IsReadTo};
+ghost use Rattle.wtf8.specs.private.Prefixes.{AreScalarUnits, IsReadTo};
 ghost use Rattle.wtf8.specs.private.PackedUnits.{tagged_block, first_byte, scalar_second_byte, scalar_last_byte, byte_lanes, units_table_index, AreLaterBytes, packed_units};
 
 use crate::codec::surrogates::{FIRST_LEAD, FIRST_TRAIL, SURROGATES_PER_HALF};

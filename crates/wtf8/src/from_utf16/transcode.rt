@@ -2,7 +2,7 @@
 // 8 units and the code point after it, blocks of `kernel`, or one code point. `decode_utf16` decodes the last units,
 // fewer than 8.
 ghost use Rattle.std.specs.Prelude.{◌≡◌, [], true, ◌+◌, ◌^◌, ◌<◌, ◌≤◌, length, map, min, IfOk, IsOk};
-ghost use Rattle.wtf8.specs.private.ConvertedPrefix.{IsKnownForm, IsReadTo};
+ghost use Rattle.wtf8.specs.private.Prefixes.{IsKnownForm, IsReadTo};
 
 use crate::codec::code_point::CodePoint;
 use crate::codec::encoding;

@@ -1,6 +1,6 @@
 // ASCII in blocks of bytes: whether all bytes are ASCII, and how many at the front are.
 ghost use Rattle.std.specs.Prelude.{◌*◌, ◌≤◌, length, take, IsTrue};
-ghost use Rattle.wtf8.specs.private.ConvertedPrefix.{AreAscii};
+ghost use Rattle.wtf8.specs.private.Prefixes.{AreAscii};
 
 use crate::lanes::masks::first_set_lane;
 use std::simd::prelude::*;

@@ -1,6 +1,6 @@
 // Bitmasks of lane comparisons: bit `k` is lane `k`.
 ghost use Rattle.std.specs.Prelude.{◌≢◌};
-ghost use Rattle.wtf8.specs.private.FirstIndex.{IsFirstSet};
+ghost use Rattle.wtf8.specs.private.Search.{IsFirstSet};
 
 #[inline(always)]
 pub(crate) fn first_set_lane(bits: u64) -> Option<usize>

@@ -2,8 +2,7 @@
 ghost use Rattle.std.specs.Cmp.Lexicographic.{pointwise, slice_cmp};
 ghost use Rattle.std.specs.Ordering.{nat_cmp};
 ghost use Rattle.std.specs.Prelude.{◌≡◌, ◌+◌, ◌*◌, ◌<◌, ◌≤◌, min, length, slice_get, nat_eq};
-ghost use Rattle.wtf8.specs.private.Mismatch.{DifferAt, IsMismatch, DecidesNone};
-ghost use Rattle.wtf8.specs.private.FirstIndex.{IsFirstIn, NoneIn};
+ghost use Rattle.wtf8.specs.private.Search.{IsFirstIn, NoneIn, DifferAt, IsMismatch, DecidesNone};
 
 use crate::lanes::masks::lowest_set_lane;
 use crate::lanes::{BLOCK, STRIDE, VECTOR};

@@ -1,7 +1,6 @@
 // Finds the encodings of surrogates in bytes.
 ghost use Rattle.std.specs.Prelude.{◌+◌, ◌<◌, length};
-ghost use Rattle.wtf8.specs.private.FirstIndex.{IsFirst, IsFirstIn};
-ghost use Rattle.wtf8.specs.private.SurrogateSearch.{SurrogateAt};
+ghost use Rattle.wtf8.specs.private.Search.{IsFirst, IsFirstIn, SurrogateAt};
 
 use crate::lanes::masks::first_set_lane;
 use std::simd::prelude::*;

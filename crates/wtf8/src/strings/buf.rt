@@ -1,20 +1,19 @@
 // `Wtf8Buf`, the owned string.
-ghost use Rattle.std.specs.Prelude.{◌≡◌, ℕ, List, [], ◌∷◌, ◌++◌, ◌+◌, ◌*◌, ◌<◌, ◌≤◌, length, take, IsTrue, OnOk, OnErr, IsOk, IfOk, IfErr, ◌↔◌, vec_capacity, refl, if◌then◌else◌};
+ghost use Rattle.std.specs.Prelude.{◌≡◌, ℕ, List, [], ◌∷◌, ◌++◌, ◌+◌, ◌*◌, ◌<◌, ◌≤◌, length, take, IsTrue, OnOk, OnErr, IsOk, IfOk, IfErr, ◌↔◌, vec_capacity, if◌then◌else◌};
 ghost use Rattle.std.specs.Str.{chars};
 ghost use Rattle.std.specs.String.{string_bytes};
 ghost use Rattle.wtf8.specs.Appending.{AppendsUnits, KeepsContents, HasRoomFor, AddsLength};
 ghost use Rattle.wtf8.specs.Building.{Truncates};
 ghost use Rattle.wtf8.specs.CodePoint.{number};
 ghost use Rattle.wtf8.specs.Form.{IsWellFormed, IsForm, Reads, bytes, encoding};
-ghost use Rattle.wtf8.specs.OneForm.{IsWellFormed-prop};
+ghost use Rattle.wtf8.specs.OneForm.{IsWellFormed-prop, form_of};
 ghost use Rattle.wtf8.specs.Position.{IsBoundary, IsFront};
 ghost use Rattle.wtf8.specs.Surrogates.{AreScalar, lossy_points};
-ghost use Rattle.wtf8.specs.private.FirstIndex.{IsFirst};
-ghost use Rattle.wtf8.specs.private.ScalarPrefix.{AreScalarTo, AreScalarTo-prop};
-ghost use Rattle.wtf8.specs.private.SurrogateSearch.{SurrogateAt};
+ghost use Rattle.wtf8.specs.private.Prefixes.{AreScalarTo, AreScalarTo-prop};
+ghost use Rattle.wtf8.specs.private.Search.{IsFirst, SurrogateAt};
 ghost use Rattle.wtf8.specs.Unicode.{units, units_of};
 ghost use Rattle.wtf8.specs.UnitPosition.{TruncatesUnits};
-ghost use Rattle.wtf8.specs.UnitString.{UnitString, unit_string_code, fits_as_items};
+ghost use Rattle.wtf8.specs.UnitString.{UnitString, unit_string_code};
 ghost use Rattle.wtf8.specs.View.{view_points, view_units};
 
 use crate::codec::code_point::CodePoint;
@@ -68,13 +67,9 @@ impl<A: Allocator> Model for Wtf8Buf<A> {
     ghost view = { λ b. record {
       units = units b.well_formed.points;
       bytes = b.bytes.items;
-      form = record {
-        points = b.well_formed.points;
-        reads = record { clean = b.well_formed.clean; same_units = refl };
-        encoded = b.well_formed.encoded;
-      };
+      form = form_of b.well_formed;
       capacity = vec_capacity b.bytes;
-      fits = fits_as_items b.bytes.ok.0 b.bytes.ok.1;
+      fits = rw (← b.bytes.ok.0) b.bytes.ok.1;
     } };
 }
 

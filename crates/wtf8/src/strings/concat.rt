@@ -5,7 +5,7 @@ ghost use Rattle.wtf8.specs.CodePoint.{number};
 ghost use Rattle.wtf8.specs.Concatenation.{MeetsAsPair};
 ghost use Rattle.wtf8.specs.Form.{IsWellFormed, encoding};
 ghost use Rattle.wtf8.specs.private.EncodedBytes.{ExtendsForm, BecomesOrKeeps, ExtendsFormOrKeeps};
-ghost use Rattle.wtf8.specs.private.ScalarPrefix.{AreScalarTo};
+ghost use Rattle.wtf8.specs.private.Prefixes.{AreScalarTo};
 ghost use Rattle.wtf8.specs.Surrogates.{AreScalar};
 ghost use Rattle.wtf8.specs.Unicode.{units, units_of, pair, IsSurrogate, IsLead, IsTrail};
 ghost use Rattle.wtf8.specs.View.{view_points, view_units};

@@ -9,7 +9,7 @@ ghost use Rattle.wtf8.specs.OneForm.{IsWellFormed-prop};
 ghost use Rattle.wtf8.specs.Unicode.{units};
 ghost use Rattle.wtf8.specs.Units.{Unread, unread_units};
 ghost use Rattle.wtf8.specs.View.{view_points, view_units};
-ghost use Rattle.wtf8.specs.private.UnitIterator.{held_trail, after_held_trail, unread_after, StepsUnit};
+ghost use Rattle.wtf8.specs.private.UnitsInBytes.{held_trail, after_held_trail, unread_after, StepsUnit};
 
 use crate::codec::code_point::CodePoint;
 use crate::codec::encoding;
@@ -188,7 +188,7 @@ impl<'a> IllFormedUtf16CodeUnits<'a> {
     #[inline(always)]
     fn next_unit(&mut self) -> Option<u16>
         ensures first { YieldsFirst unread_units self.old result self.new }
-        ensures left { self.new ≡ unread_after self.old }
+        ensures left { self.new ≡ unread_after self.old.held self.old.points }
     {
         if self.position == self.bytes.len() {
             return None;

@@ -1,6 +1,6 @@
 // Numbers of 16-bit code units: of a string, and of the code points that begin before a byte index.
 ghost use Rattle.std.specs.Prelude.{◌≡◌, ◌+◌, ◌*◌, ◌^◌, ◌<◌, ◌≤◌, length, map, take, drop, IfSome};
-ghost use Rattle.wtf8.specs.private.UnitCounts.{utf16_len, sum_utf16_len, IsCursor};
+ghost use Rattle.wtf8.specs.private.UnitsInBytes.{utf16_len, sum_utf16_len, IsCursor};
 ghost use Rattle.wtf8.specs.View.{view_units};
 
 use crate::codec::encoding;
@@ -28,7 +28,7 @@ pub(crate) struct UnitCursor {
     pub(crate) units: usize,
 }
 
-#[tactic(auto, unfolding(crate::specs::private::UnitCounts::utf16_len))]
+#[tactic(auto, unfolding(crate::specs::private::UnitsInBytes::utf16_len))]
 pub(crate) fn utf16_len_of_byte(byte: u8) -> usize
     ensures { result ≡ utf16_len byte }
 {

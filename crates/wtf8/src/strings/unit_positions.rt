@@ -1,7 +1,7 @@
 // Positions of 16-bit code units: where the first `n` units of a string end, and the unit at an index.
 ghost use Rattle.std.specs.Prelude.{◌≡◌, ◌+◌, ◌<◌, ◌≤◌, length, slice_get, Some, IfSome, IfNone};
 ghost use Rattle.wtf8.specs.Position.{IsBoundary};
-ghost use Rattle.wtf8.specs.private.UnitCounts.{IsCursor, IsCursorOfUnit};
+ghost use Rattle.wtf8.specs.private.UnitsInBytes.{IsCursor, IsCursorOfUnit};
 ghost use Rattle.wtf8.specs.View.{view_units};
 
 use crate::codec::encoding;

@@ -1,7 +1,7 @@
 // The UTF-8 prefix of a buffer: the bytes at its front that are known to hold no surrogate.
 ghost use Rattle.std.specs.Prelude.{◌≡◌, ◌<◌, ◌≤◌, ℕ, List, length, IsTrue};
 ghost use Rattle.wtf8.specs.Form.{bytes};
-ghost use Rattle.wtf8.specs.private.ScalarPrefix.{AreScalarTo};
+ghost use Rattle.wtf8.specs.private.Prefixes.{AreScalarTo};
 ghost use Rattle.wtf8.specs.Surrogates.{AreScalar};
 ghost use Rattle.wtf8.specs.View.{view_points};
 

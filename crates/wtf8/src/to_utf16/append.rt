@@ -1,8 +1,7 @@
 // Appends the code units of a view to a vector.
 ghost use Rattle.std.specs.Prelude.{◌≡◌, ℕ, ◌++◌, ◌+◌, ◌*◌, ◌<◌, ◌≤◌, length, take, drop, IsOk, IsTrue, OnOk, OnErr, false, vec_len, vec_capacity};
-ghost use Rattle.wtf8.specs.private.ConvertedPrefix.{AreAscii};
-ghost use Rattle.wtf8.specs.private.EncodedBytes.{BecomesOrKeeps};
-ghost use Rattle.wtf8.specs.private.EncodedRuns.{BeginsWithUnits, Writes};
+ghost use Rattle.wtf8.specs.private.Prefixes.{AreAscii};
+ghost use Rattle.wtf8.specs.private.EncodedBytes.{BecomesOrKeeps, BeginsWithUnits, Writes};
 ghost use Rattle.wtf8.specs.CodePoint.{number};
 ghost use Rattle.wtf8.specs.Unicode.{units_of};
 ghost use Rattle.wtf8.specs.View.{view_units};

@@ -1,7 +1,7 @@
 // Decodes blocks of WTF-8 code points of one encoded length to code units.
-ghost use Rattle.std.specs.Prelude.{◌≡◌, ◌*◌, ◌<◌, ◌≤◌, length, take};
+ghost use Rattle.std.specs.Prelude.{◌≡◌, ◌*◌, ◌/◌, ◌<◌, ◌≤◌, length, take, get_or};
 ghost use lib.Lanes.{Each1};
-ghost use Rattle.wtf8.specs.private.EncodedRuns.{HasBitPrefix, BeginsWithUnits, lead_bytes_of, unit_of_two, unit_of_three, units_of_run};
+ghost use Rattle.wtf8.specs.private.EncodedBytes.{BeginsWithUnits, map_run, unit_of_two, unit_of_three};
 
 use crate::lanes::masks::first_set_lane;
 use std::simd::prelude::*;
@@ -57,13 +57,13 @@ pub(crate) fn widen_bytes<const N: usize>(block: Simd<u8, N>) -> [u16; N]
 }
 
 /// Returns the number of lanes before the first with `byte / size != prefix`. Size and prefix are 128 and 0 for ASCII,
-/// 32 and 6 for lead bytes of two-byte code points, 16 and 14 for lead bytes of three-byte ones.
+/// 32 and 6 for lead bytes of two-byte code points, 16 and 14 for those of three (Unicode 3.9, "UTF-8", Table 3-6).
 #[inline(always)]
 fn count_leading_with_prefix<const N: usize>(bytes: Simd<u8, N>, size: u8, prefix: u8) -> usize
     requires lanes { N ≤ u64.BITS }
     requires size { 0 < size }
     ensures within { result ≤ N }
-    ensures each { Each1 (HasBitPrefix size prefix) (take result bytes.entry) }
+    ensures each { Each1 (λ b. b / size ≡ prefix) (take result bytes.entry) }
 {
     let kinds = bytes / Simd::splat(size);
     first_set_lane(kinds.simd_ne(Simd::splat(prefix)).to_bitmask()).unwrap_or(N)
@@ -72,8 +72,8 @@ fn count_leading_with_prefix<const N: usize>(bytes: Simd<u8, N>, size: u8, prefi
 /// Decodes eight two-byte code points. Returns their lead bytes, which are not checked here, and their units.
 #[inline(always)]
 fn read_twos(bytes: u8x16) -> (u8x8, [u16; 8])
-    ensures firsts { result.0 ≡ lead_bytes_of 2 8 bytes }
-    ensures units { result.1 ≡ units_of_run 2 unit_of_two 8 bytes }
+    ensures firsts { result.0 ≡ map_run 2 (λ w. get_or w 0 0) 8 bytes }
+    ensures units { result.1 ≡ map_run 2 unit_of_two 8 bytes }
 {
     let first: u8x8 = bytes.shuffle(bytes, FIRST_OF_TWO);
     let second: u8x8 = bytes.shuffle(bytes, SECOND_OF_TWO);
@@ -86,8 +86,8 @@ fn read_twos(bytes: u8x16) -> (u8x8, [u16; 8])
 /// Decodes eight three-byte code points. Returns their lead bytes, which are not checked here, and their units.
 #[inline(always)]
 fn read_threes(bytes: u8x32) -> (u8x8, [u16; 8])
-    ensures firsts { result.0 ≡ lead_bytes_of 3 8 bytes }
-    ensures units { result.1 ≡ units_of_run 3 unit_of_three 8 bytes }
+    ensures firsts { result.0 ≡ map_run 3 (λ w. get_or w 0 0) 8 bytes }
+    ensures units { result.1 ≡ map_run 3 unit_of_three 8 bytes }
 {
     let first: u8x8 = bytes.shuffle(bytes, FIRST_OF_THREE);
     let second: u8x8 = bytes.shuffle(bytes, SECOND_OF_THREE);

@@ -179,13 +179,6 @@ reads_same {c} {d} x y = same_reading c d x.clean y.clean (x.same_units ∙ sym 
 pub same_form : (w v u : List ℕ) → IsForm w u → IsForm v u → w ≡ v
 same_form w v u x y = sym x.encoded ∙ ap bytes (reads_same x.reads y.reads) ∙ y.encoded
 
--- well-formed bytes are the form of the units of their code points
-abbrev pub form_of : {w : List ℕ} (h : IsWellFormed w) → IsForm w (units h.points)
-form_of h = record { points = h.points; reads = record { clean = h.clean; same_units = refl }; encoded = h.encoded }
-
-abbrev pub well_formed_of : {w u : List ℕ} → IsForm w u → IsWellFormed w
-well_formed_of f = record { points = f.points; clean = f.reads.clean; encoded = f.encoded }
-
 -- bytes are the form of at most one list of units
 pub units_from_form : (w a b : List ℕ) → IsForm w a → IsForm w b → a ≡ b
 units_from_form w a b x y =

@@ -1,8 +1,7 @@
 -- Scalar values among code points and units, and U+FFFD for each surrogate.
 use Rattle.wtf8.proofs.Common.{◌≡◌, ℕ, List, [], ◌∷◌, ◌++◌, true, refl, ap, ◌∙◌, arith, cases_lt, lt-leb, le-leb, Each1-weaker, AreAscii}
-use Rattle.wtf8.proofs.Common.{bytes, units, IsClean, IsSurrogate, AreScalar, IsKnownForm, Wtf8, view_form, view_units}
+use Rattle.wtf8.proofs.Common.{bytes, units, IsClean, IsSurrogate, AreScalar, IsKnownForm, Wtf8, view_form, view_units, AreScalarUnits}
 use Rattle.wtf8.specs.Surrogates.{replace_surrogate}
-use Rattle.wtf8.specs.private.ConvertedPrefix.{AreScalarUnits}
 use Rattle.wtf8.proofs.lemmas.codec.Encoding.{encoding_one}
 use Rattle.wtf8.proofs.lemmas.codec.Readings.{units-cons_one, units_from_form}
 

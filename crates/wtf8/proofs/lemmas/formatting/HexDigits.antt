@@ -1,7 +1,7 @@
 -- Hexadecimal digits in lanes.
 use Rattle.wtf8.proofs.Common.{◌≡◌, ℕ, zero, suc, ◌+◌, ◌*◌, ◌/◌, ◌%◌, ◌<◌, ◌≤◌, cond, leb, ltb, inl, inr, List, [], ◌∷◌, ◌++◌, map, length}
 use Rattle.wtf8.proofs.Common.{get_or, take, drop, replicate, refl, sym, ap, ◌∙◌, subst, arith, w8, append_assoc, flat_map-append, lt-leb}
-use Rattle.wtf8.proofs.Common.{cases_Bool, pick_l_whole, Each1, zip2, hex_of, hex, spaced_hex, flat_map, take-append-drop, take-add, swz_l}
+use Rattle.wtf8.proofs.Common.{cases_Bool, pick_l_whole, Each1, zip2, hex_of, hex, flat_map, take-append-drop, take-add, swz_l}
 use Rattle.wtf8.proofs.Common.{zip2_splat, IsAscii-append, range_with_len, IsAscii, IsClean, bytes}
 use Rattle.std.proofs.lemmas.List.FromFn.{get_or-map-range_with_len}
 use Rattle.std.proofs.lemmas.Nat.{and_mask}
@@ -69,30 +69,31 @@ lows_below bytes p = subst (Each1 (λ v. v < 16)) (sym (low_digits-map bytes p))
 
 -- the interleaved digits of the halves are the spaced text of 16 bytes
 pub block_text : (bytes first second : List ℕ) → length bytes ≡ 16 → first ≡ map digit (high_digits bytes)
-    → second ≡ map digit (low_digits bytes) → interleave_digits (first ++ second) ≡ flat_map spaced_hex bytes
-block_text bytes first second p f s = rw (f, s, high_digits-map bytes p, low_digits-map bytes p) (subst (λ bs. interleave_digits
-    (map digit (map (λ b. b / 16) bs) ++ map digit (map (λ b. b % 16) bs)) ≡ flat_map spaced_hex bs) (pick_l_whole 0 bytes 16 p) refl)
+    → second ≡ map digit (low_digits bytes) → interleave_digits (first ++ second) ≡ flat_map (λ b. 32 ∷ hex_of b) bytes
+block_text bytes first second p f s = rw (f, s, high_digits-map bytes p, low_digits-map bytes p)
+    (subst (λ v. interleave_digits (map digit (map (λ b. b / 16) v) ++ map digit (map (λ b. b % 16) v)) ≡ flat_map (λ b. 32 ∷ hex_of b) v)
+    (pick_l_whole 0 bytes 16 p) refl)
 
 -- the text of the first `at` bytes and of the next `n` is the text of the first `at + n`
-pub spaced_hex-append_take : (text start bytes : List ℕ) (at n : ℕ) → text ≡ start ++ flat_map spaced_hex (take at bytes)
-    → text ++ flat_map spaced_hex (take n (drop at bytes)) ≡ start ++ flat_map spaced_hex (take (at + n) bytes)
-spaced_hex-append_take text start bytes at n e = simp (e, append_assoc, take-add at n bytes, flat_map-append)
+pub spaced-append_take : (text start bytes : List ℕ) (at n : ℕ) → text ≡ start ++ flat_map (λ b. 32 ∷ hex_of b) (take at bytes)
+    → text ++ flat_map (λ b. 32 ∷ hex_of b) (take n (drop at bytes)) ≡ start ++ flat_map (λ b. 32 ∷ hex_of b) (take (at + n) bytes)
+spaced-append_take text start bytes at n e = simp (e, append_assoc, take-add at n bytes, flat_map-append)
 
 -- the text of the first `at` bytes and of the rest is the text of all
-pub spaced_hex-append_rest : (text start bytes : List ℕ) (at : ℕ) → text ≡ start ++ flat_map spaced_hex (take at bytes)
-    → text ++ flat_map spaced_hex (drop at bytes) ≡ start ++ flat_map spaced_hex bytes
-spaced_hex-append_rest text start bytes at e = simp (e, append_assoc, ← flat_map-append, take-append-drop)
+pub spaced-append_rest : (text start bytes : List ℕ) (at : ℕ) → text ≡ start ++ flat_map (λ b. 32 ∷ hex_of b) (take at bytes)
+    → text ++ flat_map (λ b. 32 ∷ hex_of b) (drop at bytes) ≡ start ++ flat_map (λ b. 32 ∷ hex_of b) bytes
+spaced-append_rest text start bytes at e = simp (e, append_assoc, ← flat_map-append, take-append-drop)
 
 digit_ascii : (n : ℕ) → n < 16 → digit n < 128
 unfolding digit
 digit_ascii n h = elim (cases_Bool (ltb n 10)) [ inl less ↦ rw less (omega arith) | inr more ↦ rw more (omega arith) ]
 
-spaced_ascii : (b : ℕ) → b < 256 → IsAscii (spaced_hex b)
+spaced_ascii : (b : ℕ) → b < 256 → IsAscii (32 ∷ hex_of b)
 spaced_ascii b h k = grind (arith, digit_ascii)
 
-all_spaced_ascii : (bytes : List ℕ) → Each1 (λ b. b < 256) bytes → IsAscii (flat_map spaced_hex bytes)
+all_spaced_ascii : (bytes : List ℕ) → Each1 (λ b. b < 256) bytes → IsAscii (flat_map (λ b. 32 ∷ hex_of b) bytes)
 all_spaced_ascii [] h = λ i. omega arith
-all_spaced_ascii (b ∷ bytes) h = IsAscii-append (spaced_hex b) _ (spaced_ascii b h.0) (all_spaced_ascii bytes h.1)
+all_spaced_ascii (b ∷ bytes) h = IsAscii-append (32 ∷ hex_of b) _ (spaced_ascii b h.0) (all_spaced_ascii bytes h.1)
 
 -- hexadecimal text is ASCII
 pub hex_ascii : (bytes : List ℕ) → Each1 (λ b. b < 256) bytes → IsAscii (hex bytes)

@@ -1,10 +1,10 @@
 -- The items of a decoder are a reading of its iterator's units.
 use Rattle.wtf8.proofs.Common.{◌≡◌, ◌+◌, ◌-◌, ◌<◌, length, take, drop, get_or, append-nil, Reads, inl, inr, ℕ, List, [], ◌∷◌, ◌++◌, Option}
 use Rattle.wtf8.proofs.Common.{None, Some, Result, Ok, Err, refl, sym, ap, ◌∙◌, subst, arith, Drains, peekable_steps, peekable_peeked}
-use Rattle.wtf8.proofs.Common.{point_of_item, points_of_items, units_left, decode_steps, ReadsAll, IsClean, IsCodePoint, IsLead, IsTrail}
+use Rattle.wtf8.proofs.Common.{point_of_item, map, decode_steps, ReadsAll, IsClean, IsCodePoint, IsLead, IsTrail, IsReadTo}
 use Rattle.wtf8.proofs.Common.{IsSurrogate, MatchResult, units, pair, MatchOption, IfSome, Bool, IsTrue, ◌≢◌, AreScalar, IsKnownForm, bytes}
 use Rattle.wtf8.proofs.Common.{encoding, map-append, take-append-drop, ◌≤◌, cases_lt, lt-ltb, le-ltb, append_assoc, length-append}
-use Rattle.wtf8.proofs.Common.{length-drop, take_all, DividesNoPair, MeetsAsPair, copied_steps, iter_steps, iter_rest, common_steps}
+use Rattle.wtf8.proofs.Common.{length-drop, take_all, DividesPair, MeetsAsPair, copied_steps, iter_steps, iter_rest, common_steps}
 use Rattle.std.proofs.lemmas.List.{drop_more, nil_from_length}
 use Rattle.std.specs.Iterator.{Yields}
 use Rattle.std.specs.Iterator.Adapters.{peekable_source, PeekedOrNext, PeeksNext, copied_source}
@@ -16,9 +16,8 @@ use Rattle.std.specs.declared.iter.Ahead.{Ahead}
 use Rattle.wtf8.specs.Unicode.{units_of}
 use Rattle.wtf8.specs.private.Decoding.{DecodesItem}
 use Rattle.wtf8.specs.declared.from_utf16.decode.DecodeUtf16.{DecodeUtf16}
-use Rattle.wtf8.specs.private.ConvertedPrefix.{IsReadTo}
 use Rattle.wtf8.proofs.lemmas.codec.Encoding.{bytes-append}
-use Rattle.wtf8.proofs.lemmas.from_utf16.Transcode.{IsKnownForm-append, DividesNoPair-after_no_lead}
+use Rattle.wtf8.proofs.lemmas.from_utf16.Transcode.{IsKnownForm-append, undivided-after_no_lead}
 use Rattle.wtf8.proofs.lemmas.codec.Readings.{units_one, units_pair, unpaired-nil_right, unpaired-before_no_trail}
 
 module _ {S A : Type 0} (steps : S → Option A → S → Type 0) where
@@ -85,33 +84,33 @@ module _ {S : Type 0} (steps : S → Option ℕ → S → Type 0) where
       yielded_no_trail (peekable_peeked s) _ _ q lone first.1.1.1.1 trail
 
   pub record ReadsLeft (s : Ahead S ℕ) (items : List (Result ℕ ℕ)) : Type 0 where
-    pub clean : IsClean (points_of_items items)
-    pub all_units : Drains (peekable_steps steps) s (units (points_of_items items))
+    pub clean : IsClean (map point_of_item items)
+    pub all_units : Drains (peekable_steps steps) s (units (map point_of_item items))
 
-  reads_left : (items : List (Result ℕ ℕ)) (s : DecodeUtf16 S) → Drains (decode_steps steps) s items → ReadsLeft (units_left s) items
-  reads_left [] s d = record { clean = tt; all_units = (units_left d.0, (units_left d.1.0, ap units_left d.1.1, d.1.2)) }
+  reads_left : (items : List (Result ℕ ℕ)) (s : DecodeUtf16 S) → Drains (decode_steps steps) s items → ReadsLeft s.units items
+  reads_left [] s d = record { clean = tt; all_units = (d.0.units, (d.1.0.units, ap (λ (k : DecodeUtf16 S). k.units) d.1.1, d.1.2)) }
   reads_left (x ∷ items) s d =
       let next = d.1.1.0 in
-      let item : DecodesItem steps (units_left s) x (units_left next) = d.1.1.1 in
+      let item : DecodesItem steps s.units x next.units = d.1.1.1 in
       let rest = reads_left items next (d.0, (d.1.0, d.1.1.2, d.1.2)) in
-      let after : Drains (peekable_steps steps) item.after (units (points_of_items items)) = elim item.held [
-        | inl e ↦ subst (λ k. Drains (peekable_steps steps) k (units (points_of_items items))) e rest.all_units
-        | inr h ↦ Drains-from_steps (peekable_steps steps) item.after (units_left next) (units (points_of_items items))
-            (λ r u. peeked_call item.after (units_left next) u r h) rest.all_units
+      let after : Drains (peekable_steps steps) item.after (units (map point_of_item items)) = elim item.held [
+        | inl e ↦ subst (λ k. Drains (peekable_steps steps) k (units (map point_of_item items))) e rest.all_units
+        | inr h ↦ Drains-from_steps (peekable_steps steps) item.after next.units (units (map point_of_item items))
+            (λ r u. peeked_call item.after next.units u r h) rest.all_units
       ] in
       record {
-        clean = clean-cons (point_of_item x) (points_of_items items) (item_range x item.kind) rest.clean
-            (λ q c e pair. lone_lead (units_left next) q c (item.lone pair.0)
-            (subst (λ v. Drains (peekable_steps steps) (units_left next) (units v)) e rest.all_units) pair.1);
-        all_units = drains-append (peekable_steps steps) (units_left s) item.after (units_of (point_of_item x))
-            (units (points_of_items items)) item.taken after;
+        clean = clean-cons (point_of_item x) (map point_of_item items) (item_range x item.kind) rest.clean
+            (λ q c e pair. lone_lead next.units q c (item.lone pair.0)
+            (subst (λ v. Drains (peekable_steps steps) next.units (units v)) e rest.all_units) pair.1);
+        all_units = drains-append (peekable_steps steps) s.units item.after (units_of (point_of_item x))
+            (units (map point_of_item items)) item.taken after;
       }
 
-  pub reads_all : (items : List (Result ℕ ℕ)) (s : DecodeUtf16 S) → peekable_peeked (units_left s) ≡ None
-      → Drains (decode_steps steps) s items → ReadsAll steps (peekable_source (units_left s)) items
+  pub reads_all : (items : List (Result ℕ ℕ)) (s : DecodeUtf16 S) → peekable_peeked s.units ≡ None
+      → Drains (decode_steps steps) s items → ReadsAll steps (peekable_source s.units) items
   reads_all items s e d =
       let r = reads_left items s d in
-      record { clean = r.clean; all_units = drains_source (units_left s) (units (points_of_items items)) e r.all_units }
+      record { clean = r.clean; all_units = drains_source s.units (units (map point_of_item items)) e r.all_units }
 
   -- the units of one item were taken: one unit, or a pair
   pub takes_one : (s t : Ahead S ℕ) (u p : ℕ) → p ≡ u → u < 0x10000 → peekable_steps steps s (Some u) t
@@ -171,13 +170,14 @@ length-units_of p n one two = grind (arith, cases_lt, lt-ltb, le-ltb)
 -- the first code point `p` of the units from index `at` on, and the index `end` after its units
 pub record IsFirstRead (v : List ℕ) (at end p : ℕ) : Type 0 where
   pub within : end ≤ length v
-  pub divides_no_pair : DividesNoPair v end
+  pub divides_no_pair : ¬ (DividesPair v end)
   pub reads : Reads (p ∷ []) (take (end - at) (drop at v))
 
-divides_no_pair_after_no_lead : (v : List ℕ) (at : ℕ) → at < length v → ¬ (IsLead (get_or v at 0)) → DividesNoPair v (at + 1)
-divides_no_pair_after_no_lead v at l no_lead = grind (arith, DividesNoPair-after_no_lead)
+divides_no_pair_after_no_lead : (v : List ℕ) (at : ℕ) → at < length v → ¬ (IsLead (get_or v at 0)) → ¬ (DividesPair v (at + 1))
+divides_no_pair_after_no_lead v at l no_lead = grind (arith, undivided-after_no_lead)
 
-divides_no_pair_before_no_trail : (v : List ℕ) (at : ℕ) → (at + 1 < length v → ¬ (IsTrail (get_or v (at + 1) 0))) → DividesNoPair v (at + 1)
+divides_no_pair_before_no_trail : (v : List ℕ) (at : ℕ) → (at + 1 < length v → ¬ (IsTrail (get_or v (at + 1) 0)))
+    → ¬ (DividesPair v (at + 1))
 divides_no_pair_before_no_trail v at no_trail = elim (cases_lt (at + 1) (length v)) [
   | inl l ↦ subst (λ d. ¬ (MeetsAsPair (take (at + 1) v) d)) (sym (drop_more v (at + 1) 0 l))
       (unpaired-before_no_trail (get_or v (at + 1) 0) (drop (at + 1 + 1) v) (no_trail l))
@@ -186,7 +186,7 @@ divides_no_pair_before_no_trail v at no_trail = elim (cases_lt (at + 1) (length 
 ]
 
 -- a unit after which no pair is divided is read alone
-IsFirstRead-single : (v : List ℕ) (at : ℕ) → at < length v → get_or v at 0 < 0x10000 → DividesNoPair v (at + 1)
+IsFirstRead-single : (v : List ℕ) (at : ℕ) → at < length v → get_or v at 0 < 0x10000 → ¬ (DividesPair v (at + 1))
     → IsFirstRead v at (at + 1) (get_or v at 0)
 IsFirstRead-single v at l h divides = grind (arith, drop_more, append-nil, units_one)
 
@@ -209,7 +209,7 @@ IsFirstRead-lone v at l h lone = IsFirstRead-single v at l h (elim (cases_lt (ge
 -- a lead and the trail after it are read together
 pub IsFirstRead-pair : (v : List ℕ) (at : ℕ) → at + 1 < length v → IsLead (get_or v at 0) → IsTrail (get_or v (at + 1) 0)
     → IsFirstRead v at (at + 2) (pair (get_or v at 0) (get_or v (at + 1) 0))
-IsFirstRead-pair v at l lead trail = grind (arith, drop_more, DividesNoPair-after_no_lead, append-nil, units_pair)
+IsFirstRead-pair v at l lead trail = grind (arith, drop_more, undivided-after_no_lead, append-nil, units_pair)
 
 -- All items of a decoder over a slice.
 
@@ -222,17 +222,17 @@ drained_units (x ∷ us) s d =
 
 -- an empty slice yields no item
 pub no_item : (v : List ℕ) (at : ℕ) (items : List (Result ℕ ℕ)) (s k t : DecodeUtf16 (Copied (Iter ℕ))) (x : Result ℕ ℕ)
-    → peekable_peeked (units_left s) ≡ None → slice_left (units_left s) ≡ take (length v - at) (drop at v)
-    → Yields (decode_steps steps) s items k → DecodesItem steps (units_left k) x (units_left t) → v ≢ []
+    → peekable_peeked s.units ≡ None → slice_left s.units ≡ take (length v - at) (drop at v)
+    → Yields (decode_steps steps) s items k → DecodesItem steps k.units x t.units → v ≢ []
 no_item v at items s k t x none rest y item nothing = from items y
   where
-    whole : slice_left (units_left s) ≡ drop at v
+    whole : slice_left s.units ≡ drop at v
     whole = rest ∙ take_all (length v - at) (drop at v) (omega (arith, length-drop at v))
 
-    begun : (q : Result ℕ ℕ) (m : DecodeUtf16 (Copied (Iter ℕ))) → ¬ (DecodesItem steps (units_left s) q (units_left m))
+    begun : (q : Result ℕ ℕ) (m : DecodeUtf16 (Copied (Iter ℕ))) → ¬ (DecodesItem steps s.units q m.units)
     begun q m i =
         let us = units_of (point_of_item q) in
-        let got = slice_left-yields us (units_left s) i.after none i.taken in
+        let got = slice_left-yields us s.units i.after none i.taken in
         let one = length-units_of (point_of_item q) in
         let none_left : length us + length (slice_left i.after) ≡ 0 = grind (arith, length-append, length-drop) in
         elim (cases_lt (point_of_item q) 0x10000) [
@@ -241,21 +241,22 @@ no_item v at items s k t x none rest y item nothing = from items y
         ]
 
     from : (items : List (Result ℕ ℕ)) → ¬ (Yields (decode_steps steps) s items k)
-    from [] y = begun x t (subst (λ k. DecodesItem steps (units_left k) x (units_left t)) (sym y) item)
+    from [] y = begun x t (subst (λ k. DecodesItem steps k.units x t.units) (sym y) item)
     from (q ∷ items) y = begun q y.0 y.1
 
 -- the encodings of all items after one more
 pub encoded_item : (w : List ℕ) {now new : List ℕ} (items : List (Result ℕ ℕ)) (x : Result ℕ ℕ) {p : ℕ}
-    → now ≡ w ++ bytes (points_of_items items) → new ≡ now ++ encoding p → point_of_item x ≡ p
-    → new ≡ w ++ bytes (points_of_items (items ++ x ∷ []))
+    → now ≡ w ++ bytes (map point_of_item items) → new ≡ now ++ encoding p → point_of_item x ≡ p
+    → new ≡ w ++ bytes (map point_of_item (items ++ x ∷ []))
 encoded_item w {now} {new} items x {p} before added same = grind (arith, append_assoc, append-nil, bytes-append, map-append)
 
 -- the form of all units: the bytes so far, and the encodings of the decoder's items for the rest
 pub rest_read : {w new u : List ℕ} {at : ℕ} {known more : Bool} (items : List (Result ℕ ℕ)) (iter : Copied (Iter ℕ)) → IsReadTo w u at known
     → iter_rest (copied_source iter) ≡ take (length u - at) (drop at u) → ReadsAll steps iter items
-    → new ≡ w ++ bytes (points_of_items items) → (IsTrue more → IsTrue known × AreScalar (points_of_items items)) → IsKnownForm new u more
+    → new ≡ w ++ bytes (map point_of_item items) → (IsTrue more → IsTrue known × AreScalar (map point_of_item items))
+    → IsKnownForm new u more
 rest_read {w} {new} {u} {at} {known} {more} items iter x rest reads appended flags =
-    let points = points_of_items items in
+    let points = map point_of_item items in
     let all : units points ≡ drop at u =
     drained_units (units points) iter reads.all_units ∙ rest ∙ take_all (length u - at) (drop at u) (omega (arith, length-drop at u)) in
     let back : IsKnownForm (bytes points) (drop at u) more = record {

@@ -3,13 +3,12 @@ use Rattle.wtf8.proofs.Common.{◌≡◌, ℕ, suc, ◌+◌, ◌-◌, ◌*◌, �
 use Rattle.wtf8.proofs.Common.{replicate, zip2, Each1, cond, ltb, leb, eqb, top, Bool, false, length-append, false≢true, refl, sym}
 use Rattle.wtf8.proofs.Common.{ap, ◌∙◌, arith, lt-ltb, le-ltb, subst, cases_lt, cases_Bool, inl, inr, Fits, append-nil, append_assoc}
 use Rattle.wtf8.proofs.Common.{map-append, rules, ◌&&◌, mask_l-mod, eq-eqb, pick_l_whole, IsSurrogate, sel_l, mask_l, w8, w16, bit_and}
-use Rattle.wtf8.proofs.Common.{bit_or, nat_tests, swz_l, IsLead, IsUnit, length-take-le, take-take}
+use Rattle.wtf8.proofs.Common.{bit_or, nat_tests, swz_l, IsLead, IsUnit, length-take-le, take-take, AreScalarUnits}
 use lib.Lanes.{pick_l, number_l}
 use Rattle.std.specs.Prelude.{nat_lt, if◌then◌else◌, bit_xor}
 use Rattle.std.proofs.lemmas.List.{take-map, drop-map, get_or-take}
 use Rattle.std.proofs.lemmas.Simd.{get_or-swz_l_below}
-use Rattle.wtf8.specs.private.ConvertedPrefix.{AreScalarUnits}
-use Rattle.wtf8.specs.private.PackedUnits.{first_byte, scalar_second_byte, second_byte, scalar_last_byte, last_byte, multi_byte_bit}
+use Rattle.wtf8.specs.private.PackedUnits.{first_byte, scalar_second_byte, second_byte, scalar_last_byte, last_byte}
 use Rattle.wtf8.specs.private.PackedUnits.{three_byte_bit, byte_count, byte_lanes, units_table_index, source_lanes}
 use Rattle.wtf8.specs.private.PackedUnits.{IsByteCount, packed_unit, packed_units, tagged, tagged_units, tagged_block, AreLaterBytes}
 use Rattle.wtf8.proofs.lemmas.lanes.AsciiFronts.{Each1-map_all}
@@ -325,16 +324,11 @@ second_bytes_fit P h (y ∷ b) (x ∷ u) = (h _ (grind (arith, nat_tests)), seco
 pub last_bytes_fit : (P : ℕ → Type 0) → ((x : ℕ) → x < 256 → P x) → (u : List ℕ) → Each1 P (map last_byte u)
 last_bytes_fit P h = Each1-map_all P last_byte (λ x. h _ (grind (arith, nat_tests)))
 
--- a unit that takes three bytes takes more than one
-byte_count_bits_bound : (n : ℕ) → (three_byte_bit n ≤ multi_byte_bit n) × (multi_byte_bit n ≤ 1)
-byte_count_bits_bound n = (grind (arith, nat_tests), grind (arith, nat_tests))
-
 pub IsByteCount-byte_count : (n : ℕ) → IsByteCount (byte_count n)
-IsByteCount-byte_count n = let counts = byte_count_bits_bound n in (omega arith, omega (arith, counts.0, counts.1))
+IsByteCount-byte_count n = (grind (arith, nat_tests), grind (arith, nat_tests))
 
 pub three_byte_flags_fit : (P : ℕ → Type 0) → ((x : ℕ) → x < 256 → P x) → (u : List ℕ) → Each1 P (map three_byte_flag u)
-three_byte_flags_fit P h =
-    Each1-map_all P three_byte_flag (λ x. let counts = byte_count_bits_bound x in h _ (omega (arith, counts.0, counts.1)))
+three_byte_flags_fit P h = Each1-map_all P three_byte_flag (λ x. h _ (grind (arith, nat_tests)))
 
 pub flags_from_fit : (P : ℕ → Type 0) → ((x : ℕ) → x < 256 → P x) → (k : ℕ) (u : List ℕ) → Each1 P (map (flag_from k) u)
 flags_from_fit P h k = Each1-map_all P (flag_from k) (λ x. elim (cases_lt x k) [
@@ -364,10 +358,10 @@ flags_set m n =
     map flag_is_set (pick_l 0 (narrowed m ++ narrowed n) (0 ∷ 1 ∷ 2 ∷ 3 ∷ 8 ∷ 9 ∷ 10 ∷ 11 ∷ 4 ∷ 5 ∷ 6 ∷ 7 ∷ 12 ∷ 13 ∷ 14 ∷ 15 ∷ []))
 
 flag_from-byte_count : (n : ℕ) → cond (flag_is_set (flag_from 0x80 n)) 1 0 ≡ byte_count n / 2
-flag_from-byte_count n = grind (arith, byte_count_bits_bound, cases_lt)
+flag_from-byte_count n = grind (arith, nat_tests)
 
 three_byte_flag-byte_count : (n : ℕ) → cond (flag_is_set (three_byte_flag n)) 1 0 ≡ byte_count n / 3
-three_byte_flag-byte_count n = grind (arith, byte_count_bits_bound, cases_lt)
+three_byte_flag-byte_count n = grind (arith, nat_tests)
 
 mask_l-number_l : (bs : List Bool) → mask_l bs ≡ number_l 2 (map (λ b. cond b 1 0) bs)
 mask_l-number_l [] = refl

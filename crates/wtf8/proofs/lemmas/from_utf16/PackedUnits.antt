@@ -1,16 +1,15 @@
 -- Blocks of units of any kinds: their tags, and the piece of bytes that each unit contributes.
 use Rattle.wtf8.proofs.Common.{◌≡◌, ℕ, zero, suc, ◌+◌, ◌-◌, ◌/◌, ◌%◌, ◌<◌, ◌≤◌, List, [], ◌∷◌, ◌++◌, length, take, get_or, refl, sym}
-use Rattle.wtf8.proofs.Common.{ap, ◌∙◌, arith, lt-ltb, le-ltb, subst, cases_lt, inl, inr, true, drop, append-nil, append_assoc}
-use Rattle.wtf8.proofs.Common.{IsSurrogate, encoding, IsKnownForm, Fits, Each1, Bool, IsTrue, ◌&&◌, MeetsAsPair, DividesNoPair}
+use Rattle.wtf8.proofs.Common.{ap, ◌∙◌, arith, lt-ltb, le-ltb, subst, cases_lt, inl, inr, true, drop, append-nil, append_assoc, IsReadTo}
+use Rattle.wtf8.proofs.Common.{IsSurrogate, encoding, IsKnownForm, Fits, Each1, Bool, IsTrue, ◌&&◌, MeetsAsPair, DividesPair}
 use Rattle.wtf8.proofs.Common.{length-chunk, take_all, w16, take-append-add, length-take-le, take-take, Each1-from_get_or, get_or-drop}
 use Rattle.wtf8.proofs.Common.{length-take, ◌⊎◌, IsUnit, IsLead, IsTrail, pair}
 use Rattle.std.proofs.lemmas.List.{take-append-le, get_or-take, drop_more}
 use Rattle.std.proofs.lemmas.Grind.{get_or_default_zero}
-use Rattle.wtf8.specs.private.ConvertedPrefix.{IsReadTo}
 use Rattle.wtf8.specs.private.PackedUnits.{packed_unit, packed_units, tagged, tagged_units, tagged_block}
 use Rattle.wtf8.proofs.lemmas.codec.Encoding.{encoding_one, encoding_two, encoding_three, encoding_four, third_row}
 use Rattle.wtf8.proofs.lemmas.codec.Readings.{unpaired-after_no_lead, unpaired-before_no_trail, unpaired-nil_right, units_one, units_pair}
-use Rattle.wtf8.proofs.lemmas.from_utf16.Transcode.{IsKnownForm-append, IsKnownForm-nil, IsReadTo-append, DividesNoPair-after_no_lead}
+use Rattle.wtf8.proofs.lemmas.from_utf16.Transcode.{IsKnownForm-append, IsKnownForm-nil, IsReadTo-append, undivided-after_no_lead}
 
 -- The tag of a unit.
 
@@ -185,7 +184,7 @@ Each1-take P (suc k) (x ∷ u) e = (e.0, Each1-take P k u e.1)
 -- the first `k` of eight units are encoded by appending their pieces, if they end with no half of a pair
 block_read : (w kept : List ℕ) {bytes u : List ℕ} {at : ℕ} {known more : Bool} (k : ℕ) → IsReadTo (w ++ kept) u at known → k ≤ 8
     → at + 8 ≤ length u → ((i : ℕ) → Fits w16 (get_or u i 0))
-    → (IsTrue more → Each1 IsUnit (tagged_block (take 8 (drop at u)))) → DividesNoPair u (at + k) → ¬ (IsLead
+    → (IsTrue more → Each1 IsUnit (tagged_block (take 8 (drop at u)))) → ¬ (DividesPair u (at + k)) → ¬ (IsLead
     (get_or (0 ∷ take k (take 8 (drop at u))) (length (take k (take 8 (drop at u)))) 0) × IsTrail (get_or (take 8 (drop at u)) k 0xDC00))
     → bytes ≡ kept ++ packed_units 0 (take k (tagged_block (take 8 (drop at u)))) → IsReadTo (w ++ bytes) u (at + k) (known && more)
 block_read w kept {u = u} {at = at} {known = known} {more = more} k x few within fits units divides last e =
@@ -224,10 +223,10 @@ packed_units-read w kept {bytes} {u} {at} {known} {more} k x within fits taken u
           let all : take k eight ≡ eight = ap (λ k. take k eight) (t.0 ∙ sym whole) ∙ take_all (length eight) eight (omega arith) in
           let last : ¬ (IsLead (get_or (0 ∷ take k eight) (length (take k eight)) 0)) = grind (arith) in
           block_read w kept k x (omega (arith, t.0)) within fits units
-          (subst (DividesNoPair u) end (DividesNoPair-after_no_lead u (at + 7) (omega (arith, within)) no_lead)) (λ l. last l.0) e
+          (subst (λ k. ¬ (DividesPair u k)) end (undivided-after_no_lead u (at + 7) (omega (arith, within)) no_lead)) (λ l. last l.0) e
       | inr t ↦
           let back : drop (at + k) u ≡ get_or u (at + 7) 0 ∷ drop (at + 7 + 1) u = grind (arith, drop_more) in
-          let divides : DividesNoPair u (at + k) = grind (arith, unpaired-before_no_trail) in
+          let divides : ¬ (DividesPair u (at + k)) = grind (arith, unpaired-before_no_trail) in
           let next : get_or eight k 0xDC00 ≡ get_or eight 7 0 = grind (arith, get_or_default_zero) in
           block_read w kept k x (omega (arith, t.0)) within fits units divides (λ l. omega (arith, next, l.1.0, t.1.1)) e
     ]

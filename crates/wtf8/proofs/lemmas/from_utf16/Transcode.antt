@@ -2,15 +2,14 @@
 use Rattle.wtf8.proofs.Common.{◌≡◌, ℕ, zero, suc, ◌-◌, ◌%◌, ◌^◌, ◌<◌, ◌≤◌, eqb, Bool, true, false, cond, ◌&&◌, List, [], ◌∷◌, map, length}
 use Rattle.wtf8.proofs.Common.{replicate, Fits, refl, sym, ap, ◌∙◌, arith, inl, inr, and_parts, cases_Bool, Each1, zip2, mask_l, top}
 use Rattle.wtf8.proofs.Common.{AreAscii, IsSurrogate, ◌+◌, ◌/◌, ◌++◌, IsTrue, take, drop, get_or, subst, take-append-drop, common_steps}
-use Rattle.wtf8.proofs.Common.{length-chunk, MeetsAsPair, IsKnownForm, DividesNoPair, w16, get_or-drop, length-take, take-add}
-use Rattle.wtf8.proofs.Common.{take-append-add, min, length-map, take-take, zip2_splat, IsLead}
+use Rattle.wtf8.proofs.Common.{length-chunk, MeetsAsPair, IsKnownForm, DividesPair, w16, get_or-drop, length-take, take-add, AreScalarUnits}
+use Rattle.wtf8.proofs.Common.{take-append-add, min, length-map, take-take, zip2_splat, IsLead, IsReadTo}
 use Rattle.std.proofs.Math.Bool.{and-true}
 use Rattle.std.proofs.Math.Seq.{take-suc}
 use Rattle.wtf8.proofs.lemmas.lanes.AsciiFronts.{saturated_front}
 use Rattle.std.proofs.lemmas.Bool.{eqb-false}
 use Rattle.std.proofs.lemmas.List.{get_or-take}
 use Rattle.std.proofs.lemmas.Simd.{bitmask_splat, map-map, Each1-get_or}
-use Rattle.wtf8.specs.private.ConvertedPrefix.{AreScalarUnits, IsReadTo}
 use Rattle.wtf8.proofs.lemmas.codec.Readings.{form_append-unpaired, meets_by, unpaired-after_no_lead}
 use Rattle.wtf8.proofs.lemmas.codec.Scalars.{IsKnownForm-ascii, scalar-append}
 
@@ -45,8 +44,8 @@ IsKnownForm-nil known e =
     record { form = record { points = []; reads = record { clean = tt; same_units = refl }; encoded = sym e }; scalar = λ _. tt }
 
 -- no pair is divided after a unit that is no lead
-pub DividesNoPair-after_no_lead : (u : List ℕ) (j : ℕ) → j < length u → ¬ (IsLead (get_or u j 0)) → DividesNoPair u (suc j)
-DividesNoPair-after_no_lead u j within n = grind (arith, common_steps, take-suc, unpaired-after_no_lead)
+pub undivided-after_no_lead : (u : List ℕ) (j : ℕ) → j < length u → ¬ (IsLead (get_or u j 0)) → ¬ (DividesPair u (suc j))
+undivided-after_no_lead u j within n = grind (arith, common_steps, take-suc, unpaired-after_no_lead)
 
 -- a pair at the seam with the first `n` units of `b` is a pair at the seam with `b`
 MeetsAsPair-take : (a b : List ℕ) (n : ℕ) → MeetsAsPair a (take n b) → MeetsAsPair a b
@@ -62,7 +61,7 @@ IsKnownForm-append w v a b known more both x y n flags = record {
 
 -- the units up to `end` are encoded after the form of the units from `at` to `end` was appended
 pub IsReadTo-append : {w new u part : List ℕ} {at end : ℕ} {known more : Bool} → IsReadTo w u at known → at ≤ end → end ≤ length u
-    → DividesNoPair u end → new ≡ w ++ part → IsKnownForm part (take (end - at) (drop at u)) more → IsReadTo new u end (known && more)
+    → ¬ (DividesPair u end) → new ≡ w ++ part → IsKnownForm part (take (end - at) (drop at u)) more → IsReadTo new u end (known && more)
 IsReadTo-append {w} {new} {u} {part} {at} {end} {known} {more} x order within divides_no_pair after form =
     let back = take (end - at) (drop at u) in
     let count : end ≡ at + (end - at) = omega (arith, order) in
@@ -84,12 +83,12 @@ scalars_read {w} {new} {u} {part} {at} {known} k n x few within last after form 
     subst (IsReadTo new u (at + k)) (and-true known) (IsReadTo-append x (omega arith) (omega (arith, few, within))
     (divides_no_pair k few last) after (subst (λ v. IsKnownForm part v true) same form))
   where
-    divides_no_pair : (k : ℕ) → k ≤ n → ((j : ℕ) → j + 1 ≡ k → ¬ (IsLead (get_or (take n (drop at u)) j 0))) → DividesNoPair u (at + k)
-    divides_no_pair zero few h = let here : at ≡ at + 0 = omega arith in subst (DividesNoPair u) here x.divides_no_pair
+    divides_no_pair : (k : ℕ) → k ≤ n → ((j : ℕ) → j + 1 ≡ k → ¬ (IsLead (get_or (take n (drop at u)) j 0))) → ¬ (DividesPair u (at + k))
+    divides_no_pair zero few h = let here : at ≡ at + 0 = omega arith in subst (λ k. ¬ (DividesPair u k)) here x.divides_no_pair
     divides_no_pair (suc j) few h =
         let here : suc (at + j) ≡ at + suc j = omega arith in
         let same = get_or-take n (drop at u) j 0 (omega (arith, few)) ∙ get_or-drop at u j 0 in
-        subst (DividesNoPair u) here (DividesNoPair-after_no_lead u (at + j) (omega (arith, few, within))
+        subst (λ k. ¬ (DividesPair u k)) here (undivided-after_no_lead u (at + j) (omega (arith, few, within))
         (λ l. h j (omega arith) (omega (arith, same, l.0), omega (arith, same, l.1))))
 
 -- `n` units appended as bytes, FF for each above it, then cut after the first `k`: if these are ASCII, they are encoded

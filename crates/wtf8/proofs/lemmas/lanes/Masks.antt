@@ -3,7 +3,7 @@ use Rattle.wtf8.proofs.Common.{◌≡◌, ◌↔◌, ℕ, zero, suc, ◌+◌, �
 use Rattle.wtf8.proofs.Common.{None, List, [], ◌∷◌, map, length, take, replicate, refl, sym, ap, ◌∙◌, subst, arith, both_ways, cases_Bool}
 use Rattle.wtf8.proofs.Common.{eqb-true, inl, inr, mask_l-mod, mask_l, top, zip2, Each1, NoneIn, IsLeast, not-false, tops_compared}
 use Rattle.wtf8.proofs.Common.{length-zip2, w8, not-true, length-replicate, map-id, prefix_len_passes, prefix_len_stops, prefix_len}
-use Rattle.wtf8.proofs.Common.{unwrap_or, MatchOption, IsFirstIn, IsFirstSet, IsSet, HasBitPrefix}
+use Rattle.wtf8.proofs.Common.{unwrap_or, MatchOption, IsFirstIn, IsFirstSet, IsSet}
 use Rattle.std.proofs.lemmas.Simd.{leading_from_mask_l, trailing_mask_l}
 use lib.Count.{count_trailing_zeros}
 
@@ -69,20 +69,20 @@ quotients d n xs = zip2 (λ a b. a / b) xs (replicate n d)
 abbrev pub unequal_quotients : ℕ → ℕ → ℕ → List ℕ → List Bool
 unequal_quotients d y n xs = zip2 (λ a b. not (eqb a b)) (quotients d n xs) (replicate n y)
 
-HasBitPrefix-before_first : (d y n m : ℕ) (xs : List ℕ) → length xs ≡ n → m ≤ n → NoneIn (IsSet (unequal_quotients d y n xs)) 0 m
-    → Each1 (HasBitPrefix d y) (take m xs)
-HasBitPrefix-before_first d y n zero xs long le none = tt
-HasBitPrefix-before_first d y n (suc m) [] long le none = tt
-HasBitPrefix-before_first d y zero (suc m) (x ∷ xs) long le none = absurd (omega arith)
-HasBitPrefix-before_first d y (suc n) (suc m) (x ∷ xs) long le none = (
+quotients_before_first : (d y n m : ℕ) (xs : List ℕ) → length xs ≡ n → m ≤ n → NoneIn (IsSet (unequal_quotients d y n xs)) 0 m
+    → Each1 (λ b. b / d ≡ y) (take m xs)
+quotients_before_first d y n zero xs long le none = tt
+quotients_before_first d y n (suc m) [] long le none = tt
+quotients_before_first d y zero (suc m) (x ∷ xs) long le none = absurd (omega arith)
+quotients_before_first d y (suc n) (suc m) (x ∷ xs) long le none = (
   elim (cases_Bool (eqb (x / d) y)) [ inl t ↦ eqb-true (x / d) y t | inr f ↦ absurd (none 0 (omega arith) (omega arith) (rw f refl)) ],
-  HasBitPrefix-before_first d y n m xs (omega arith) (omega arith) (λ k _ l. none (suc k) (omega arith) (omega arith)),
+  quotients_before_first d y n m xs (omega arith) (omega arith) (λ k _ l. none (suc k) (omega arith) (omega arith)),
 )
 
 -- the first `count` lanes have the quotient `y` by `d`
 pub record LeadingHavePrefix (d y n : ℕ) (xs : List ℕ) (count : ℕ) : Type 0 where
   pub within : count ≤ n
-  pub each : Each1 (HasBitPrefix d y) (take count xs)
+  pub each : Each1 (λ b. b / d ≡ y) (take count xs)
 
 pub LeadingHavePrefix-first_set : (d y n : ℕ) (xs : List ℕ) → n ≤ 64 → length xs ≡ n → (r : Option ℕ)
     → IsFirstSet (mask_l (map (top 7) (zip2 (λ a b. cond (not (eqb a b)) 255 0) (quotients d n xs) (replicate n y))) % 2 ^ 64) r
@@ -97,6 +97,6 @@ LeadingHavePrefix-first_set d y n xs few long r first = by r (first n (unequal_q
         ∙ (divided ∙ long)
 
     by : (r : Option ℕ) → IsFirstIn (IsSet (unequal_quotients d y n xs)) 0 n r → LeadingHavePrefix d y n xs (unwrap_or r n)
-    by None none = record { within = omega arith; each = HasBitPrefix-before_first d y n n xs long (omega arith) none }
+    by None none = record { within = omega arith; each = quotients_before_first d y n n xs long (omega arith) none }
     by (Some k) h =
-        record { within = omega (arith, h.1); each = HasBitPrefix-before_first d y n k xs long (omega (arith, h.1)) h.0.none_between }
+        record { within = omega (arith, h.1); each = quotients_before_first d y n k xs long (omega (arith, h.1)) h.0.none_between }

@@ -1,5 +1,5 @@
 -- Strings joined: the form of two lists of units, with the pair at the seam as one code point.
-use Rattle.wtf8.proofs.Common.{◌≡◌, ℕ, inl, inr, List, [], ◌∷◌, ◌++◌, refl, sym, ap, ◌∙◌, subst, arith, append_assoc, cases_Bool}
+use Rattle.wtf8.proofs.Common.{◌≡◌, ℕ, inl, inr, List, [], ◌∷◌, ◌++◌, refl, sym, ap, ◌∙◌, subst, arith, append_assoc, cases_Bool, form_of}
 use Rattle.wtf8.proofs.Common.{append-nil, IsLead, IsTrail, units, units_of, pair, IsClean, Reads, MeetsAsPair, is_pair, glue, ◌+◌, ◌-◌}
 use Rattle.wtf8.proofs.Common.{◌≤◌, length, take, drop, length-append, cases_lt, take_at, drop_at, same_from_push, bytes, encoding, IsForm}
 use Rattle.wtf8.proofs.Common.{length-drop, All, All-nil, All-cons, All-head, All-tail, All-same, IsUnit, IsCodePoint, ◌%◌, ◌<◌, get_or}
@@ -12,7 +12,7 @@ use Rattle.wtf8.proofs.lemmas.codec.Encoding.{encoding_three, encoding_four, len
 use Rattle.wtf8.proofs.lemmas.codec.Readings.{clean-append, clean-front, clean-rest, is_pair-surrogates, surrogates_from_is_pair, meets_by}
 use Rattle.wtf8.proofs.lemmas.codec.Readings.{MeetsAsPair-cons, meets_or_not, unpaired-nil_right, unpaired-after_no_lead}
 use Rattle.wtf8.proofs.lemmas.codec.Readings.{unpaired-before_no_trail, same_reading, units_one, units_pair, same_form, trail_first}
-use Rattle.wtf8.proofs.lemmas.codec.Readings.{lead_of, trail_of, units_two, units-pushed, clean-first, form_of, units_from_form}
+use Rattle.wtf8.proofs.lemmas.codec.Readings.{lead_of, trail_of, units_two, units-pushed, clean-first, units_from_form}
 
 -- Lists of any kind: the last item, and the item at an index.
 

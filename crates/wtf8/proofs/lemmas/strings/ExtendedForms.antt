@@ -6,10 +6,11 @@ use Rattle.wtf8.proofs.Common.{chars, IsUtf8, scalars-chars, and_parts, scalar, 
 use Rattle.wtf8.proofs.Common.{append_assoc, length-append, All, take_at, drop_at, All-drop, All-same, Step, EachCallFits, Build, number}
 use Rattle.wtf8.proofs.Common.{numbers, glue, IsUnit, bytes, ◌<◌, cases_lt, append_cancel_left, SurrogateAt, on_ok_weaker, vec_capacity}
 use Rattle.wtf8.proofs.Common.{length-map, All-take, encodes-chars, on_err_weaker, IsOk, HasRoomFor, CallFits, CodePoint, AreScalarTo}
+use Rattle.wtf8.proofs.Common.{form_of, well_formed_of}
 use lib.Utf8.{scalar_cases}
 use Rattle.std.specs.declared.vec.Vec.{Vec}
 use Rattle.wtf8.proofs.lemmas.codec.Encoding.{length-surrogate, length-encoding_bounds, length-bytes_append, encoding_four}
-use Rattle.wtf8.proofs.lemmas.codec.Readings.{meets_by, form_of, well_formed_of, same_form, units_from_form, IsWellFormed-equal_bytes}
+use Rattle.wtf8.proofs.lemmas.codec.Readings.{meets_by, same_form, units_from_form, IsWellFormed-equal_bytes}
 use Rattle.wtf8.proofs.lemmas.codec.Readings.{same_reading, same_points, cons-equal_parts, meets_or_not, units_one}
 use Rattle.wtf8.proofs.lemmas.codec.Readings.{lists_have_lengths, form-append}
 use Rattle.wtf8.proofs.lemmas.codec.Scalars.{scalar-middle}

@@ -2,13 +2,14 @@
 use Rattle.wtf8.proofs.Common.{List, append_assoc, length-append, append-nil, append_cancel_left, IsBoundary, All-cons, All-drop, slice_get}
 use Rattle.wtf8.proofs.Common.{ℕ, length, subst, arith, units, bytes, IsForm, get_or, drop_at, All-head, All-nil, encoding, IsFront, IsBack}
 use Rattle.wtf8.proofs.Common.{[], ◌++◌, refl, ap, ◌∙◌, sym, Reads, ◌≡◌, ◌≢◌, ◌<◌, ◌+◌, ◌-◌, ◌/◌, ◌%◌, inl, ◌∷◌, All, Some, zero, suc}
+use Rattle.wtf8.proofs.Common.{well_formed_of}
 use Rattle.std.proofs.lemmas.List.{append_cancel_right}
 use Rattle.wtf8.specs.Laws.{FrontAndBackAreWhole}
 use Rattle.wtf8.specs.PositionLaws.{StartIsBoundary, EndIsBoundary, NoneIsBeyondEnd, FrontBoundariesAreOfWhole, WholeBoundariesAreOfFront}
 use Rattle.wtf8.specs.PositionLaws.{WholeBoundariesAreOfBack, BackBoundariesAreOfWhole, BeginningsAreNoLonger, BothAreNoLonger}
 use Rattle.wtf8.specs.PositionLaws.{AsciiIsBetweenBoundaries, AsciiIsOneUnit, AsciiIsNoOtherUnit}
 use Rattle.wtf8.proofs.lemmas.codec.Encoding.{bytes-append, bytes-pushed, encoding_cases, one, two, three, four, encoding-from_ascii_byte}
-use Rattle.wtf8.proofs.lemmas.codec.Readings.{well_formed_of, reads_same, same_form, units-append, units_one, units_two, units-cons_one}
+use Rattle.wtf8.proofs.lemmas.codec.Readings.{reads_same, same_form, units-append, units_one, units_two, units-cons_one}
 use Rattle.wtf8.proofs.lemmas.strings.ExtendedForms.{beginning_of_form, both_length}
 use Rattle.wtf8.proofs.lemmas.strings.Positions.{Cut, cut_at, shorter_is_prefix, front_unique, front_reads, back_reads, front_boundary}
 use Rattle.wtf8.proofs.lemmas.strings.Positions.{boundary_from_byte, first-bytes_after}

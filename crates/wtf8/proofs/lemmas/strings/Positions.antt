@@ -2,13 +2,13 @@
 use Rattle.wtf8.proofs.Common.{◌≡◌, ◌-◌, ◌≤◌, ◌<◌, ℕ, zero, suc, inl, inr, List, [], ◌∷◌, ◌++◌, length, get_or, refl, ap, ◌∙◌, sym, subst}
 use Rattle.wtf8.proofs.Common.{arith, length-append, cases_lt, append-nil, get_or-append_right, encoding, bytes, take, drop, append_assoc}
 use Rattle.wtf8.proofs.Common.{take_at, drop_at, units, IsClean, Reads, IsWellFormed, IsForm, IsBoundary, IsFront, IsBack, ◌+◌, ◌%◌}
-use Rattle.wtf8.proofs.Common.{take-add, chunk, units_of, utf16_len, sum_utf16_len, IsCursorOfUnit, sum_by-append}
+use Rattle.wtf8.proofs.Common.{take-add, chunk, units_of, utf16_len, sum_utf16_len, IsCursorOfUnit, sum_by-append, well_formed_of}
 use Rattle.wtf8.proofs.Common.{sum_by_more, Splits, IsMiddle, UnitCursor, common_steps}
 use Rattle.wtf8.proofs.lemmas.lanes.UnitCounts.{utf16_len-ascii, utf16_len-continuation, utf16_len-lead_below_F0, utf16_len-lead_from_F0}
 use Rattle.wtf8.proofs.lemmas.codec.Encoding.{Begins, first-encoding, continuation-encoding, length-encoding_bounds, length-bytes_append}
 use Rattle.wtf8.proofs.lemmas.codec.Encoding.{bytes-append, encoding_cases}
 use Rattle.wtf8.proofs.lemmas.codec.Readings.{clean-front, clean-back, reads_same, cons-equal_parts, same_points, same_reading}
-use Rattle.wtf8.proofs.lemmas.codec.Readings.{well_formed_of, units_one, units_two}
+use Rattle.wtf8.proofs.lemmas.codec.Readings.{units_one, units_two}
 
 -- Cuts of the bytes of a list of code points.
 

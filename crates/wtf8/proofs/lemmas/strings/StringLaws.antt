@@ -4,11 +4,11 @@ use Rattle.wtf8.proofs.Common.{IsBoundary, ◌≡◌, ◌≢◌, ◌<◌, ◌+�
 use Rattle.wtf8.proofs.Common.{cases_lt, ◌↔◌, glue, AreScalar, view_units, view_form, Wtf8, Result, Ok, Err, OnOk, OnErr, AppendsUnits}
 use Rattle.wtf8.proofs.Common.{KeepsContents, UnitString, on_ok_weaker, ◌⊎◌, All-tail, IsUnit, IsWellFormed, Step, Run, Build, Reserve}
 use Rattle.wtf8.proofs.Common.{Truncate, TruncateUnits, IsNoTruncation, slice_index, All-from_get_or, All-pop, All-same, FitWithin}
-use Rattle.wtf8.proofs.Common.{AddsLength, RunsOnce, RunsAddUp, LeavesReserved, length-append}
+use Rattle.wtf8.proofs.Common.{AddsLength, RunsOnce, RunsAddUp, LeavesReserved, length-append, well_formed_of}
 use Rattle.wtf8.specs.StringLaws.{EqualBuffersHaveEqualUnits, EqualBufferAndViewHaveEqualUnits, EqualViewsHaveEqualUnits, StringsAreJoined}
 use Rattle.wtf8.specs.StringLaws.{StringsArePaired, RoomLeftIsFound, ScalarsStay, FormsAreOfBuffers, FormsAreOfViews, WhatFitsIsFound}
 use Rattle.wtf8.proofs.lemmas.codec.Encoding.{Begins}
-use Rattle.wtf8.proofs.lemmas.codec.Readings.{well_formed_of, same_form, same_reading, form_append-unpaired}
+use Rattle.wtf8.proofs.lemmas.codec.Readings.{same_form, same_reading, form_append-unpaired}
 use Rattle.wtf8.proofs.lemmas.strings.Concatenation.{equal_forms, form-glue, form_paired, length_paired, one_form}
 use Rattle.wtf8.proofs.lemmas.strings.Concatenation.{units_read, at_last, before, split_of_push}
 use Rattle.wtf8.proofs.lemmas.strings.Positions.{cut_at, front_unique, front_boundary, boundary_from_byte, byte_from_boundary}

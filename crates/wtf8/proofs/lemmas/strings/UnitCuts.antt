@@ -233,7 +233,7 @@ units-first : (old new points more : List ℕ) (p unit : ℕ) → old ≡ [] →
 units-first old new points more p unit e f g = rw (e, f) (ap (λ u. u ++ units more) g)
 
 unread_after-first : (old new points more : List ℕ) (p unit : ℕ) → old ≡ [] → points ≡ p ∷ more → units_of p ≡ unit ∷ new
-    → record { held = new; points = more } ≡ unread_after (record { held = old; points = points })
+    → record { held = new; points = more } ≡ unread_after old points
 unread_after-first old new points more p unit e f g = rw (e, f) (ap (λ t. record { held = t; points = more }) (sym (ap (drop 1) g)))
 
 -- a step over a code point of one unit

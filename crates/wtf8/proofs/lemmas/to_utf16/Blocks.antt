@@ -2,10 +2,10 @@
 use Rattle.wtf8.proofs.Common.{◌≡◌, ℕ, zero, suc, ◌<◌, ◌≤◌, List, [], ◌∷◌, ◌++◌, length, take, drop, get_or, refl, sym, ap, ◌∙◌, arith}
 use Rattle.wtf8.proofs.Common.{IsWellFormed, units, encoding, length-append, units_of, ◌+◌, ◌*◌, subst, Each1, drop-drop, length-drop}
 use Rattle.wtf8.proofs.Common.{length-take, take-append-drop, get_or_append_left, drop-append-le, FirstPointIs}
-use Rattle.wtf8.proofs.Common.{HasBitPrefix, BeginsWithUnits, unit_of_two, unit_of_three}
+use Rattle.wtf8.proofs.Common.{BeginsWithUnits, unit_of_two, unit_of_three, ◌/◌}
 use Rattle.wtf8.proofs.lemmas.codec.Encoding.{encoding_cases, length-encoding_bounds, encoding-from_ascii_byte}
 use native.Mathlib.Nat.{mul-suc}
-use Rattle.wtf8.specs.private.EncodedRuns.{lead_bytes_of, units_of_run}
+use Rattle.wtf8.specs.private.EncodedBytes.{map_run}
 use Rattle.wtf8.proofs.lemmas.codec.Readings.{first_of, IsWellFormed-equal_bytes, Taken-from_first, units-cons_one}
 
 -- the string after its first `at` bytes, whose units are `v`
@@ -25,22 +25,22 @@ pub record DecodesRun (n : ℕ) (P : ℕ → Type 0) (f : List ℕ → ℕ) : Ty
   pub part : (p : ℕ) (r : List ℕ) → P (get_or (encoding p ++ r) 0 0) → DecodesUnit n f p r
   pub local : (b r : List ℕ) → n ≤ length b → f (b ++ r) ≡ f b
 
-abbrev unit_of_one : List ℕ → ℕ
-unit_of_one w = get_or w 0 0
+abbrev lead_byte : List ℕ → ℕ
+lead_byte w = get_or w 0 0
 
-DecodesRun-one_byte : DecodesRun 1 (HasBitPrefix 128 0) unit_of_one
+DecodesRun-one_byte : DecodesRun 1 (λ b. b / 128 ≡ 0) lead_byte
 DecodesRun-one_byte = grind (arith, encoding-from_ascii_byte, get_or_append_left)
 
-pub DecodesRun-two_bytes : DecodesRun 2 (HasBitPrefix 32 6) unit_of_two
+pub DecodesRun-two_bytes : DecodesRun 2 (λ b. b / 32 ≡ 6) unit_of_two
 DecodesRun-two_bytes = grind (arith, get_or_append_left, encoding_cases)
 
-pub DecodesRun-three_bytes : DecodesRun 3 (HasBitPrefix 16 14) unit_of_three
+pub DecodesRun-three_bytes : DecodesRun 3 (λ b. b / 16 ≡ 14) unit_of_three
 DecodesRun-three_bytes = grind (arith, get_or_append_left, encoding_cases)
 
 -- the first `k` units, decoded from `n` bytes each, if their lead bytes satisfy `P`
 pub units_then_rest : {P : ℕ → Type 0} (n : ℕ) (f : List ℕ → ℕ) → DecodesRun n P f → (c k at : ℕ) (w b r : List ℕ) (h : IsWellFormed w)
     → w ≡ b ++ r
-    → n * c ≤ length b → at ≡ n * k → k ≤ c → Each1 P (take k (lead_bytes_of n c b)) → UnitsThenRest w (take k (units_of_run n f c b)) at h
+    → n * c ≤ length b → at ≡ n * k → k ≤ c → Each1 P (take k (map_run n lead_byte c b)) → UnitsThenRest w (take k (map_run n f c b)) at h
 units_then_rest n f rows c zero at w b r h e long same le each =
     let none : at ≡ 0 = omega (arith, same) in
     record { rest = IsWellFormed-equal_bytes h (ap (λ k. drop k w) none); whole = refl }
@@ -64,22 +64,16 @@ units_then_rest {P} n f rows (suc c) (suc k) at w b r h e long same le each =
     }
 
 -- bytes are their own lead bytes and units at width 1
-lead_bytes_of-one_byte : (k : ℕ) (w : List ℕ) → length w ≡ k → w ≡ lead_bytes_of 1 k w
-lead_bytes_of-one_byte zero [] e = refl
-lead_bytes_of-one_byte zero (b ∷ w) e = absurd (omega arith)
-lead_bytes_of-one_byte (suc k) [] e = absurd (omega arith)
-lead_bytes_of-one_byte (suc k) (b ∷ w) e = ap (λ v. b ∷ v) (lead_bytes_of-one_byte k w (omega arith))
-
-units_of_run-one_byte : (k : ℕ) (w : List ℕ) → length w ≡ k → w ≡ units_of_run 1 unit_of_one k w
-units_of_run-one_byte zero [] e = refl
-units_of_run-one_byte zero (b ∷ w) e = absurd (omega arith)
-units_of_run-one_byte (suc k) [] e = absurd (omega arith)
-units_of_run-one_byte (suc k) (b ∷ w) e = ap (λ v. b ∷ v) (units_of_run-one_byte k w (omega arith))
+map_run-one_byte : (k : ℕ) (w : List ℕ) → length w ≡ k → w ≡ map_run 1 lead_byte k w
+map_run-one_byte zero [] e = refl
+map_run-one_byte zero (b ∷ w) e = absurd (omega arith)
+map_run-one_byte (suc k) [] e = absurd (omega arith)
+map_run-one_byte (suc k) (b ∷ w) e = ap (λ v. b ∷ v) (map_run-one_byte k w (omega arith))
 
 -- the first `count` lanes of a decoded block are the next units if their lead bytes satisfy `P`
 pub begins_with_run : {P : ℕ → Type 0} (n c m : ℕ) (f : List ℕ → ℕ) → DecodesRun n P f
     → (w : List ℕ) (count : ℕ) (first_byte_lanes block : List ℕ) → n * c ≤ m → m ≤ length w → count ≤ c
-    → first_byte_lanes ≡ lead_bytes_of n c (take m w) → block ≡ units_of_run n f c (take m w) → Each1 P (take count first_byte_lanes)
+    → first_byte_lanes ≡ map_run n lead_byte c (take m w) → block ≡ map_run n f c (take m w) → Each1 P (take count first_byte_lanes)
     → BeginsWithUnits w (take count block) (n * count)
 begins_with_run {P} n c m f rows w count first_byte_lanes block wide long le e g each h =
     let after = units_then_rest n f rows c count (n * count) w (take m w) (drop m w) h (sym (take-append-drop m w))
@@ -88,11 +82,11 @@ begins_with_run {P} n c m f rows w count first_byte_lanes block wide long le e g
 
 -- the same of ASCII: the bytes are their own lead bytes and units
 pub begins_with_ascii : (n : ℕ) (w : List ℕ) (count : ℕ) (block : List ℕ) → n ≤ length w → count ≤ n → block ≡ take n w
-    → Each1 (HasBitPrefix 128 0) (take count (take n w)) → BeginsWithUnits w (take count block) (1 * count)
+    → Each1 (λ b. b / 128 ≡ 0) (take count (take n w)) → BeginsWithUnits w (take count block) (1 * count)
 begins_with_ascii n w count block long le e =
     let fits : length (take n w) ≡ n = omega (arith, long, length-take n w) in
-    begins_with_run 1 n n unit_of_one DecodesRun-one_byte w count (take n w) block (omega arith) long le
-    (lead_bytes_of-one_byte n (take n w) fits) (e ∙ units_of_run-one_byte n (take n w) fits)
+    begins_with_run 1 n n lead_byte DecodesRun-one_byte w count (take n w) block (omega arith) long le
+    (map_run-one_byte n (take n w) fits) (e ∙ map_run-one_byte n (take n w) fits)
 
 -- a code point `p` that was decoded from `n` bytes gives the next units
 pub record ReadUnits (w : List ℕ) (p n : ℕ) : Type 0 where

@@ -1,5 +1,4 @@
-use Rattle.wtf8.proofs.Common.{subst, sym, arith, ◌&&◌}
-use Rattle.wtf8.specs.private.ConvertedPrefix.{IsReadTo}
+use Rattle.wtf8.proofs.Common.{subst, sym, arith, ◌&&◌, IsReadTo}
 use Rattle.wtf8.proofs.from_utf16.kernel.append_blocks.Goals as goal
 
 pub overflow_sub-v : goal.overflow_sub-v

@@ -1,5 +1,4 @@
-use Rattle.wtf8.proofs.Common.{◌+◌, ◌≤◌, length, arith, subst, take}
-use Rattle.wtf8.specs.private.ConvertedPrefix.{IsReadTo}
+use Rattle.wtf8.proofs.Common.{◌+◌, ◌≤◌, length, arith, subst, take, IsReadTo}
 use Rattle.wtf8.proofs.lemmas.from_utf16.PackedUnits.{packed_units-read, and_assoc}
 use Rattle.wtf8.proofs.from_utf16.kernel.write_blocks.Goals as goal
 

@@ -1,5 +1,4 @@
-use Rattle.wtf8.proofs.Common.{ℕ, List, Bool, ◌&&◌, ◌+◌, ◌*◌, ◌≤◌, ◌++◌, length, take}
-use Rattle.wtf8.specs.private.ConvertedPrefix.{IsReadTo}
+use Rattle.wtf8.proofs.Common.{ℕ, List, Bool, ◌&&◌, ◌+◌, ◌*◌, ◌≤◌, ◌++◌, length, take, IsReadTo}
 use Rattle.wtf8.proofs.from_utf16.kernel.write_blocks.Given as goal
 
 -- the first `len` bytes of the scratch buffer encode the units from `at` to `to.at`; there are units and room for all blocks

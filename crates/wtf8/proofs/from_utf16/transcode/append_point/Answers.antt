@@ -1,5 +1,4 @@
-use Rattle.wtf8.proofs.Common.{[], ◌∷◌, ◌+◌, ◌-◌, arith, append-nil, drop, encoding, number, subst, sym, take, Reads}
-use Rattle.wtf8.specs.private.ConvertedPrefix.{IsReadTo}
+use Rattle.wtf8.proofs.Common.{[], ◌∷◌, ◌+◌, ◌-◌, arith, append-nil, drop, encoding, number, subst, sym, take, Reads, IsReadTo}
 use Rattle.std.proofs.Math.Bool.{and-true}
 use Rattle.wtf8.proofs.lemmas.from_utf16.Transcode.{IsReadTo-append}
 use Rattle.wtf8.proofs.lemmas.from_utf16.Decoding.{IsFirstRead-unit}

@@ -1,6 +1,6 @@
 use Rattle.wtf8.proofs.Common.{◌≢◌, false≢true, ◌∙◌, [], append-nil, ap, iter_rest, iter_steps, copied_steps, sym, subst, point_of_item}
 use Rattle.wtf8.proofs.lemmas.codec.Scalars.{scalar-append}
-use Rattle.wtf8.proofs.Common.{decode_steps, IsCodePoint, IsSurrogate, MatchResult, AreScalar, map-append, ◌∷◌, points_of_items}
+use Rattle.wtf8.proofs.Common.{decode_steps, IsCodePoint, IsSurrogate, MatchResult, AreScalar, map-append, ◌∷◌, map}
 use Rattle.std.specs.Iterator.{Yields}
 use Rattle.std.specs.Iterator.Adapters.{copied_source}
 use Rattle.wtf8.proofs.lemmas.from_utf16.Decoding.{encoded_item, no_item, rest_read}
@@ -20,7 +20,7 @@ loop-item-preserved-in-Continue-1 g c =
       λ t. (
         (c.loop-item.invariant.1 t).0,
         (subst AreScalar (sym (map-append point_of_item c.loop-item.yielded (c.in-Some.item ∷ [])))
-            (scalar-append (points_of_items c.loop-item.yielded) (point_of_item c.in-Some.item ∷ []) (c.loop-item.invariant.1 t).1
+            (scalar-append (map point_of_item c.loop-item.yielded) (point_of_item c.in-Some.item ∷ []) (c.loop-item.invariant.1 t).1
             ((subst (λ p. ¬ (IsSurrogate p)) (sym same) not_surrogate), tt))),
       ),
     )

@@ -1,5 +1,4 @@
-use Rattle.wtf8.proofs.Common.{◌-◌, length}
-use Rattle.wtf8.specs.private.ConvertedPrefix.{IsReadTo}
+use Rattle.wtf8.proofs.Common.{◌-◌, length, IsReadTo}
 use Rattle.wtf8.proofs.from_utf16.transcode.append_steps.Given as goal
 
 abbrev pub invariant-loop-read : goal.invariant-loop-read

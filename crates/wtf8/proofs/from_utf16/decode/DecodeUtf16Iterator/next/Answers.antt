@@ -1,5 +1,5 @@
-use Rattle.wtf8.proofs.Common.{◌<◌, rules, refl, inl, inr, sym, subst, arith, Some, peekable_steps, peekable_peeked, units_left, IsLead}
-use Rattle.wtf8.proofs.Common.{IsTrail, true≢false}
+use Rattle.wtf8.proofs.Common.{◌<◌, rules, refl, inl, inr, sym, subst, arith, Some, peekable_steps, peekable_peeked, IsLead, IsTrail}
+use Rattle.wtf8.proofs.Common.{true≢false}
 use Rattle.wtf8.proofs.lemmas.from_utf16.Decoding.{item_of_unit, takes_one, takes_two, peeked_no_trail}
 use Rattle.wtf8.proofs.from_utf16.decode.DecodeUtf16Iterator.next.Goals as goal
 
@@ -15,7 +15,7 @@ returns-in-Some-clause-steps g c =
     record {
       kind = (omega (arith, c.char_of_pair.ensures), λ s. omega (arith, c.char_of_pair.ensures, s));
       after = c.next_if.new.self;
-      taken = takes_two steps (units_left c.args.self.now) c.next.new.self c.next_if.new.self unit trail c.char_of_pair.result
+      taken = takes_two steps c.args.self.now.units c.next.new.self c.next_if.new.self unit trail c.char_of_pair.result
           c.char_of_pair.ensures is_lead is_trail c.in_ok-unit.ensures.steps second;
       held = inl refl;
       lone = λ lead. absurd (omega (arith, c.char_of_pair.ensures, lead));
@@ -28,7 +28,7 @@ returns-in-None-clause-steps g c =
     record {
       kind = search rules;
       after = c.next.new.self;
-      taken = takes_one g.I.Iterator.next_gives (units_left c.args.self.now) c.next.new.self unit unit refl
+      taken = takes_one g.I.Iterator.next_gives c.args.self.now.units c.next.new.self unit unit refl
           (omega arith) c.in_ok-unit.ensures.steps;
       held = inr (told.0, told.1, told.2);
       lone = λ _. peeked_no_trail (peekable_peeked c.next_if.new.self) told.0 _ told.2 c.in-None.ensures.refused
@@ -38,7 +38,7 @@ returns-in-None-clause-steps g c =
 pub returns-then-unit-lt-FIRST_LEAD-clause-steps : goal.returns-then-unit-lt-FIRST_LEAD-clause-steps
 returns-then-unit-lt-FIRST_LEAD-clause-steps g c =
     let below = c.if-unit-lt-FIRST_LEAD.true in
-    item_of_unit g.I.Iterator.next_gives (units_left c.args.self.now) c.next.new.self c.in_ok-unit.unit c.char_or_surrogate.result
+    item_of_unit g.I.Iterator.next_gives c.args.self.now.units c.next.new.self c.in_ok-unit.unit c.char_or_surrogate.result
     c.char_or_surrogate.ensures.kind c.char_or_surrogate.ensures.point (omega (arith, below)) (λ l. omega (arith, below, l.0))
     c.in_ok-unit.ensures.steps
 
@@ -47,5 +47,5 @@ returns-in_default-clause-steps g c =
     let unit = c.in_ok-unit.unit in
     let range : unit < 0x10000 = search rules in
     let not_lead : ¬ (IsLead unit) = λ lead. search (rules, lead) in
-    item_of_unit g.I.Iterator.next_gives (units_left c.args.self.now) c.next.new.self unit c.char_or_surrogate-in_default.result
+    item_of_unit g.I.Iterator.next_gives c.args.self.now.units c.next.new.self unit c.char_or_surrogate-in_default.result
     c.char_or_surrogate-in_default.ensures.kind c.char_or_surrogate-in_default.ensures.point range not_lead c.in_ok-unit.ensures.steps

@@ -1,5 +1,5 @@
-use Rattle.wtf8.proofs.Common.{◌∙◌, refl}
-use Rattle.wtf8.proofs.lemmas.codec.Readings.{well_formed_of, same_form}
+use Rattle.wtf8.proofs.Common.{◌∙◌, refl, well_formed_of}
+use Rattle.wtf8.proofs.lemmas.codec.Readings.{same_form}
 use Rattle.wtf8.proofs.lemmas.strings.ExtendedForms.{scalar-equal_bytes}
 use Rattle.wtf8.proofs.strings.buf.Wtf8Buf.from_ill_formed_utf16.Goals as goal
 

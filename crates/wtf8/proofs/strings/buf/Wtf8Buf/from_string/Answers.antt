@@ -1,5 +1,4 @@
-use Rattle.wtf8.proofs.Common.{refl, ap, IsUtf8-string_bytes}
-use Rattle.wtf8.proofs.lemmas.codec.Readings.{well_formed_of}
+use Rattle.wtf8.proofs.Common.{refl, ap, IsUtf8-string_bytes, well_formed_of}
 use Rattle.wtf8.proofs.lemmas.strings.ExtendedForms.{scalar-equal_bytes, scalar_all, scalar_text, well_formed-equal_text}
 use Rattle.wtf8.proofs.strings.buf.Wtf8Buf.from_string.Goals as goal
 

@@ -1,5 +1,4 @@
-use Rattle.wtf8.proofs.Common.{arith}
-use Rattle.wtf8.proofs.lemmas.codec.Readings.{well_formed_of}
+use Rattle.wtf8.proofs.Common.{arith, well_formed_of}
 use Rattle.wtf8.proofs.lemmas.strings.ExtendedForms.{all_scalar, scalar-equal_bytes}
 use Rattle.wtf8.proofs.strings.buf.Wtf8Buf.is_utf8.Goals as goal
 

@@ -1,6 +1,6 @@
-use Rattle.wtf8.proofs.Common.{number, refl, ap, on_ok_weaker, ◌∙◌, ◌++◌, rules}
+use Rattle.wtf8.proofs.Common.{number, refl, ap, on_ok_weaker, ◌∙◌, ◌++◌, rules, form_of}
 use Rattle.wtf8.proofs.lemmas.strings.ExtendedForms.{units_appended, kept_contents, room_found, utf8_prefix_after_push, point_form}
-use Rattle.wtf8.proofs.lemmas.codec.Readings.{form_of, units_one}
+use Rattle.wtf8.proofs.lemmas.codec.Readings.{units_one}
 use Rattle.wtf8.proofs.lemmas.strings.StringLaws.{grows_at_most, room_left}
 use Rattle.wtf8.proofs.strings.buf.Wtf8Buf.push.Goals as goal
 

@@ -1,8 +1,8 @@
-use Rattle.wtf8.proofs.Common.{IsForm, ◌++◌, ◌∙◌, subst, sym, append-nil, ap, arith, length, refl, units, view_units, view_form}
+use Rattle.wtf8.proofs.Common.{IsForm, ◌++◌, ◌∙◌, subst, sym, append-nil, ap, arith, length, refl, units, view_units, view_form, form_of}
 use Rattle.wtf8.proofs.Common.{AreScalarTo, rules}
 use Rattle.wtf8.proofs.lemmas.strings.ExtendedForms.{units_appended, kept_contents, room_found, utf8_prefix_after_append}
 use Rattle.wtf8.proofs.lemmas.strings.StringLaws.{grows_at_most, added_length, nothing_appended, room_left}
-use Rattle.wtf8.proofs.lemmas.codec.Readings.{points-nil, form_of, same_points}
+use Rattle.wtf8.proofs.lemmas.codec.Readings.{points-nil, same_points}
 use Rattle.wtf8.proofs.strings.buf.Wtf8Buf.push_wtf8.Goals as goal
 
 pub push_wtf8-requires-clause-scalar_prefix : goal.push_wtf8-requires-clause-scalar_prefix

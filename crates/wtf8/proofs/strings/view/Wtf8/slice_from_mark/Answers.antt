@@ -1,5 +1,4 @@
-use Rattle.wtf8.proofs.Common.{◌∙◌, ap, units}
-use Rattle.wtf8.proofs.lemmas.codec.Readings.{well_formed_of}
+use Rattle.wtf8.proofs.Common.{◌∙◌, ap, units, well_formed_of}
 use Rattle.wtf8.proofs.strings.view.Wtf8.slice_from_mark.Goals as goal
 
 pub skip_bytes-requires : goal.skip_bytes-requires
