@@ -173,12 +173,8 @@ pub record IsFirstRead (v : List ℕ) (at end p : ℕ) : Type 0 where
   pub divides_no_pair : ¬ (DividesPair v end)
   pub reads : Reads (p ∷ []) (take (end - at) (drop at v))
 
-divides_no_pair_after_no_lead : (v : List ℕ) (at : ℕ) → at < length v → ¬ (IsLead (get_or v at 0)) → ¬ (DividesPair v (at + 1))
-divides_no_pair_after_no_lead v at l no_lead = grind (arith, undivided-after_no_lead)
-
-divides_no_pair_before_no_trail : (v : List ℕ) (at : ℕ) → (at + 1 < length v → ¬ (IsTrail (get_or v (at + 1) 0)))
-    → ¬ (DividesPair v (at + 1))
-divides_no_pair_before_no_trail v at no_trail = elim (cases_lt (at + 1) (length v)) [
+undivided-before_no_trail : (v : List ℕ) (at : ℕ) → (at + 1 < length v → ¬ (IsTrail (get_or v (at + 1) 0))) → ¬ (DividesPair v (at + 1))
+undivided-before_no_trail v at no_trail = elim (cases_lt (at + 1) (length v)) [
   | inl l ↦ subst (λ d. ¬ (MeetsAsPair (take (at + 1) v) d)) (sym (drop_more v (at + 1) 0 l))
       (unpaired-before_no_trail (get_or v (at + 1) 0) (drop (at + 1 + 1) v) (no_trail l))
   | inr g ↦ subst (λ d. ¬ (MeetsAsPair (take (at + 1) v) d))
@@ -193,16 +189,16 @@ IsFirstRead-single v at l h divides = grind (arith, drop_more, append-nil, units
 -- a unit that is no surrogate is one code point
 pub IsFirstRead-unit : (v : List ℕ) (at : ℕ) → at < length v → get_or v at 0 < 0x10000 → ¬ (IsSurrogate (get_or v at 0))
     → IsFirstRead v at (at + 1) (get_or v at 0)
-IsFirstRead-unit v at l h not_surrogate = grind (arith, IsFirstRead-single, divides_no_pair_after_no_lead)
+IsFirstRead-unit v at l h not_surrogate = grind (arith, IsFirstRead-single, undivided-after_no_lead)
 
 -- a lone surrogate is read alone: a trail, or a lead that no trail follows
 pub IsFirstRead-lone : (v : List ℕ) (at : ℕ) → at < length v → get_or v at 0 < 0x10000
     → (IsLead (get_or v at 0) → at + 1 < length v → ¬ (IsTrail (get_or v (at + 1) 0))) → IsFirstRead v at (at + 1) (get_or v at 0)
 IsFirstRead-lone v at l h lone = IsFirstRead-single v at l h (elim (cases_lt (get_or v at 0) 0xD800) [
-  | inl low ↦ divides_no_pair_after_no_lead v at l (λ k. omega (arith, k.0, low))
+  | inl low ↦ undivided-after_no_lead v at l (λ k. omega (arith, k.0, low))
   | inr from ↦ elim (cases_lt (get_or v at 0) 0xDC00) [
-    | inl to ↦ divides_no_pair_before_no_trail v at (lone (omega (arith, from), omega (arith, to)))
-    | inr high ↦ divides_no_pair_after_no_lead v at l (λ k. omega (arith, k.1, high))
+    | inl to ↦ undivided-before_no_trail v at (lone (omega (arith, from), omega (arith, to)))
+    | inr high ↦ undivided-after_no_lead v at l (λ k. omega (arith, k.1, high))
   ]
 ])
 

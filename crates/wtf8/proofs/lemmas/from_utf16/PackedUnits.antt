@@ -219,7 +219,7 @@ packed_units-read w kept {bytes} {u} {at} {known} {more} k x within fits taken u
     elim taken [
       | inl t ↦
           let no_lead : ¬ (IsLead (get_or u (at + 7) 0)) = subst (λ n. ¬ (IsLead n)) here t.1 in
-          let end : suc (at + 7) ≡ at + k = omega (arith, t.0) in
+          let end : at + 7 + 1 ≡ at + k = omega (arith, t.0) in
           let all : take k eight ≡ eight = ap (λ k. take k eight) (t.0 ∙ sym whole) ∙ take_all (length eight) eight (omega arith) in
           let last : ¬ (IsLead (get_or (0 ∷ take k eight) (length (take k eight)) 0)) = grind (arith) in
           block_read w kept k x (omega (arith, t.0)) within fits units

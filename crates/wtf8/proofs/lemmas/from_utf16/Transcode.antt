@@ -44,7 +44,7 @@ IsKnownForm-nil known e =
     record { form = record { points = []; reads = record { clean = tt; same_units = refl }; encoded = sym e }; scalar = λ _. tt }
 
 -- no pair is divided after a unit that is no lead
-pub undivided-after_no_lead : (u : List ℕ) (j : ℕ) → j < length u → ¬ (IsLead (get_or u j 0)) → ¬ (DividesPair u (suc j))
+pub undivided-after_no_lead : (u : List ℕ) (j : ℕ) → j < length u → ¬ (IsLead (get_or u j 0)) → ¬ (DividesPair u (j + 1))
 undivided-after_no_lead u j within n = grind (arith, common_steps, take-suc, unpaired-after_no_lead)
 
 -- a pair at the seam with the first `n` units of `b` is a pair at the seam with `b`
@@ -86,7 +86,7 @@ scalars_read {w} {new} {u} {part} {at} {known} k n x few within last after form 
     divides_no_pair : (k : ℕ) → k ≤ n → ((j : ℕ) → j + 1 ≡ k → ¬ (IsLead (get_or (take n (drop at u)) j 0))) → ¬ (DividesPair u (at + k))
     divides_no_pair zero few h = let here : at ≡ at + 0 = omega arith in subst (λ k. ¬ (DividesPair u k)) here x.divides_no_pair
     divides_no_pair (suc j) few h =
-        let here : suc (at + j) ≡ at + suc j = omega arith in
+        let here : at + j + 1 ≡ at + suc j = omega arith in
         let same = get_or-take n (drop at u) j 0 (omega (arith, few)) ∙ get_or-drop at u j 0 in
         subst (λ k. ¬ (DividesPair u k)) here (undivided-after_no_lead u (at + j) (omega (arith, few, within))
         (λ l. h j (omega arith) (omega (arith, same, l.0), omega (arith, same, l.1))))
