@@ -114,7 +114,7 @@ pub flag_lanes-map : (k : ℕ) (u : List ℕ) → length u ≡ 8 → select_by l
 flag_lanes-map k u l = of_eight (λ u. select_by ltb k u (replicate 8 0) (replicate 8 0x80) ≡ map (flag_from k) u) u l
     (map-same (λ x. cond (top 15 (cond (ltb x k) 0xFFFF 0)) 0 0x80) (flag_from k) (flag_from-lane k) (eight_lanes u))
 
--- The halves of pairs among the lanes.
+-- Units that may be surrogates: what is computed from the unit `x` and its neighbours is computed of `x` tagged as `t`.
 
 -- all bits of a lane if the tagged unit is the lead of a pair, or the trail of one, else none
 abbrev lead_mask : ℕ → ℕ
@@ -123,197 +123,141 @@ lead_mask n = if nat_lt n 0xD800 then 0 else if nat_lt n 0xDC00 then 0xFFFF else
 abbrev trail_mask : ℕ → ℕ
 trail_mask n = if nat_lt n 0xDC00 then 0 else if nat_lt n 0xE000 then 0xFFFF else 0
 
-record ArePairHalves (u leads trails : List ℕ) : Type 0 where
-  pub lead : leads ≡ map lead_mask u
-  pub trail : trails ≡ map trail_mask u
+abbrev both_kinds : ℕ → ℕ → ℕ → ℕ → ℕ
+both_kinds x j n k = bit_and (cond (eqb (x / 1024) j) 0xFFFF 0) (cond (eqb (n / 1024) k) 0xFFFF 0)
 
 and_lanes : (s t : Bool) → bit_and (cond s 0xFFFF 0) (cond t 0xFFFF 0) ≡ cond (s && t) 0xFFFF 0
 and_lanes s t = grind (arith)
 
-lead_mask-lane : (b x n : ℕ) → bit_and (cond (eqb (x / 1024) 54) 0xFFFF 0) (cond (eqb (n / 1024) 55) 0xFFFF 0) ≡ lead_mask (tagged b x n)
-lead_mask-lane b x n = and_lanes (eqb (x / 1024) 54) (eqb (n / 1024) 55) ∙ grind (arith, nat_tests)
+both_kinds-lead : (b x n : ℕ) → both_kinds x 54 n 55 ≡ lead_mask (tagged b x n)
+both_kinds-lead b x n = and_lanes (eqb (x / 1024) 54) (eqb (n / 1024) 55) ∙ grind (arith, nat_tests)
 
-trail_mask-lane : (b x n : ℕ) → bit_and (cond (eqb (x / 1024) 55) 0xFFFF 0) (cond (eqb (b / 1024) 54) 0xFFFF 0) ≡ trail_mask (tagged b x n)
-trail_mask-lane b x n = and_lanes (eqb (x / 1024) 55) (eqb (b / 1024) 54) ∙ grind (arith, nat_tests)
+both_kinds-trail : (b x n : ℕ) → both_kinds x 55 b 54 ≡ trail_mask (tagged b x n)
+both_kinds-trail b x n = and_lanes (eqb (x / 1024) 55) (eqb (b / 1024) 54) ∙ grind (arith, nat_tests)
 
-abbrev equal_lanes : ℕ → List ℕ → List ℕ
-equal_lanes k u = zip2 (λ a b. cond (eqb a b) 0xFFFF 0) u (replicate 8 k)
+-- `f` of each unit, of the one before it, and of its masks as half of a pair
+abbrev lanes_by : (ℕ → ℕ → ℕ → ℕ → ℕ) → ℕ → List ℕ → ℕ → List ℕ
+lanes_by f b [] a = []
+lanes_by f b (x ∷ u) a = f (both_kinds x 54 (get_or u 0 a) 55) (both_kinds x 55 b 54) b x ∷ lanes_by f x u a
+
+lanes_by-tagged : (f : ℕ → ℕ → ℕ → ℕ → ℕ) (g : ℕ → ℕ → ℕ)
+    → ((b d x t : ℕ) → IsTag b d → IsTag x t → f (lead_mask t) (trail_mask t) b x ≡ g d t) → (b d : ℕ) (u : List ℕ) (a : ℕ) → IsTag b d
+    → lanes_by f b u a ≡ zip2 g (d ∷ tagged_units b u a) (tagged_units b u a)
+lanes_by-tagged f g h b d [] a k = refl
+lanes_by-tagged f g h b d (x ∷ u) a k =
+    let n = get_or u 0 a in
+    let tag = IsTag-tagged b x n in
+    let here : f (both_kinds x 54 n 55) (both_kinds x 55 b 54) b x ≡ g d (tagged b x n) =
+    rw (both_kinds-lead b x n, both_kinds-trail b x n) (h b d x (tagged b x n) k tag) in
+    λ i. here i ∷ lanes_by-tagged f g h x (tagged b x n) u a tag i
+
+abbrev lanes_of_kind : ℕ → List ℕ → List ℕ
+lanes_of_kind k kinds = zip2 (λ a b. cond (eqb a b) 0xFFFF 0) kinds (replicate 8 k)
+
+abbrev before_lanes : List ℕ → List ℕ
+before_lanes u = pick_l 0 (u ++ replicate 8 0) (8 ∷ 0 ∷ 1 ∷ 2 ∷ 3 ∷ 4 ∷ 5 ∷ 6 ∷ [])
 
 abbrev pair_lead_lanes : List ℕ → List ℕ
 pair_lead_lanes u =
     let kinds = lanes_div 1024 u in
-    zip2 bit_and (equal_lanes 54 kinds) (equal_lanes 55 (pick_l 0 (kinds ++ replicate 8 55) (1 ∷ 2 ∷ 3 ∷ 4 ∷ 5 ∷ 6 ∷ 7 ∷ 8 ∷ [])))
+    zip2 bit_and (lanes_of_kind 54 kinds) (lanes_of_kind 55 (pick_l 0 (kinds ++ replicate 8 55) (1 ∷ 2 ∷ 3 ∷ 4 ∷ 5 ∷ 6 ∷ 7 ∷ 8 ∷ [])))
 
 abbrev pair_trail_lanes : List ℕ → List ℕ
 pair_trail_lanes u =
     let kinds = lanes_div 1024 u in
-    zip2 bit_and (equal_lanes 55 kinds) (equal_lanes 54 (pick_l 0 (kinds ++ replicate 8 0) (8 ∷ 0 ∷ 1 ∷ 2 ∷ 3 ∷ 4 ∷ 5 ∷ 6 ∷ [])))
+    zip2 bit_and (lanes_of_kind 55 kinds) (lanes_of_kind 54 (before_lanes kinds))
 
-pair_lanes : (u : List ℕ) → length u ≡ 8 → ArePairHalves (tagged_block u) (pair_lead_lanes u) (pair_trail_lanes u)
-pair_lanes u l = record {
-  lead = of_eight (λ u. pair_lead_lanes u ≡ map lead_mask (tagged_block u)) u l (λ i. lead_mask-lane 0 (get_or u 0 0)
-      (get_or u 1 0) i ∷ lead 0 1 2 i ∷ lead 1 2 3 i ∷ lead 2 3 4 i ∷ lead 3 4 5 i ∷ lead 4 5 6 i ∷ lead 5 6 7 i ∷ lead_mask-lane
-      (get_or u 6 0) (get_or u 7 0) 0xDC00 i ∷ []);
-  trail = of_eight (λ u. pair_trail_lanes u ≡ map trail_mask (tagged_block u)) u l (λ i. trail_mask-lane 0 (get_or u 0 0)
-      (get_or u 1 0) i ∷ trail 0 1 2 i ∷ trail 1 2 3 i ∷ trail 2 3 4 i ∷ trail 3 4 5 i ∷ trail 4 5 6 i ∷ trail 5 6 7 i ∷ trail_mask-lane
-      (get_or u 6 0) (get_or u 7 0) 0xDC00 i ∷ []);
-}
-  where
-    lead : (j k m : ℕ) → bit_and (cond (eqb (get_or u k 0 / 1024) 54) 0xFFFF 0) (cond (eqb (get_or u m 0 / 1024) 55) 0xFFFF 0)
-        ≡ lead_mask (tagged (get_or u j 0) (get_or u k 0) (get_or u m 0))
-    lead j k m = lead_mask-lane (get_or u j 0) (get_or u k 0) (get_or u m 0)
+abbrev second_byte_lanes : List ℕ → List ℕ → List ℕ
+second_byte_lanes own u = sel_l (map (top 15) (pair_lead_lanes u))
+    (lanes_add (replicate 8 0xF0) (lanes_div 256 (lanes_add (lanes_rem 1024 u) (replicate 8 64))))
+    (sel_l (map (top 15) (pair_trail_lanes u)) (lanes_add (lanes_add (replicate 8 0x80)
+    (zip2 (λ a b. a * b % 65536) (lanes_rem 4 (before_lanes u)) (replicate 8 16))) (lanes_rem 16 (lanes_div 64 u))) own)
 
-    trail : (j k m : ℕ) → bit_and (cond (eqb (get_or u k 0 / 1024) 55) 0xFFFF 0) (cond (eqb (get_or u j 0 / 1024) 54) 0xFFFF 0)
-        ≡ trail_mask (tagged (get_or u j 0) (get_or u k 0) (get_or u m 0))
-    trail j k m = trail_mask-lane (get_or u j 0) (get_or u k 0) (get_or u m 0)
-
--- The three candidate bytes of units that may be surrogates: of the unit `x`, tagged as `t`.
-
-abbrev lead_second_byte : ℕ → ℕ
-lead_second_byte x = (0xF0 + (x % 1024 + 64) % 65536 / 256) % 65536
-
-abbrev trail_second_byte : ℕ → ℕ → ℕ
-trail_second_byte b x = ((0x80 + b % 4 * 16 % 65536) % 65536 + x / 64 % 16) % 65536
-
-second_byte-lane : (b x d t : ℕ) → IsTag b d → IsTag x t → cond (top 15 (lead_mask t)) (lead_second_byte x)
-    (cond (top 15 (trail_mask t)) (trail_second_byte b x) (scalar_second_byte x)) ≡ second_byte d t
-second_byte-lane b x d t k m = grind (arith)
-
-abbrev second_byte_lanes : List ℕ → List ℕ → List ℕ → List ℕ → List ℕ
-second_byte_lanes leads trails own u =
-    let before = pick_l 0 (u ++ replicate 8 0) (8 ∷ 0 ∷ 1 ∷ 2 ∷ 3 ∷ 4 ∷ 5 ∷ 6 ∷ []) in
-    sel_l (map (top 15) leads) (lanes_add (replicate 8 0xF0) (lanes_div 256 (lanes_add (lanes_rem 1024 u) (replicate 8 64))))
-    (sel_l (map (top 15) trails) (lanes_add
-    (lanes_add (replicate 8 0x80) (zip2 (λ a b. a * b % 65536) (lanes_rem 4 before) (replicate 8 16))) (lanes_rem 16 (lanes_div 64 u))) own)
-
-second_byte_lanes-zip2 : (leads trails own u : List ℕ) → length u ≡ 8 → ArePairHalves (tagged_block u) leads trails
-    → own ≡ map scalar_second_byte u → second_byte_lanes leads trails own u ≡ zip2 second_byte (0 ∷ tagged_block u) (tagged_block u)
-second_byte_lanes-zip2 leads trails own u l p e = rw (e, p.lead, p.trail)
-    (of_eight (λ u. second_byte_lanes (map lead_mask (tagged_block u)) (map trail_mask (tagged_block u)) (map scalar_second_byte u) u
-    ≡ zip2 second_byte (0 ∷ tagged_block u) (tagged_block u)) u l (λ i. second_byte-lane 0 (unit 0) 0 (tag 0 (unit 0) (unit 1)) (inl refl)
-    (IsTag-tagged 0 (unit 0) (unit 1)) i ∷ lane 0 (unit 0) (unit 1) (unit 2) i ∷ lane (unit 0) (unit 1) (unit 2) (unit 3) i
-    ∷ lane (unit 1) (unit 2) (unit 3) (unit 4) i ∷ lane (unit 2) (unit 3) (unit 4) (unit 5) i ∷ lane (unit 3) (unit 4) (unit 5) (unit 6) i
-    ∷ lane (unit 4) (unit 5) (unit 6) (unit 7) i ∷ lane (unit 5) (unit 6) (unit 7) 0xDC00 i ∷ []))
-  where
-    unit : ℕ → ℕ
-    unit k = get_or u k 0
-
-    tag : ℕ → ℕ → ℕ → ℕ
-    tag = tagged
-
-    lane : (a b x n : ℕ) → cond (top 15 (lead_mask (tagged b x n))) (lead_second_byte x) (cond (top 15 (trail_mask (tagged b x n)))
-        (trail_second_byte b x) (scalar_second_byte x)) ≡ second_byte (tagged a b x) (tagged b x n)
-    lane a b x n = second_byte-lane b x (tagged a b x) (tagged b x n) (IsTag-tagged a b x) (IsTag-tagged b x n)
-
-abbrev lead_last_byte : ℕ → ℕ
-lead_last_byte x = (0x80 + (x % 1024 + 64) % 65536 / 4 % 64) % 65536
-
-last_byte-lane : (x t : ℕ) → IsTag x t → cond (top 15 (lead_mask t)) (lead_last_byte x) (scalar_last_byte x) ≡ last_byte t
-last_byte-lane x t m = elim m [ inl e ↦ grind (arith, nat_tests, e) | inr e ↦ grind (arith, nat_tests, e.0, e.1.0, e.1.1) ]
-
-abbrev last_byte_lanes : List ℕ → List ℕ → List ℕ → List ℕ
-last_byte_lanes leads own u = sel_l (map (top 15) leads)
+abbrev last_byte_lanes : List ℕ → List ℕ → List ℕ
+last_byte_lanes own u = sel_l (map (top 15) (pair_lead_lanes u))
     (lanes_add (replicate 8 0x80) (lanes_rem 64 (lanes_div 4 (lanes_add (lanes_rem 1024 u) (replicate 8 64))))) own
-
-last_byte_lanes-map : (leads own u : List ℕ) → length u ≡ 8 → leads ≡ map lead_mask (tagged_block u) → own ≡ map scalar_last_byte u
-    → last_byte_lanes leads own u ≡ map last_byte (tagged_block u)
-last_byte_lanes-map leads own u l p e = rw (e, p) (of_eight (λ u. last_byte_lanes (map lead_mask (tagged_block u)) (map scalar_last_byte u)
-    u ≡ map last_byte (tagged_block u)) u l (λ i. lane 0 (unit 0) (unit 1) i ∷ lane (unit 0) (unit 1) (unit 2) i
-    ∷ lane (unit 1) (unit 2) (unit 3) i ∷ lane (unit 2) (unit 3) (unit 4) i ∷ lane (unit 3) (unit 4) (unit 5) i
-    ∷ lane (unit 4) (unit 5) (unit 6) i ∷ lane (unit 5) (unit 6) (unit 7) i ∷ lane (unit 6) (unit 7) 0xDC00 i ∷ []))
-  where
-    unit : ℕ → ℕ
-    unit k = get_or u k 0
-
-    lane : (b x n : ℕ) → cond (top 15 (lead_mask (tagged b x n))) (lead_last_byte x) (scalar_last_byte x) ≡ last_byte (tagged b x n)
-    lane b x n = last_byte-lane x (tagged b x n) (IsTag-tagged b x n)
 
 abbrev three_byte_flag : ℕ → ℕ
 three_byte_flag n = three_byte_bit n * 0x80
 
+abbrev three_byte_flag_lanes : List ℕ → List ℕ → List ℕ
+three_byte_flag_lanes own u = sel_l (map (top 15) (zip2 bit_or (pair_lead_lanes u) (pair_trail_lanes u))) (replicate 8 0) own
+
+second_byte-lane : (b d x t : ℕ) → IsTag b d → IsTag x t → cond (top 15 (lead_mask t)) ((0xF0 + (x % 1024 + 64) % 65536 / 256) % 65536)
+    (cond (top 15 (trail_mask t)) (((0x80 + b % 4 * 16 % 65536) % 65536 + x / 64 % 16) % 65536) (scalar_second_byte x)) ≡ second_byte d t
+second_byte-lane b d x t k m = grind (arith)
+
+last_byte-lane : (x t : ℕ) → IsTag x t
+    → cond (top 15 (lead_mask t)) ((0x80 + (x % 1024 + 64) % 65536 / 4 % 64) % 65536) (scalar_last_byte x) ≡ last_byte t
+last_byte-lane x t m = elim m [ inl e ↦ grind (arith, nat_tests, e) | inr e ↦ grind (arith, nat_tests, e.0, e.1.0, e.1.1) ]
+
 three_byte_flag-lane : (x t : ℕ) → IsTag x t → cond (top 15 (bit_or (lead_mask t) (trail_mask t))) 0 (flag_from 0x800 x) ≡ three_byte_flag t
 three_byte_flag-lane x t m = elim m [ inl e ↦ grind (arith, nat_tests, e) | inr e ↦ grind (arith, nat_tests, e.0, e.1.0, e.1.1) ]
 
-three_byte_flag_lanes-map : (leads trails m u : List ℕ) → length u ≡ 8 → ArePairHalves (tagged_block u) leads trails
-    → m ≡ map (flag_from 0x800) u → sel_l (map (top 15) (zip2 bit_or leads trails)) (replicate 8 0) m ≡ map three_byte_flag (tagged_block u)
-three_byte_flag_lanes-map leads trails m u l p e = rw (e, p.lead, p.trail)
-    (of_eight (λ u. sel_l (map (top 15) (zip2 bit_or (map lead_mask (tagged_block u)) (map trail_mask (tagged_block u)))) (replicate 8 0)
-    (map (flag_from 0x800) u) ≡ map three_byte_flag (tagged_block u)) u l (λ i. lane 0 (unit 0) (unit 1) i ∷ lane (unit 0) (unit 1) (unit 2)
-    i ∷ lane (unit 1) (unit 2) (unit 3) i ∷ lane (unit 2) (unit 3) (unit 4) i ∷ lane (unit 3) (unit 4) (unit 5) i
-    ∷ lane (unit 4) (unit 5) (unit 6) i ∷ lane (unit 5) (unit 6) (unit 7) i ∷ lane (unit 6) (unit 7) 0xDC00 i ∷ []))
+pub later_lanes : (own lasts m u : List ℕ) → length u ≡ 8 → own ≡ map scalar_second_byte u → lasts ≡ map scalar_last_byte u
+    → m ≡ map (flag_from 0x800) u
+    → AreLaterBytes (tagged_block u) (second_byte_lanes own u) (last_byte_lanes lasts u) (three_byte_flag_lanes m u)
+later_lanes own lasts m u l x y z = rw (x, y, z) (of_eight (λ u. AreLaterBytes (tagged_block u) (second_byte_lanes
+    (map scalar_second_byte u) u) (last_byte_lanes (map scalar_last_byte u) u) (three_byte_flag_lanes (map (flag_from 0x800) u) u)) u l
+    (record {
+      second = by (λ l t b x. cond (top 15 l) ((0xF0 + (x % 1024 + 64) % 65536 / 256) % 65536) (cond (top 15 t)
+          (((0x80 + b % 4 * 16 % 65536) % 65536 + x / 64 % 16) % 65536) (scalar_second_byte x))) second_byte second_byte-lane;
+      last = by (λ l t b x. cond (top 15 l) ((0x80 + (x % 1024 + 64) % 65536 / 4 % 64) % 65536) (scalar_last_byte x)) (λ d t. last_byte t)
+          (λ b d x t k. last_byte-lane x t);
+      long = by (λ l t b x. cond (top 15 (bit_or l t)) 0 (flag_from 0x800 x)) (λ d t. three_byte_flag t) (λ b d x t k. three_byte_flag-lane x t);
+    }))
   where
-    unit : ℕ → ℕ
-    unit k = get_or u k 0
+    by : (f : ℕ → ℕ → ℕ → ℕ → ℕ) (g : ℕ → ℕ → ℕ)
+        → ((b d x t : ℕ) → IsTag b d → IsTag x t → f (lead_mask t) (trail_mask t) b x ≡ g d t) → lanes_by f 0 (eight_lanes u) 0xDC00
+        ≡ zip2 g (0 ∷ tagged_block (eight_lanes u)) (tagged_block (eight_lanes u))
+    by f g h = lanes_by-tagged f g h 0 0 (eight_lanes u) 0xDC00 (inl refl)
 
-    lane : (b x n : ℕ) → cond (top 15 (bit_or (lead_mask (tagged b x n)) (trail_mask (tagged b x n)))) 0 (flag_from 0x800 x)
-        ≡ three_byte_flag (tagged b x n)
-    lane b x n = three_byte_flag-lane x (tagged b x n) (IsTag-tagged b x n)
+-- if no lane is a surrogate that is no half of a pair, no unit is tagged
+abbrev lone_lane : ℕ → ℕ → ℕ → ℕ → ℕ
+lone_lane l t b x = bit_xor (cond (eqb (x / 2048) 27) 0xFFFF 0) (bit_or l t)
+
+unit-from_lane : (b x t : ℕ) → x < 0x10000 → IsTag x t → top 15 (lone_lane (lead_mask t) (trail_mask t) b x) ≡ false → IsUnit t
+unit-from_lane b x t h m e = grind (arith, false≢true, eq-eqb, le-ltb)
+
+units-from_mask : (b : ℕ) (u : List ℕ) (a : ℕ) → Each1 (Fits w16) u → mask_l (map (top 15) (lanes_by lone_lane b u a)) ≡ 0
+    → Each1 IsUnit (tagged_units b u a)
+units-from_mask b [] a f e = tt
+units-from_mask b (x ∷ u) a f e = elim (cases_Bool (top 15 (lone_lane (both_kinds x 54 n 55) (both_kinds x 55 b 54) b x))) [
+  | inl t ↦ absurd (omega (arith, rw t at e))
+  | inr o ↦ (
+      unit-from_lane b x (tagged b x n) f.0.fits (IsTag-tagged b x n) (rw (both_kinds-lead b x n, both_kinds-trail b x n) at o),
+      units-from_mask x u a f.1 (omega (arith, rw o at e)),
+    )
+]
+  where
+    n : ℕ
+    n = get_or u 0 a
+
+pub units-from_lone_mask : (u : List ℕ) → length u ≡ 8 → Each1 (Fits w16) u → mask_l (map (top 15)
+    (zip2 bit_xor (lanes_of_kind 27 (lanes_div 2048 u)) (zip2 bit_or (pair_lead_lanes u) (pair_trail_lanes u)))) % 2 ^ 64 ≡ 0
+    → Each1 IsUnit (tagged_block u)
+units-from_lone_mask u l = of_eight (λ u. Each1 (Fits w16) u → mask_l (map (top 15)
+    (zip2 bit_xor (lanes_of_kind 27 (lanes_div 2048 u)) (zip2 bit_or (pair_lead_lanes u) (pair_trail_lanes u)))) % 2 ^ 64 ≡ 0
+    → Each1 IsUnit (tagged_block u)) u l (λ f e. units-from_mask 0 (eight_lanes u) 0xDC00 f
+    (sym (mask_l-mod (map (top 15) (lanes_by lone_lane 0 (eight_lanes u) 0xDC00)) 64 (omega arith)) ∙ e))
 
 -- a unit that is no surrogate has the same bytes by both computations
 candidate_bytes-scalar : (x : ℕ) → ¬ (IsSurrogate x) → (b : ℕ)
     → (scalar_second_byte x ≡ second_byte b x) × (scalar_last_byte x ≡ last_byte x) × (flag_from 0x800 x ≡ three_byte_flag x)
 candidate_bytes-scalar x n b = grind (arith, cases_lt, lt-ltb, le-ltb)
 
-scalar_candidates : (b u : List ℕ) → length u ≤ length b → AreScalarUnits u → (map scalar_second_byte u ≡ zip2 second_byte b u)
-    × (map scalar_last_byte u ≡ map last_byte u) × (map (flag_from 0x800) u ≡ map three_byte_flag u)
-scalar_candidates [] [] l h = (refl, refl, refl)
-scalar_candidates (y ∷ b) [] l h = (refl, refl, refl)
-scalar_candidates [] (x ∷ u) l h = absurd (omega (arith, l))
-scalar_candidates (y ∷ b) (x ∷ u) l h = grind (arith, candidate_bytes-scalar, scalar_candidates b u (omega (arith, l)) h.1)
-
 -- units of which none is a surrogate are not changed by tags
-pub tagged_units-scalar : (b : ℕ) (u : List ℕ) (a : ℕ) → AreScalarUnits u → tagged_units b u a ≡ u
-tagged_units-scalar b [] a h = refl
-tagged_units-scalar b (x ∷ u) a h = λ i. tagged-scalar b x (get_or u 0 a) h.0.1 i ∷ tagged_units-scalar x u a h.1 i
+scalar_candidates : (b : ℕ) (u : List ℕ) (a : ℕ) → AreScalarUnits u → (tagged_units b u a ≡ u) × Each1 IsUnit u
+    × (map scalar_second_byte u ≡ zip2 second_byte (b ∷ u) u) × (map scalar_last_byte u ≡ map last_byte u)
+    × (map (flag_from 0x800) u ≡ map three_byte_flag u)
+scalar_candidates b [] a h = (refl, tt, refl, refl, refl)
+scalar_candidates b (x ∷ u) a h = grind (arith, candidate_bytes-scalar, tagged-scalar, scalar_candidates x u a h.1)
 
-pub scalar_lanes : (u : List ℕ) → AreScalarUnits u → (map scalar_second_byte u ≡ zip2 second_byte (0 ∷ tagged_block u) (tagged_block u))
-    × (map scalar_last_byte u ≡ map last_byte (tagged_block u)) × (map (flag_from 0x800) u ≡ map three_byte_flag (tagged_block u))
-scalar_lanes u h = rw (tagged_units-scalar 0 u 0xDC00 h) (scalar_candidates (0 ∷ u) u (omega arith) h)
-
-pub units-scalar_block : (u : List ℕ) → AreScalarUnits u → Each1 IsUnit (tagged_block u)
-units-scalar_block u h = subst (Each1 IsUnit) (sym (tagged_units-scalar 0 u 0xDC00 h)) (each u h)
-  where
-    each : (u : List ℕ) → AreScalarUnits u → Each1 IsUnit u
-    each [] h = tt
-    each (x ∷ u) h = (omega (arith, h.0.0), each u h.1)
-
--- if no lane is a surrogate that is no half of a pair, no unit is tagged
-abbrev lone_lane : ℕ → ℕ → Bool
-lone_lane x t = top 15 (bit_xor (cond (eqb (x / 2048) 27) 0xFFFF 0) (bit_or (lead_mask t) (trail_mask t)))
-
-unit-from_lane : (x t : ℕ) → x < 0x10000 → IsTag x t → lone_lane x t ≡ false → IsUnit t
-unit-from_lane x t h m e = grind (arith, false≢true, eq-eqb, le-ltb)
-
-units-from_mask : (b : ℕ) (u : List ℕ) (a : ℕ) → Each1 (Fits w16) u → mask_l (zip2 lone_lane u (tagged_units b u a)) ≡ 0
-    → Each1 IsUnit (tagged_units b u a)
-units-from_mask b [] a f e = tt
-units-from_mask b (x ∷ u) a f e = grind (arith, cases_Bool, unit-from_lane, IsTag-tagged, units-from_mask x u a f.1 (omega (arith, e)))
-
-abbrev lone_mask : List ℕ → List ℕ → List ℕ → List Bool
-lone_mask leads trails u =
-    map (top 15) (zip2 bit_xor (zip2 (λ a b. cond (eqb a b) 0xFFFF 0) (lanes_div 2048 u) (replicate 8 27)) (zip2 bit_or leads trails))
-
-units-from_zero_mask : (leads trails u : List ℕ) → length u ≡ 8 → Each1 (Fits w16) u → ArePairHalves (tagged_block u) leads trails
-    → mask_l (lone_mask leads trails u) % 2 ^ 64 ≡ 0 → Each1 IsUnit (tagged_block u)
-units-from_zero_mask leads trails u l f p e = of_eight (λ u. Each1 (Fits w16) u → mask_l (lone_mask (map lead_mask (tagged_block u))
-    (map trail_mask (tagged_block u)) u) % 2 ^ 64 ≡ 0 → Each1 IsUnit (tagged_block u)) u l (λ f e. units-from_mask 0 (eight_lanes u) 0xDC00
-    f (sym (mask_l-mod (zip2 lone_lane (eight_lanes u) (tagged_block (eight_lanes u))) 64 (omega arith)) ∙ e)) f (rw (p.lead, p.trail) at e)
-
-pub later_lanes : (own lasts m u : List ℕ) → length u ≡ 8 → own ≡ map scalar_second_byte u → lasts ≡ map scalar_last_byte u
-    → m ≡ map (flag_from 0x800) u
-    → AreLaterBytes (tagged_block u) (second_byte_lanes (pair_lead_lanes u) (pair_trail_lanes u) own u) (last_byte_lanes
-    (pair_lead_lanes u) lasts u) (sel_l (map (top 15) (zip2 bit_or (pair_lead_lanes u) (pair_trail_lanes u))) (replicate 8 0) m)
-later_lanes own lasts m u l x y z =
-    let pairs = pair_lanes u l in
-    record {
-      second = second_byte_lanes-zip2 (pair_lead_lanes u) (pair_trail_lanes u) own u l pairs x;
-      last = last_byte_lanes-map (pair_lead_lanes u) lasts u l pairs.lead y;
-      long = three_byte_flag_lanes-map (pair_lead_lanes u) (pair_trail_lanes u) m u l pairs z;
-    }
-
-pub units-from_lone_mask : (u : List ℕ) → length u ≡ 8 → Each1 (Fits w16) u
-    → mask_l (lone_mask (pair_lead_lanes u) (pair_trail_lanes u) u) % 2 ^ 64 ≡ 0 → Each1 IsUnit (tagged_block u)
-units-from_lone_mask u l f = units-from_zero_mask (pair_lead_lanes u) (pair_trail_lanes u) u l f (pair_lanes u l)
+pub scalar_lanes : (own lasts m u : List ℕ) → AreScalarUnits u → own ≡ map scalar_second_byte u → lasts ≡ map scalar_last_byte u
+    → m ≡ map (flag_from 0x800) u → AreLaterBytes (tagged_block u) own lasts m × Each1 IsUnit (tagged_block u)
+scalar_lanes own lasts m u h x y z =
+    let all = scalar_candidates 0 u 0xDC00 h in
+    rw all.0 (record { second = x ∙ all.2; last = y ∙ all.3; long = z ∙ all.4 }, all.1)
 
 -- The candidate bytes as 8-bit lanes, four units at a time, and the table index of their lengths.
 
