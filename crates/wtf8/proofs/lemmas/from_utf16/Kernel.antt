@@ -24,16 +24,18 @@ eight_lanes u = pick_l 0 u (0 ∷ 1 ∷ 2 ∷ 3 ∷ 4 ∷ 5 ∷ 6 ∷ 7 ∷ [])
 of_eight : (P : List ℕ → Type 0) (u : List ℕ) → length u ≡ 8 → P (eight_lanes u) → P u
 of_eight P u l p = subst P (pick_l_whole 0 u 8 l) p
 
-map-same : (f g : ℕ → ℕ) → ((x : ℕ) → f x ≡ g x) → (u : List ℕ) → map f u ≡ map g u
-map-same f g h [] = refl
-map-same f g h (x ∷ u) = λ i. h x i ∷ map-same f g h u i
+map-same : (P : ℕ → Type 0) (f g : ℕ → ℕ) → ((x : ℕ) → P x → f x ≡ g x) → (u : List ℕ) → Each1 P u → map f u ≡ map g u
+map-same P f g h [] e = refl
+map-same P f g h (x ∷ u) e = λ i. h x e.0 i ∷ map-same P f g h u e.1 i
 
-map-same_if_fits : (f g : ℕ → ℕ) → ((x : ℕ) → x < 0x10000 → f x ≡ g x) → (u : List ℕ) → Each1 (Fits w16) u → map f u ≡ map g u
-map-same_if_fits f g h [] e = refl
-map-same_if_fits f g h (x ∷ u) e = λ i. h x e.0.fits i ∷ map-same_if_fits f g h u e.1 i
+-- lanes that are `f` of each unit are also `g` of it, if `f` and `g` are the same below 0x10000
+map_lanes : {f g : ℕ → ℕ} (lanes : List ℕ → List ℕ) → ((x : ℕ) → Fits w16 x → f x ≡ g x)
+    → ((u : List ℕ) → lanes (eight_lanes u) ≡ map f (eight_lanes u)) → (u : List ℕ) → length u ≡ 8 → Each1 (Fits w16) u → lanes u ≡ map g u
+map_lanes {f} {g} lanes h e u l fits = of_eight (λ u. Each1 (Fits w16) u → lanes u ≡ map g u) u l
+    (λ s. e u ∙ map-same (Fits w16) f g h (eight_lanes u) s) fits
 
 -- a computation that is the same on a unit and on the tagged unit
-map-tagged : (f : ℕ → ℕ) → ((x t : ℕ) → IsTag x t → f x ≡ f t) → (b : ℕ) (u : List ℕ) (a : ℕ) → map f u ≡ map f (tagged_units b u a)
+pub map-tagged : (f : ℕ → ℕ) → ((x t : ℕ) → IsTag x t → f x ≡ f t) → (b : ℕ) (u : List ℕ) (a : ℕ) → map f u ≡ map f (tagged_units b u a)
 map-tagged f h b [] a = refl
 map-tagged f h b (x ∷ u) a = λ i. h x (tagged b x (get_or u 0 a)) (IsTag-tagged b x (get_or u 0 a)) i ∷ map-tagged f h x u a i
 
@@ -43,10 +45,6 @@ length-tagged_units b (x ∷ u) a = ap suc (length-tagged_units x u a)
 
 pub length-tagged_block : (u : List ℕ) → length u ≡ 8 → length (tagged_block u) ≡ 8
 length-tagged_block u l = length-tagged_units 0 u 0xDC00 ∙ l
-
-Each1-map : (P : ℕ → Type 0) (f : ℕ → ℕ) → ((x : ℕ) → x < 0x10000 → P (f x)) → (u : List ℕ) → Each1 (Fits w16) u → Each1 P (map f u)
-Each1-map P f h [] e = tt
-Each1-map P f h (x ∷ u) e = (h x e.0.fits, Each1-map P f h u e.1)
 
 abbrev select_by : (ℕ → ℕ → Bool) → ℕ → List ℕ → List ℕ → List ℕ → List ℕ
 select_by f k u a b = sel_l (map (top 15) (zip2 (λ x y. cond (f x y) 0xFFFF 0) u (replicate 8 k))) a b
@@ -65,54 +63,43 @@ lanes_rem k u = zip2 (λ a b. a % b) u (replicate 8 k)
 abbrev first_byte_lanes : List ℕ → List ℕ
 first_byte_lanes u = lanes_add (replicate 8 0xE0) (lanes_div 4096 u)
 
-first_byte-lane : (x : ℕ) → x < 0x10000 → (0xE0 + x / 4096) % 65536 ≡ first_byte x
-first_byte-lane x h = omega (arith, h)
+pub first_byte_lanes-map : (u : List ℕ) → length u ≡ 8 → Each1 (Fits w16) u → first_byte_lanes u ≡ map first_byte u
+first_byte_lanes-map = map_lanes first_byte_lanes lane (λ u. refl)
+  where
+    lane : (x : ℕ) → Fits w16 x → (0xE0 + x / 4096) % 65536 ≡ first_byte x
+    lane x h = omega (arith, h.fits)
 
-pub first_byte_lanes-map : (u : List ℕ) → length u ≡ 8 → Each1 (Fits w16) u → map (λ x. x) (first_byte_lanes u) ≡ map first_byte u
-first_byte_lanes-map u l e = of_eight (λ u. Each1 (Fits w16) u → map (λ x. x) (first_byte_lanes u) ≡ map first_byte u) u l
-    (map-same_if_fits (λ x. (0xE0 + x / 4096) % 65536) first_byte first_byte-lane (eight_lanes u)) e
-
-first_byte-tagged : (x t : ℕ) → IsTag x t → first_byte x ≡ first_byte t
+pub first_byte-tagged : (x t : ℕ) → IsTag x t → first_byte x ≡ first_byte t
 first_byte-tagged x t k = elim k [ inl e ↦ ap first_byte (sym e) | inr e ↦ omega (arith, e.0) ]
-
--- the first bytes are those of the tagged units
-pub first_bytes-tagged : (f u : List ℕ) → f ≡ map first_byte u → f ≡ map first_byte (tagged_block u)
-first_bytes-tagged f u e = e ∙ map-tagged first_byte first_byte-tagged 0 u 0xDC00
-
-pub first_byte_lanes_fit : (P : ℕ → Type 0) → ((x : ℕ) → x < 256 → P x) → (u : List ℕ) → length u ≡ 8 → Each1 (Fits w16) u
-    → Each1 P (first_byte_lanes u)
-first_byte_lanes_fit P h u l e = of_eight (λ u. Each1 (Fits w16) u → Each1 P (first_byte_lanes u)) u l
-    (Each1-map P (λ x. (0xE0 + x / 4096) % 65536) (λ x s. h _ (omega (arith, s))) (eight_lanes u)) e
 
 abbrev scalar_second_byte_lanes : List ℕ → List ℕ
 scalar_second_byte_lanes u = lanes_add (select_by ltb 0x800 u (replicate 8 0xC0) (replicate 8 0x80)) (lanes_rem 64 (lanes_div 64 u))
 
-scalar_second_byte-lane : (x : ℕ) → (cond (top 15 (cond (ltb x 0x800) 0xFFFF 0)) 0xC0 0x80 + x / 64 % 64) % 65536 ≡ scalar_second_byte x
-scalar_second_byte-lane x = grind (arith, cases_lt, lt-ltb, le-ltb)
-
-pub scalar_second_byte_lanes-map : (u : List ℕ) → length u ≡ 8 → scalar_second_byte_lanes u ≡ map scalar_second_byte u
-scalar_second_byte_lanes-map u l = of_eight (λ u. scalar_second_byte_lanes u ≡ map scalar_second_byte u) u l (map-same (λ x. (cond
-    (top 15 (cond (ltb x 0x800) 0xFFFF 0)) 0xC0 0x80 + x / 64 % 64) % 65536) scalar_second_byte scalar_second_byte-lane (eight_lanes u))
+pub scalar_second_byte_lanes-map : (u : List ℕ) → length u ≡ 8 → Each1 (Fits w16) u → scalar_second_byte_lanes u ≡ map scalar_second_byte u
+scalar_second_byte_lanes-map = map_lanes scalar_second_byte_lanes lane (λ u. refl)
+  where
+    lane : (x : ℕ) → Fits w16 x
+        → (cond (top 15 (cond (ltb x 0x800) 0xFFFF 0)) 0xC0 0x80 + x / 64 % 64) % 65536 ≡ scalar_second_byte x
+    lane x h = grind (arith, cases_lt, lt-ltb, le-ltb)
 
 abbrev scalar_last_byte_lanes : List ℕ → List ℕ
 scalar_last_byte_lanes u = select_by ltb 0x80 u u (lanes_add (replicate 8 0x80) (lanes_rem 64 u))
 
-scalar_last_byte-lane : (x : ℕ) → cond (top 15 (cond (ltb x 0x80) 0xFFFF 0)) x ((0x80 + x % 64) % 65536) ≡ scalar_last_byte x
-scalar_last_byte-lane x = elim (cases_lt x 0x80) [ inl l ↦ rw (lt-ltb x 0x80 l) refl | inr g ↦ rw (le-ltb x 0x80 g) (omega arith) ]
+pub scalar_last_byte_lanes-map : (u : List ℕ) → length u ≡ 8 → Each1 (Fits w16) u → scalar_last_byte_lanes u ≡ map scalar_last_byte u
+scalar_last_byte_lanes-map = map_lanes scalar_last_byte_lanes lane (λ u. refl)
+  where
+    lane : (x : ℕ) → Fits w16 x → cond (top 15 (cond (ltb x 0x80) 0xFFFF 0)) x ((0x80 + x % 64) % 65536) ≡ scalar_last_byte x
+    lane x h = elim (cases_lt x 0x80) [ inl l ↦ rw (lt-ltb x 0x80 l) refl | inr g ↦ rw (le-ltb x 0x80 g) (omega arith) ]
 
-pub scalar_last_byte_lanes-map : (u : List ℕ) → length u ≡ 8 → scalar_last_byte_lanes u ≡ map scalar_last_byte u
-scalar_last_byte_lanes-map u l = of_eight (λ u. scalar_last_byte_lanes u ≡ map scalar_last_byte u) u l (map-same
-    (λ x. cond (top 15 (cond (ltb x 0x80) 0xFFFF 0)) x ((0x80 + x % 64) % 65536)) scalar_last_byte scalar_last_byte-lane (eight_lanes u))
-
-abbrev flag_from : ℕ → ℕ → ℕ
+abbrev pub flag_from : ℕ → ℕ → ℕ
 flag_from k n = (if nat_lt n k then 0 else 1) * 0x80
 
-flag_from-lane : (k x : ℕ) → cond (top 15 (cond (ltb x k) 0xFFFF 0)) 0 0x80 ≡ flag_from k x
-flag_from-lane k x = elim (cases_lt x k) [ inl l ↦ rw (lt-ltb x k l) refl | inr g ↦ rw (le-ltb x k g) refl ]
-
-pub flag_lanes-map : (k : ℕ) (u : List ℕ) → length u ≡ 8 → select_by ltb k u (replicate 8 0) (replicate 8 0x80) ≡ map (flag_from k) u
-flag_lanes-map k u l = of_eight (λ u. select_by ltb k u (replicate 8 0) (replicate 8 0x80) ≡ map (flag_from k) u) u l
-    (map-same (λ x. cond (top 15 (cond (ltb x k) 0xFFFF 0)) 0 0x80) (flag_from k) (flag_from-lane k) (eight_lanes u))
+pub flag_lanes-map : (k : ℕ) (u : List ℕ) → length u ≡ 8 → Each1 (Fits w16) u
+    → select_by ltb k u (replicate 8 0) (replicate 8 0x80) ≡ map (flag_from k) u
+flag_lanes-map k = map_lanes (λ u. select_by ltb k u (replicate 8 0) (replicate 8 0x80)) lane (λ u. refl)
+  where
+    lane : (x : ℕ) → Fits w16 x → cond (top 15 (cond (ltb x k) 0xFFFF 0)) 0 0x80 ≡ flag_from k x
+    lane x h = elim (cases_lt x k) [ inl l ↦ rw (lt-ltb x k l) refl | inr g ↦ rw (le-ltb x k g) refl ]
 
 -- Units that may be surrogates: what is computed from the unit `x` and its neighbours is computed of `x` tagged as `t`.
 
@@ -177,7 +164,7 @@ abbrev last_byte_lanes : List ℕ → List ℕ → List ℕ
 last_byte_lanes own u = sel_l (map (top 15) (pair_lead_lanes u))
     (lanes_add (replicate 8 0x80) (lanes_rem 64 (lanes_div 4 (lanes_add (lanes_rem 1024 u) (replicate 8 64))))) own
 
-abbrev three_byte_flag : ℕ → ℕ
+abbrev pub three_byte_flag : ℕ → ℕ
 three_byte_flag n = three_byte_bit n * 0x80
 
 abbrev three_byte_flag_lanes : List ℕ → List ℕ → List ℕ
@@ -266,25 +253,12 @@ second_bytes_fit P h [] u = tt
 second_bytes_fit P h (y ∷ b) [] = tt
 second_bytes_fit P h (y ∷ b) (x ∷ u) = (h _ (grind (arith, nat_tests)), second_bytes_fit P h b u)
 
-pub last_bytes_fit : (P : ℕ → Type 0) → ((x : ℕ) → x < 256 → P x) → (u : List ℕ) → Each1 P (map last_byte u)
-last_bytes_fit P h = Each1-map_all P last_byte (λ x. h _ (grind (arith, nat_tests)))
-
 -- a unit that takes three bytes takes more than one
 byte_count_bits_bound : (n : ℕ) → (three_byte_bit n ≤ multi_byte_bit n) × (multi_byte_bit n ≤ 1)
 byte_count_bits_bound n = (grind (arith, nat_tests), grind (arith, nat_tests))
 
 pub IsByteCount-byte_count : (n : ℕ) → IsByteCount (byte_count n)
 IsByteCount-byte_count n = let counts = byte_count_bits_bound n in (omega arith, omega (arith, counts.0, counts.1))
-
-pub three_byte_flags_fit : (P : ℕ → Type 0) → ((x : ℕ) → x < 256 → P x) → (u : List ℕ) → Each1 P (map three_byte_flag u)
-three_byte_flags_fit P h =
-    Each1-map_all P three_byte_flag (λ x. let counts = byte_count_bits_bound x in h _ (omega (arith, counts.0, counts.1)))
-
-pub flags_from_fit : (P : ℕ → Type 0) → ((x : ℕ) → x < 256 → P x) → (k : ℕ) (u : List ℕ) → Each1 P (map (flag_from k) u)
-flags_from_fit P h k = Each1-map_all P (flag_from k) (λ x. elim (cases_lt x k) [
-  | inl l ↦ rw (lt-ltb x k l) (h _ (omega arith))
-  | inr g ↦ rw (le-ltb x k g) (h _ (omega arith))
-])
 
 abbrev narrowed : List ℕ → List ℕ
 narrowed = map (λ x. x)
@@ -313,39 +287,20 @@ flag_from-byte_count n = grind (arith, byte_count_bits_bound, cases_lt)
 three_byte_flag-byte_count : (n : ℕ) → cond (flag_is_set (three_byte_flag n)) 1 0 ≡ byte_count n / 3
 three_byte_flag-byte_count n = grind (arith, byte_count_bits_bound, cases_lt)
 
-mask_l-number_l : (bs : List Bool) → mask_l bs ≡ number_l 2 (map (λ b. cond b 1 0) bs)
-mask_l-number_l [] = refl
-mask_l-number_l (b ∷ bs) = ap (λ n. cond b 1 0 + 2 * n) (mask_l-number_l bs)
-
 pub mask_l-table_indexes : (u m n : List ℕ) → length u ≡ 8 → m ≡ map (flag_from 0x80) u → n ≡ map three_byte_flag u
     → mask_l (flags_set m n) % 2 ^ 64 ≡ units_table_index (take 4 u) + 256 * units_table_index (drop 4 u)
-mask_l-table_indexes u m n long x y = mask_l-mod (flags_set m n) 64 (omega arith) ∙ mask_l-number_l (flags_set m n)
-    ∙ rw (x, y) (of_eight (λ u. number_l 2 (map (λ b. cond {A = ℕ} b 1 0) (flags_set (map (flag_from 0x80) u) (map three_byte_flag u)))
-    ≡ units_table_index (take 4 u) + 256 * units_table_index (drop 4 u)) u long (ap (number_l 2) listed ∙ omega arith))
+mask_l-table_indexes u m n long x y = mask_l-mod (flags_set m n) 64 (omega arith) ∙ rw (x, y) (of_eight (λ u. mask_l
+    (flags_set (map (flag_from 0x80) u) (map three_byte_flag u)) ≡ units_table_index (take 4 u) + 256 * units_table_index (drop 4 u)) u long
+    (omega (arith, one 0, one 1, one 2, one 3, one 4, one 5, one 6, one 7, three 0, three 1, three 2, three 3, three 4, three 5, three 6, three 7)))
   where
-    one : ℕ → ℕ
-    one k = byte_count (get_or u k 0) / 2
+    one : (k : ℕ) → cond (flag_is_set (flag_from 0x80 (get_or u k 0))) 1 0 ≡ byte_count (get_or u k 0) / 2
+    one k = flag_from-byte_count (get_or u k 0)
 
-    two : ℕ → ℕ
-    two k = byte_count (get_or u k 0) / 3
+    three : (k : ℕ) → cond (flag_is_set (three_byte_flag (get_or u k 0))) 1 0 ≡ byte_count (get_or u k 0) / 3
+    three k = three_byte_flag-byte_count (get_or u k 0)
 
-    low : (k : ℕ) → cond (flag_is_set (flag_from 0x80 (get_or u k 0))) 1 0 ≡ byte_count (get_or u k 0) / 2
-    low k = flag_from-byte_count (get_or u k 0)
-
-    high : (k : ℕ) → cond (flag_is_set (three_byte_flag (get_or u k 0))) 1 0 ≡ byte_count (get_or u k 0) / 3
-    high k = three_byte_flag-byte_count (get_or u k 0)
-
-    listed : map (λ b. cond {A = ℕ} b 1 0) (flags_set (map (flag_from 0x80) (eight_lanes u)) (map three_byte_flag (eight_lanes u)))
-        ≡ one 0 ∷ one 1 ∷ one 2 ∷ one 3 ∷ two 0 ∷ two 1 ∷ two 2 ∷ two 3 ∷ one 4 ∷ one 5 ∷ one 6 ∷ one 7 ∷ two 4 ∷ two 5 ∷ two 6 ∷ two 7 ∷ []
-    listed = λ i. low 0 i ∷ low 1 i ∷ low 2 i ∷ low 3 i ∷ high 0 i ∷ high 1 i ∷ high 2 i ∷ high 3 i
-        ∷ low 4 i ∷ low 5 i ∷ low 6 i ∷ low 7 i ∷ high 4 i ∷ high 5 i ∷ high 6 i ∷ high 7 i ∷ []
-
-multi_byte_flag-tagged : (x t : ℕ) → IsTag x t → flag_from 0x80 x ≡ flag_from 0x80 t
+pub multi_byte_flag-tagged : (x t : ℕ) → IsTag x t → flag_from 0x80 x ≡ flag_from 0x80 t
 multi_byte_flag-tagged x t k = grind (arith, le-ltb)
-
--- the flags of units that take more than one byte are those of the tagged units
-pub multi_byte_flags-tagged : (m u : List ℕ) → m ≡ map (flag_from 0x80) u → m ≡ map (flag_from 0x80) (tagged_block u)
-multi_byte_flags-tagged m u e = e ∙ map-tagged (flag_from 0x80) multi_byte_flag-tagged 0 u 0xDC00
 
 pub units_table_index_bound : (u : List ℕ) → units_table_index u < 256
 units_table_index_bound u = grind (arith, IsByteCount-byte_count)
