@@ -253,12 +253,8 @@ second_bytes_fit P h [] u = tt
 second_bytes_fit P h (y ∷ b) [] = tt
 second_bytes_fit P h (y ∷ b) (x ∷ u) = (h _ (grind (arith, nat_tests)), second_bytes_fit P h b u)
 
--- a unit that takes three bytes takes more than one
-byte_count_bits_bound : (n : ℕ) → (three_byte_bit n ≤ multi_byte_bit n) × (multi_byte_bit n ≤ 1)
-byte_count_bits_bound n = (grind (arith, nat_tests), grind (arith, nat_tests))
-
 pub IsByteCount-byte_count : (n : ℕ) → IsByteCount (byte_count n)
-IsByteCount-byte_count n = let counts = byte_count_bits_bound n in (omega arith, omega (arith, counts.0, counts.1))
+IsByteCount-byte_count n = (omega arith, grind (arith, nat_tests))
 
 abbrev narrowed : List ℕ → List ℕ
 narrowed = map (λ x. x)
@@ -282,10 +278,10 @@ flags_set m n =
     map flag_is_set (pick_l 0 (narrowed m ++ narrowed n) (0 ∷ 1 ∷ 2 ∷ 3 ∷ 8 ∷ 9 ∷ 10 ∷ 11 ∷ 4 ∷ 5 ∷ 6 ∷ 7 ∷ 12 ∷ 13 ∷ 14 ∷ 15 ∷ []))
 
 flag_from-byte_count : (n : ℕ) → cond (flag_is_set (flag_from 0x80 n)) 1 0 ≡ byte_count n / 2
-flag_from-byte_count n = grind (arith, byte_count_bits_bound, cases_lt)
+flag_from-byte_count n = grind (arith, nat_tests, cases_lt)
 
 three_byte_flag-byte_count : (n : ℕ) → cond (flag_is_set (three_byte_flag n)) 1 0 ≡ byte_count n / 3
-three_byte_flag-byte_count n = grind (arith, byte_count_bits_bound, cases_lt)
+three_byte_flag-byte_count n = grind (arith, nat_tests, cases_lt)
 
 pub mask_l-table_indexes : (u m n : List ℕ) → length u ≡ 8 → m ≡ map (flag_from 0x80) u → n ≡ map three_byte_flag u
     → mask_l (flags_set m n) % 2 ^ 64 ≡ units_table_index (take 4 u) + 256 * units_table_index (drop 4 u)
@@ -324,18 +320,11 @@ source_lanes-packed_units : (xs : List ℕ) (v a b c d : ℕ) → take 12 xs ≡
     → map (λ j. get_or xs j 0) (source_lanes (byte_count a) 0 ++ source_lanes (byte_count b) 1 ++ source_lanes
     (byte_count c) 2 ++ source_lanes (byte_count d) 3) ≡ packed_units v (a ∷ b ∷ c ∷ d ∷ [])
 source_lanes-packed_units xs v a b c d e =
-    let from = λ (js : List ℕ). map (λ j. get_or xs j 0) js in
-    let p = source_lanes (byte_count a) 0 in
-    let q = source_lanes (byte_count b) 1 in
-    let r = source_lanes (byte_count c) 2 in
-    let s = source_lanes (byte_count d) 3 in
-    let split : from (p ++ q ++ r ++ s) ≡ from p ++ from q ++ from r ++ from s = search (rules, map-append) in
-    let together : packed_unit v a ++ packed_unit a b ++ packed_unit b c ++ packed_unit c d ≡ packed_units v (a ∷ b ∷ c ∷ d ∷ []) =
-    simp (append_assoc, append-nil) in
-    split ∙ (λ i. source_lanes-packed_unit xs 0 v a (lane 0 (omega arith)) (lane 4 (omega arith)) (lane 8 (omega arith)) i
-    ++ source_lanes-packed_unit xs 1 a b (lane 1 (omega arith)) (lane 5 (omega arith)) (lane 9 (omega arith)) i
-    ++ source_lanes-packed_unit xs 2 b c (lane 2 (omega arith)) (lane 6 (omega arith)) (lane 10 (omega arith)) i
-    ++ source_lanes-packed_unit xs 3 c d (lane 3 (omega arith)) (lane 7 (omega arith)) (lane 11 (omega arith)) i) ∙ together
+    let first = source_lanes-packed_unit xs 0 v a (lane 0 (omega arith)) (lane 4 (omega arith)) (lane 8 (omega arith)) in
+    let second = source_lanes-packed_unit xs 1 a b (lane 1 (omega arith)) (lane 5 (omega arith)) (lane 9 (omega arith)) in
+    let third = source_lanes-packed_unit xs 2 b c (lane 2 (omega arith)) (lane 6 (omega arith)) (lane 10 (omega arith)) in
+    let fourth = source_lanes-packed_unit xs 3 c d (lane 3 (omega arith)) (lane 7 (omega arith)) (lane 11 (omega arith)) in
+    simp (map-append, append-nil, append_assoc, first, second, third, fourth)
   where
     lane : (k : ℕ) → k < 12 → get_or xs k 0 ≡ get_or (byte_lanes v (a ∷ b ∷ c ∷ d ∷ [])) k 0
     lane k l = sym (get_or-take 12 xs k 0 l) ∙ ap (λ w. get_or w k 0) e
