@@ -21,7 +21,7 @@ use Rattle.std.proofs.Math.Seq.{take-append_seam}
 abbrev eight_lanes : List ℕ → List ℕ
 eight_lanes u = pick_l 0 u (0 ∷ 1 ∷ 2 ∷ 3 ∷ 4 ∷ 5 ∷ 6 ∷ 7 ∷ [])
 
-of_eight : (P : List ℕ → Type 0) (u : List ℕ) → length u ≡ 8 → P (eight_lanes u) → P u
+pub of_eight : (P : List ℕ → Type 0) (u : List ℕ) → length u ≡ 8 → P (eight_lanes u) → P u
 of_eight P u l p = subst P (pick_l_whole 0 u 8 l) p
 
 map-same : (P : ℕ → Type 0) (f g : ℕ → ℕ) → ((x : ℕ) → P x → f x ≡ g x) → (u : List ℕ) → Each1 P u → map f u ≡ map g u
@@ -259,17 +259,6 @@ IsByteCount-byte_count n = (omega arith, grind (arith, nat_tests))
 abbrev narrowed : List ℕ → List ℕ
 narrowed = map (λ x. x)
 
-abbrev picked_lanes : List ℕ → List ℕ → List ℕ → List ℕ → List ℕ → List ℕ
-picked_lanes f s l js ks = pick_l 0 (f ++ narrowed s) js ++ pick_l 0 (narrowed l ++ narrowed l) ks
-
-pub front_lanes : (u f s l : List ℕ) → length u ≡ 8 → f ≡ map first_byte u → s ≡ zip2 second_byte (0 ∷ u) u → l ≡ map last_byte u
-    → picked_lanes f s l (0 ∷ 1 ∷ 2 ∷ 3 ∷ 8 ∷ 9 ∷ 10 ∷ 11 ∷ []) (0 ∷ 1 ∷ 2 ∷ 3 ∷ []) ≡ byte_lanes 0 (take 4 u)
-front_lanes u f s l long x y z = grind (arith, of_eight)
-
-pub back_lanes : (u f s l : List ℕ) → length u ≡ 8 → f ≡ map first_byte u → s ≡ zip2 second_byte (0 ∷ u) u → l ≡ map last_byte u
-    → picked_lanes f s l (4 ∷ 5 ∷ 6 ∷ 7 ∷ 12 ∷ 13 ∷ 14 ∷ 15 ∷ []) (4 ∷ 5 ∷ 6 ∷ 7 ∷ []) ≡ byte_lanes (get_or u 3 0) (drop 4 u)
-back_lanes u f s l long x y z = grind (arith, of_eight)
-
 abbrev flag_is_set : ℕ → Bool
 flag_is_set y = top 7 (cond (leb 128 y) 255 0)
 
@@ -352,24 +341,24 @@ last-tagged : (u : List ℕ) → length u ≡ 8 → IsLead (get_or u 7 0) → Is
 last-tagged u long = of_eight (λ u. IsLead (get_or u 7 0) → IsLead (get_or (tagged_block u) 7 0)) u long
     (λ l. subst IsLead (sym (tagged-lead_before_trail (get_or u 6 0) (get_or u 7 0) 0xDC00 l (omega arith, omega arith))) l)
 
+packed_units-last : (t : List ℕ) → length t ≡ 8 → packed_units 0 t ≡ packed_units 0 (take 7 t) ++ packed_unit (get_or t 6 0) (get_or t 7 0)
+packed_units-last t long = of_eight (λ u. packed_units 0 u ≡ packed_units 0 (take 7 u) ++ packed_unit (get_or u 6 0) (get_or u 7 0)) t long
+    (simp (append_assoc, append-nil))
+
 -- without the two bytes of a lead at the end, the bytes are the pieces of the seven units before it
 pub take-without_lead : (w kept u : List ℕ) (all : ℕ) → length u ≡ 8 → all ≤ length w → IsLead (get_or u 7 0)
     → take all w ≡ kept ++ packed_units 0 (tagged_block u)
     → (2 ≤ all) × (take (all - 2) w ≡ kept ++ packed_units 0 (take 7 (tagged_block u)))
-take-without_lead w kept u all long within lead e = without (tagged_block u) (length-tagged_block u long) (last-tagged u long lead) e
-  where
-    without : (t : List ℕ) → length t ≡ 8 → IsLead (get_or t 7 0) → take all w ≡ kept ++ packed_units 0 t
-        → (2 ≤ all) × (take (all - 2) w ≡ kept ++ packed_units 0 (take 7 t))
-    without t long lead e =
-        let front = kept ++ packed_units 0 (take 7 t) in
-        let last = packed_unit (get_or t 6 0) (get_or t 7 0) in
-        let split : packed_units 0 t ≡ packed_units 0 (take 7 t) ++ last = of_eight (λ u. packed_units 0 u ≡ packed_units 0
-        (take 7 u) ++ packed_unit (get_or u 6 0) (get_or u 7 0)) t long (simp (append_assoc, append-nil)) in
-        let whole : take all w ≡ front ++ last = e ∙ ap (λ p. kept ++ p) split ∙ sym (append_assoc kept (packed_units 0 (take 7 t)) last) in
-        let two : length last ≡ 2 = ap length (packed_unit-lead (get_or t 6 0) (get_or t 7 0) lead) in
-        let count : all ≡ length front + 2 = omega (arith, length-take-le all w within, ap length whole, length-append front last, two) in
-        let left : all - 2 ≡ length front = omega (arith, count) in (
-          omega (arith, count),
-          sym (take-take (all - 2) all w (omega arith)) ∙ ap (take (all - 2)) whole ∙ ap (λ n. take n (front ++ last)) left
-              ∙ take-append_seam front last,
-        )
+take-without_lead w kept u all long within lead e =
+    let t = tagged_block u in
+    let front = kept ++ packed_units 0 (take 7 t) in
+    let last = packed_unit (get_or t 6 0) (get_or t 7 0) in
+    let whole : take all w ≡ front ++ last = e ∙ ap (λ p. kept ++ p) (packed_units-last t (length-tagged_block u long))
+    ∙ sym (append_assoc kept (packed_units 0 (take 7 t)) last) in
+    let two : length last ≡ 2 = ap length (packed_unit-lead (get_or t 6 0) (get_or t 7 0) (last-tagged u long lead)) in
+    let count : all ≡ length front + 2 = omega (arith, length-take-le all w within, ap length whole, length-append front last, two) in
+    let left : all - 2 ≡ length front = omega (arith, count) in (
+      omega (arith, count),
+      sym (take-take (all - 2) all w (omega arith)) ∙ ap (take (all - 2)) whole ∙ ap (λ n. take n (front ++ last)) left
+          ∙ take-append_seam front last,
+    )

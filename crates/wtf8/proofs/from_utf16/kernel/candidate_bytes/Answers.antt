@@ -1,7 +1,7 @@
 use Rattle.wtf8.proofs.Common.{◌∷◌, ◌∙◌, arith, nat_tests}
 use Rattle.wtf8.specs.private.PackedUnits.{tagged_block, first_byte, last_byte, three_byte_bit}
 use Rattle.wtf8.proofs.lemmas.lanes.AsciiFronts.{Each1-map_all}
-use Rattle.wtf8.proofs.lemmas.from_utf16.Kernel.{second_bytes_fit, flag_from, three_byte_flag, front_lanes, back_lanes, mask_l-table_indexes}
+use Rattle.wtf8.proofs.lemmas.from_utf16.Kernel.{second_bytes_fit, flag_from, three_byte_flag, of_eight, mask_l-table_indexes}
 use Rattle.wtf8.proofs.lemmas.from_utf16.Kernel.{length-tagged_block, map-tagged, first_byte-tagged, multi_byte_flag-tagged}
 use Rattle.wtf8.proofs.from_utf16.kernel.candidate_bytes.Goals as goal
 
@@ -27,7 +27,7 @@ returns c =
     let flags = c.flags_from-above_one in
     let above_one = flags.ensures ∙ map-tagged (flag_from 0x80) multi_byte_flag-tagged 0 c.args.units 0xDC00 in
     record {
-      front = front_lanes units c.first_bytes.result later.seconds later.lasts long first c.requires.second c.requires.last;
-      back = back_lanes units c.first_bytes.result later.seconds later.lasts long first c.requires.second c.requires.last;
+      front = grind (arith, of_eight, first, c.requires, long);
+      back = grind (arith, of_eight, first, c.requires, long);
       lengths = mask_l-table_indexes units flags.result later.three_byte_flags long above_one c.requires.long;
     }
