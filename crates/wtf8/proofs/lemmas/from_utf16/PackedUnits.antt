@@ -2,7 +2,7 @@
 use Rattle.wtf8.proofs.Common.{◌≡◌, ℕ, zero, suc, ◌+◌, ◌-◌, ◌/◌, ◌%◌, ◌<◌, ◌≤◌, List, [], ◌∷◌, ◌++◌, length, take, get_or, refl, sym}
 use Rattle.wtf8.proofs.Common.{ap, ◌∙◌, arith, lt-ltb, le-ltb, subst, cases_lt, inl, inr, true, drop, append-nil, append_assoc}
 use Rattle.wtf8.proofs.Common.{IsSurrogate, encoding, IsKnownForm, Fits, Each1, Bool, IsTrue, ◌&&◌, MeetsAsPair, DividesNoPair}
-use Rattle.wtf8.proofs.Common.{length-chunk, take_all, w16, take-append-add, length-take-le, take-take, Each1-from_get_or, get_or-drop}
+use Rattle.wtf8.proofs.Common.{length-chunk, take_all, w16, take-append-add, length-take-le, take-take, Each1-from_get_or, get_or-drop, same_from_push, units_of}
 use Rattle.wtf8.proofs.Common.{length-take, ◌⊎◌, IsUnit, IsLead, IsTrail, pair}
 use Rattle.std.proofs.lemmas.List.{take-append-le, get_or-take, drop_more}
 use Rattle.std.proofs.lemmas.Grind.{get_or_default_zero}
@@ -24,20 +24,18 @@ tagged-scalar b x n s = grind (arith, cases_lt, lt-ltb, le-ltb)
 pub tagged-lead_before_trail : (b x n : ℕ) → IsLead x → IsTrail n → tagged b x n ≡ x
 tagged-lead_before_trail b x n l t = grind (arith, le-ltb, lt-ltb)
 
-tagged-lone_lead : (b x n : ℕ) → IsLead x → ¬ (IsTrail n) → tagged b x n ≡ x + 0x10000
-tagged-lone_lead b x n l t = grind (arith, cases_lt, le-ltb, lt-ltb)
+-- a unit between two others is no surrogate, one in no pair, the lead of a pair or the trail of one
+data TagCase (b x n : ℕ) : Type 0 where
+  scalar_unit : ¬ (IsSurrogate x) → tagged b x n ≡ x → TagCase b x n
+  lone : IsSurrogate x → ¬ (IsLead x × IsTrail n) → tagged b x n ≡ x + 0x10000 → TagCase b x n
+  lead : IsLead x → IsTrail n → TagCase b x n
+  trail : IsLead b → IsTrail x → TagCase b x n
+
+tag_cases : (b x n : ℕ) → TagCase b x n
+tag_cases b x n = grind (arith, cases_lt, le-ltb, lt-ltb)
 
 tagged-trail_after_lead : (b x n : ℕ) → IsTrail x → IsLead b → tagged b x n ≡ x
 tagged-trail_after_lead b x n t l = grind (arith, le-ltb, lt-ltb)
-
-tagged-lone_trail : (b x n : ℕ) → IsTrail x → ¬ (IsLead b) → tagged b x n ≡ x + 0x10000
-tagged-lone_trail b x n t l = grind (arith, cases_lt, le-ltb, lt-ltb)
-
-scalar_lead_or_trail : (x : ℕ) → (¬ (IsSurrogate x)) ⊎ (IsLead x ⊎ IsTrail x)
-scalar_lead_or_trail x = grind (arith, cases_lt)
-
-trail_or_not : (x : ℕ) → IsTrail x ⊎ (¬ (IsTrail x))
-trail_or_not x = grind (arith, cases_lt)
 
 pub IsTag-tagged : (b x n : ℕ) → IsTag x (tagged b x n)
 IsTag-tagged b x n = grind (arith, cases_lt, le-ltb, lt-ltb)
@@ -78,103 +76,66 @@ take-written_block block row rest n l bound h = grind (arith, length-take-le, ta
 encoding-packed_unit : (b x : ℕ) → x < 0x10000 → ¬ (IsSurrogate x) → encoding x ≡ packed_unit b x
 encoding-packed_unit b x h n = grind (arith, cases_lt, encoding_one, encoding_two, encoding_three, lt-ltb, le-ltb)
 
-packed_unit-form : (b x : ℕ) → x < 0x10000 → ¬ (IsSurrogate x) → IsKnownForm (packed_unit b x) (x ∷ []) true
-packed_unit-form b x h n = record {
-  form = record {
-    points = x ∷ [];
-    reads = record { clean = omega (arith, h); same_units = append-nil _ ∙ units_one x h };
-    encoded = append-nil (encoding x) ∙ encoding-packed_unit b x h n;
-  };
-  scalar = λ _. (n, tt);
-}
-
 -- the pieces of a lead and its trail are the encoding of the pair
 encoding-packed_pair : (b l t : ℕ) → IsLead l → IsTrail t → encoding (pair l t) ≡ packed_unit b l ++ packed_unit l t
 encoding-packed_pair b l t k m = grind (arith, encoding_four, le-ltb, lt-ltb)
 
-packed_pair-form : (b l t : ℕ) → IsLead l → IsTrail t → IsKnownForm (packed_unit b l ++ packed_unit l t) (l ∷ t ∷ []) true
-packed_pair-form b l t k m = record {
+-- one code point has the form of its units
+point_form : (p : ℕ) {w u : List ℕ} (known : Bool) → p ≤ 0x10FFFF → units_of p ≡ u → encoding p ≡ w → (IsTrue known → ¬ (IsSurrogate p))
+    → IsKnownForm w u known
+point_form p known range e g scalar = record {
   form = record {
-    points = pair l t ∷ [];
-    reads = record { clean = omega (arith, k, m); same_units = append-nil _ ∙ units_pair l t k m };
-    encoded = append-nil (encoding (pair l t)) ∙ encoding-packed_pair b l t k m;
+    points = p ∷ [];
+    reads = record { clean = omega (arith, range); same_units = append-nil _ ∙ e };
+    encoded = append-nil (encoding p) ∙ g;
   };
-  scalar = λ _. ((λ s. omega (arith, k, m, s.1)), tt);
+  scalar = λ k. (scalar k, tt);
 }
 
--- the piece of a lone surrogate is its encoding
-lone_unit-form : (b x : ℕ) (known : Bool) → IsSurrogate x → ¬ (IsTrue known) → IsKnownForm (packed_unit b (x + 0x10000)) (x ∷ []) known
-lone_unit-form b x known s n = record {
-  form = record {
-    points = x ∷ [];
-    reads = record { clean = omega (arith, s.1); same_units = append-nil _ ∙ units_one x (omega (arith, s.1)) };
-    encoded = append-nil (encoding x) ∙ encoding_three x (omega (arith, s.0)) (omega (arith, s.1)) ∙ sym (packed_unit-lone b x s);
-  };
-  scalar = λ t. absurd (n t);
-}
-
-scalar_first : (b x n : ℕ) (t : List ℕ) {u : List ℕ} {known : Bool} → x < 0x10000 → ¬ (IsSurrogate x)
-    → IsKnownForm (packed_units x t) u known → IsKnownForm (packed_units b (tagged b x n ∷ t)) (x ∷ u) known
-scalar_first b x n t {u} {known} h s more = subst (λ y. IsKnownForm (packed_units b (y ∷ t)) (x ∷ u) known) (sym (tagged-scalar b x n s))
-    (IsKnownForm-append (packed_unit b x) (packed_units x t) (x ∷ []) u true known known (packed_unit-form b x h s) more
+scalar_first : (b x : ℕ) {y : ℕ} (t : List ℕ) {u : List ℕ} {known : Bool} → x < 0x10000 → ¬ (IsSurrogate x) → y ≡ x
+    → IsKnownForm (packed_units x t) u known → IsKnownForm (packed_units b (y ∷ t)) (x ∷ u) known
+scalar_first b x t {u} {known} h s e more = subst (λ y. IsKnownForm (packed_units b (y ∷ t)) (x ∷ u) known) (sym e)
+    (IsKnownForm-append (packed_unit b x) (packed_units x t) (x ∷ []) u true known known
+    (point_form x true (omega (arith, h)) (units_one x h) (encoding-packed_unit b x h s) (λ _. s)) more
     (unpaired-after_no_lead [] x (λ l. s (l.0, omega (arith, l.1)))) (λ k. (refl, k)))
 
-lone_first : (b x y : ℕ) (t : List ℕ) {u : List ℕ} {known : Bool} → y ≡ x + 0x10000 → IsSurrogate x → ¬ (IsTrue known)
-    → ¬ (MeetsAsPair (x ∷ []) u) → IsKnownForm (packed_units x t) u known → IsKnownForm (packed_units b (y ∷ t)) (x ∷ u) known
-lone_first b x y t {u} {known} e s none unpaired more =
-    subst (λ y. IsKnownForm (packed_units b (y ∷ t)) (x ∷ u) known) (sym e) (IsKnownForm-append (packed_unit b (x + 0x10000))
-    (packed_units (x + 0x10000) t) (x ∷ []) u known known known (lone_unit-form b x known s none)
-    (subst (λ w. IsKnownForm w u known) (sym (packed_units-after_tag x (x + 0x10000) t (inr (refl, s)))) more) unpaired (λ k. (k, k)))
+lone_first : (b x a : ℕ) {y : ℕ} (t : List ℕ) {u : List ℕ} {known : Bool} → IsSurrogate x → ¬ (IsLead x × IsTrail (get_or u 0 a))
+    → y ≡ x + 0x10000 → (IsTrue known → IsUnit y) → IsKnownForm (packed_units x t) u known
+    → IsKnownForm (packed_units b (y ∷ t)) (x ∷ u) known
+lone_first b x a t {u} {known} s unpaired e units more = subst (λ y. IsKnownForm (packed_units b (y ∷ t)) (x ∷ u) known) (sym e)
+    (IsKnownForm-append (packed_unit b (x + 0x10000)) (packed_units (x + 0x10000) t) (x ∷ []) u known known known
+    (point_form x known (omega (arith, s)) (units_one x (omega (arith, s)))
+    (encoding_three x (omega (arith, s)) (omega (arith, s)) ∙ sym (packed_unit-lone b x s)) (λ k. omega (arith, e, units k)))
+    (subst (λ w. IsKnownForm w u known) (sym (packed_units-after_tag x (x + 0x10000) t (inr (refl, s)))) more)
+    (λ m. unpaired (grind (arith, same_from_push [] m.front x m.lead m.ends))) (λ k. (k, k)))
 
--- a tag is no unit
-not_unit : (x y : ℕ) → y ≡ x + 0x10000 → ¬ (IsUnit y)
-not_unit x y e h = omega (arith, e, h)
+pair_first : (b x y n : ℕ) (t : List ℕ) {u : List ℕ} {known : Bool} → IsLead x → IsTrail y → IsKnownForm (packed_units y t) u known
+    → IsKnownForm (packed_units b (tagged b x y ∷ tagged x y n ∷ t)) (x ∷ y ∷ u) known
+pair_first b x y n t {u} {known} l k more =
+    rw (tagged-lead_before_trail b x y l k, tagged-trail_after_lead x y n k l, ← append_assoc (packed_unit b x) (packed_unit x y) _)
+    (IsKnownForm-append (packed_unit b x ++ packed_unit x y) (packed_units y t) (x ∷ y ∷ []) u true known known
+    (point_form (pair x y) true (omega (arith, l, k)) (units_pair x y l k) (encoding-packed_pair b x y l k) (λ _ s. omega (arith, l, k, s)))
+    more (unpaired-after_no_lead (x ∷ []) y (λ h. omega (arith, h.1, k.0))) (λ h. (refl, h)))
 
 -- the pieces of tagged units are their form, if no pair is divided before them and after them
 pub packed_units-form : (b : ℕ) (u : List ℕ) (a : ℕ) (known : Bool) → Each1 (Fits w16) u → ¬ (IsLead b × IsTrail (get_or u 0 a))
     → ¬ (IsLead (get_or (b ∷ u) (length u) 0) × IsTrail a)
     → (IsTrue known → Each1 IsUnit (tagged_units b u a)) → IsKnownForm (packed_units b (tagged_units b u a)) u known
 packed_units-form b [] a known f first last units = IsKnownForm-nil known refl
-packed_units-form b (x ∷ []) a known f first last units = elim (scalar_lead_or_trail x) [
-  | inl o ↦ scalar_first b x a [] f.0.fits o (IsKnownForm-nil known refl)
-  | inr s ↦ elim s [
-    | inl l ↦
-        let lone = tagged-lone_lead b x a l (λ t. last (l, t)) in
-        lone_first b x (tagged b x a) [] lone (l.0, omega (arith, l.1)) (λ k. not_unit x (tagged b x a) lone (units k).0) unpaired-nil_right
-        (IsKnownForm-nil known refl)
-    | inr t ↦
-        let lone = tagged-lone_trail b x a t (λ l. first (l, t)) in
-        lone_first b x (tagged b x a) [] lone (omega (arith, t.0), t.1) (λ k. not_unit x (tagged b x a) lone (units k).0) unpaired-nil_right
-        (IsKnownForm-nil known refl)
-  ]
+packed_units-form b (x ∷ []) a known f first last units = elim (tag_cases b x a) [
+  | scalar_unit o e ↦ scalar_first b x [] f.0.fits o e (IsKnownForm-nil known refl)
+  | lone s n e ↦ lone_first b x a [] s n e (λ k. (units k).0) (IsKnownForm-nil known refl)
+  | lead l t ↦ absurd (last (l, t))
+  | trail l t ↦ absurd (first (l, t))
 ]
-packed_units-form b (x ∷ y ∷ u) a known f first last units = elim (scalar_lead_or_trail x) [
-  | inl o ↦ scalar_first b x y (tagged_units x (y ∷ u) a) f.0.fits o
+packed_units-form b (x ∷ y ∷ u) a known f first last units = elim (tag_cases b x y) [
+  | scalar_unit o e ↦ scalar_first b x (tagged_units x (y ∷ u) a) f.0.fits o e
       (packed_units-form x (y ∷ u) a known f.1 (λ k. o (k.0.0, omega (arith, k.0.1))) last (λ k. (units k).1))
-  | inr s ↦ elim s [
-    | inl l ↦ elim (trail_or_not y) [
-      | inl t ↦
-          let not_lead : ¬ (IsLead y) = λ k. omega (arith, k.1, t.0) in
-          let rest = packed_units-form y u a known f.1.1 (λ k. not_lead k.0) last (λ k. (units k).1.1) in
-          subst (λ w. IsKnownForm (packed_units b (w ∷ (tagged x y (get_or u 0 a)) ∷ tagged_units y u a)) (x ∷ y ∷ u) known)
-          (sym (tagged-lead_before_trail b x y l t))
-          (subst (λ w. IsKnownForm (packed_units b (x ∷ w ∷ tagged_units y u a)) (x ∷ y ∷ u) known)
-          (sym (tagged-trail_after_lead x y (get_or u 0 a) t l))
-          (subst (λ w. IsKnownForm w (x ∷ y ∷ u) known)
-          (append_assoc (packed_unit b x) (packed_unit x y) (packed_units y (tagged_units y u a)))
-          (IsKnownForm-append (packed_unit b x ++ packed_unit x y) (packed_units y (tagged_units y u a)) (x ∷ y ∷ []) u true known known
-          (packed_pair-form b x y l t) rest (unpaired-after_no_lead (x ∷ []) y not_lead) (λ k. (refl, k)))))
-      | inr t ↦
-          let lone = tagged-lone_lead b x y l t in
-          lone_first b x (tagged b x y) (tagged_units x (y ∷ u) a) lone (l.0, omega (arith, l.1)) (λ k. not_unit x (tagged b x y) lone
-          (units k).0) (unpaired-before_no_trail y u t) (packed_units-form x (y ∷ u) a known f.1 (λ k. t k.1) last (λ k. (units k).1))
-    ]
-    | inr t ↦
-        let lone = tagged-lone_trail b x y t (λ l. first (l, t)) in
-        let not_lead : ¬ (IsLead x) = λ k. omega (arith, k.1, t.0) in
-        lone_first b x (tagged b x y) (tagged_units x (y ∷ u) a) lone (omega (arith, t.0), t.1) (λ k. not_unit x (tagged b x y) lone (units
-        k).0) (unpaired-after_no_lead [] x not_lead) (packed_units-form x (y ∷ u) a known f.1 (λ k. not_lead k.0) last (λ k. (units k).1))
-  ]
+  | lone s n e ↦ lone_first b x a (tagged_units x (y ∷ u) a) s n e (λ k. (units k).0)
+      (packed_units-form x (y ∷ u) a known f.1 n last (λ k. (units k).1))
+  | lead l t ↦ pair_first b x y (get_or u 0 a) (tagged_units y u a) l t
+      (packed_units-form y u a known f.1.1 (λ k. omega (arith, k.0.1, t.0)) last (λ k. (units k).1.1))
+  | trail l t ↦ absurd (first (l, t))
 ]
 
 Each1-take : (P : ℕ → Type 0) (k : ℕ) (u : List ℕ) → Each1 P u → Each1 P (take k u)
