@@ -6,6 +6,7 @@ use Rattle.wtf8.proofs.Common.{length-chunk, take_all, w16, take-append-add, len
 use Rattle.wtf8.proofs.Common.{length-take, ◌⊎◌, IsUnit, IsLead, IsTrail, pair}
 use Rattle.std.proofs.lemmas.List.{take-append-le, get_or-take, drop_more}
 use Rattle.std.proofs.lemmas.Grind.{get_or_default_zero}
+use Rattle.std.proofs.lemmas.Simd.{chunk-fits}
 use Rattle.wtf8.specs.private.ConvertedPrefix.{IsReadTo}
 use Rattle.wtf8.specs.private.PackedUnits.{packed_unit, packed_units, tagged, tagged_units, tagged_block}
 use Rattle.wtf8.proofs.lemmas.codec.Encoding.{encoding_one, encoding_two, encoding_three, encoding_four, third_row}
@@ -143,28 +144,6 @@ Each1-take P zero u e = tt
 Each1-take P (suc k) [] e = tt
 Each1-take P (suc k) (x ∷ u) e = (e.0, Each1-take P k u e.1)
 
--- the first `k` of eight units are encoded by appending their pieces, if they end with no half of a pair
-block_read : (w kept : List ℕ) {bytes u : List ℕ} {at : ℕ} {known more : Bool} (k : ℕ) → IsReadTo (w ++ kept) u at known → k ≤ 8
-    → at + 8 ≤ length u → ((i : ℕ) → Fits w16 (get_or u i 0))
-    → (IsTrue more → Each1 IsUnit (tagged_block (take 8 (drop at u)))) → DividesNoPair u (at + k) → ¬ (IsLead
-    (get_or (0 ∷ take k (take 8 (drop at u))) (length (take k (take 8 (drop at u)))) 0) × IsTrail (get_or (take 8 (drop at u)) k 0xDC00))
-    → bytes ≡ kept ++ packed_units 0 (take k (tagged_block (take 8 (drop at u)))) → IsReadTo (w ++ bytes) u (at + k) (known && more)
-block_read w kept {u = u} {at = at} {known = known} {more = more} k x few within fits units divides last e =
-    let eight = take 8 (drop at u) in
-    let own = take k eight in
-    let after = get_or eight k 0xDC00 in
-    let each =
-    Each1-from_get_or (Fits w16) own 0 (λ i l. subst (Fits w16) (sym (get_or-take k eight i 0 (omega (arith, l, length-take k eight))
-    ∙ get_or-take 8 (drop at u) i 0 (omega (arith, l, length-take k eight, few)) ∙ get_or-drop at u i 0)) (fits (at + i))) in
-    let tags = take-tagged_units k 0 eight 0xDC00 in
-    let form = packed_units-form 0 own after more each (λ l. omega (arith, l.0.0)) last
-    (λ t. subst (Each1 IsUnit) tags (Each1-take IsUnit k (tagged_block eight) (units t))) in
-    let count : k ≡ at + k - at = omega arith in
-    let same : own ≡ take (at + k - at) (drop at u) = take-take k 8 (drop at u) few ∙ ap (λ k. take k (drop at u)) count in
-    IsReadTo-append x (omega arith) (omega (arith, few, within)) divides
-    (ap (λ v. w ++ v) (e ∙ ap (λ t. kept ++ packed_units 0 t) tags) ∙ sym (append_assoc w kept (packed_units 0 (tagged_units 0 own after))))
-    (subst (λ v. IsKnownForm (packed_units 0 (tagged_units 0 own after)) v more) same form)
-
 pub and_assoc : (a b c : Bool) → ((a && b) && c) ≡ (a && (b && c))
 and_assoc a b c = grind (arith)
 
@@ -176,19 +155,23 @@ pub packed_units-read : (w kept : List ℕ) {bytes u : List ℕ} {at : ℕ} {kno
     → bytes ≡ kept ++ packed_units 0 (take k (tagged_block (take 8 (drop at u)))) → IsReadTo (w ++ bytes) u (at + k) (known && more)
 packed_units-read w kept {bytes} {u} {at} {known} {more} k x within fits taken units e =
     let eight = take 8 (drop at u) in
+    let own = take k eight in
+    let after = get_or eight k 0xDC00 in
+    let few : k ≤ 8 = grind (arith) in
     let here : get_or eight 7 0 ≡ get_or u (at + 7) 0 = get_or-take 8 (drop at u) 7 0 (omega arith) ∙ get_or-drop at u 7 0 in
     let whole : length eight ≡ 8 = length-chunk at 8 u within in
-    elim taken [
-      | inl t ↦
-          let no_lead : ¬ (IsLead (get_or u (at + 7) 0)) = subst (λ n. ¬ (IsLead n)) here t.1 in
-          let end : suc (at + 7) ≡ at + k = omega (arith, t.0) in
-          let all : take k eight ≡ eight = ap (λ k. take k eight) (t.0 ∙ sym whole) ∙ take_all (length eight) eight (omega arith) in
-          let last : ¬ (IsLead (get_or (0 ∷ take k eight) (length (take k eight)) 0)) = grind (arith) in
-          block_read w kept k x (omega (arith, t.0)) within fits units
-          (subst (DividesNoPair u) end (DividesNoPair-after_no_lead u (at + 7) (omega (arith, within)) no_lead)) (λ l. last l.0) e
-      | inr t ↦
-          let back : drop (at + k) u ≡ get_or u (at + 7) 0 ∷ drop (at + 7 + 1) u = grind (arith, drop_more) in
-          let divides : DividesNoPair u (at + k) = grind (arith, unpaired-before_no_trail) in
-          let next : get_or eight k 0xDC00 ≡ get_or eight 7 0 = grind (arith, get_or_default_zero) in
-          block_read w kept k x (omega (arith, t.0)) within fits units divides (λ l. omega (arith, next, l.1.0, t.1.1)) e
-    ]
+    let next : drop (at + 7) u ≡ get_or u (at + 7) 0 ∷ drop (at + 7 + 1) u = drop_more u (at + 7) 0 (omega (arith, within)) in
+    let end : at + 8 ≡ suc (at + 7) = omega arith in
+    let divides : DividesNoPair u (at + k) = elim taken [
+      | inl t ↦ rw (t.0, end) (DividesNoPair-after_no_lead u (at + 7) (omega (arith, within)) (rw here at t.1))
+      | inr t ↦ rw (t.0, next) (unpaired-before_no_trail _ _ (λ l. omega (arith, here, t.1.1, l.0)))
+    ] in
+    let last : ¬ (IsLead (get_or (0 ∷ own) (length own) 0) × IsTrail after) = grind (arith, take_all, get_or_default_zero) in
+    let tags = take-tagged_units k 0 eight 0xDC00 in
+    let form = packed_units-form 0 own after more (Each1-take (Fits w16) k eight (chunk-fits w16 at 8 u fits)) (λ l. omega (arith, l.0.0)) last
+    (λ t. subst (Each1 IsUnit) tags (Each1-take IsUnit k (tagged_block eight) (units t))) in
+    let count : k ≡ at + k - at = omega arith in
+    let same : own ≡ take (at + k - at) (drop at u) = take-take k 8 (drop at u) few ∙ ap (λ k. take k (drop at u)) count in
+    IsReadTo-append x (omega arith) (omega (arith, few, within)) divides
+    (ap (λ v. w ++ v) (e ∙ ap (λ t. kept ++ packed_units 0 t) tags) ∙ sym (append_assoc w kept (packed_units 0 (tagged_units 0 own after))))
+    (subst (λ v. IsKnownForm (packed_units 0 (tagged_units 0 own after)) v more) same form)
