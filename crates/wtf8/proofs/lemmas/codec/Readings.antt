@@ -96,7 +96,7 @@ pub units-pushed : (c : List ℕ) (p : ℕ) → units (c ++ p ∷ []) ≡ units 
 units-pushed c p = units-append c (p ∷ []) ∙ ap (λ u. units c ++ u) (append-nil (units_of p))
 
 -- bounds between the numbers of code points, units and bytes
-lengths_of_one : (p : ℕ) → (1 ≤ length (units_of p)) × (length (units_of p) ≤ length (encoding p))
+pub lengths_of_one : (p : ℕ) → (1 ≤ length (units_of p)) × (length (units_of p) ≤ length (encoding p))
     × (length (encoding p) ≤ 3 * length (units_of p)) × (length (encoding p) ≤ 4)
 lengths_of_one p = grind (arith, encoding_cases, units_one, units_two)
 

@@ -20,7 +20,7 @@ use Rattle.wtf8.specs.declared.from_utf16.decode.DecodeUtf16.{DecodeUtf16}
 use Rattle.wtf8.specs.private.ConvertedPrefix.{IsReadTo}
 use Rattle.wtf8.proofs.lemmas.codec.Encoding.{bytes-append}
 use Rattle.wtf8.proofs.lemmas.from_utf16.Transcode.{IsKnownForm-append, DividesNoPair-after_no_lead}
-use Rattle.wtf8.proofs.lemmas.codec.Readings.{units_one, units_pair, unpaired-nil_right, unpaired-before_no_trail}
+use Rattle.wtf8.proofs.lemmas.codec.Readings.{lengths_of_one, units_one, units_pair, unpaired-nil_right, unpaired-before_no_trail}
 
 module _ {S A : Type 0} (steps : S → Option A → S → Type 0) where
   -- if each call from `t` is also a call from `s`, draining `t` is draining `s`
@@ -100,23 +100,13 @@ module _ {S : Type 0} (steps : S → Option ℕ → S → Type 0) where
       let r = reads_left items s d in
       record { clean = r.clean; all_units = drains_source (units_left s) (units (points_of_items items)) e r.all_units }
 
-  -- the units of one item were taken: one unit, or a pair
-  pub takes_one : (s t : Ahead S ℕ) (u p : ℕ) → p ≡ u → u < 0x10000 → peekable_steps steps s (Some u) t
-      → Yields (peekable_steps steps) s (units_of p) t
-  takes_one s t u p e h k = subst (λ us. Yields (peekable_steps steps) s us t) (sym (ap units_of e ∙ units_one u h)) (t, k, refl)
-
-  pub takes_two : (s m t : Ahead S ℕ) (l u p : ℕ) → p ≡ pair l u → IsLead l → IsTrail u → peekable_steps steps s (Some l) m
-      → peekable_steps steps m (Some u) t → Yields (peekable_steps steps) s (units_of p) t
-  takes_two s m t l u p e lead trail h k =
-      subst (λ us. Yields (peekable_steps steps) s us t) (sym (ap units_of e ∙ units_pair l u lead trail)) (m, h, (t, k, refl))
-
   -- a unit that is no lead is one item
   pub item_of_unit : (s t : Ahead S ℕ) (u : ℕ) (x : Result ℕ ℕ) → MatchResult x (λ c. IsCodePoint c × ¬ (IsSurrogate c)) IsSurrogate
       → point_of_item x ≡ u → u < 0x10000 → ¬ (IsLead u) → peekable_steps steps s (Some u) t → DecodesItem steps s x t
   item_of_unit s t u x kind point range not_lead k = record {
     kind = kind;
     after = t;
-    taken = takes_one s t u (point_of_item x) point range k;
+    taken = rw (point, units_one u range) (t, k, refl);
     held = inl refl;
     lone = λ lead. absurd (not_lead (subst IsLead point lead));
   }
@@ -149,11 +139,6 @@ slice_left-yields (x ∷ us) s t n y =
     let m = y.0 in
     let r = slice_left-yields us m t y.1.0 y.2 in
     (unit_left (peekable_source s) (peekable_source m) (Some x) (unpeeked_call steps s m (Some x) n y.1.1) ∙ ap (λ w. x ∷ w) r.0, r.1)
-
--- the number of units of a code point
-pub length-units_of : (p n : ℕ) → (p < 0x10000 → n ≡ 1) → (0x10000 ≤ p → n ≡ 2) → n ≡ length (units_of p)
-unfolding units_of
-length-units_of p n one two = grind (arith, cases_lt, lt-ltb, le-ltb)
 
 -- the first code point `p` of the units from index `at` on, and the index `end` after its units
 pub record IsFirstRead (v : List ℕ) (at end p : ℕ) : Type 0 where
@@ -193,14 +178,9 @@ no_item v at items s k t x none rest y item nothing = from items y
 
     begun : (q : Result ℕ ℕ) (m : DecodeUtf16 (Copied (Iter ℕ))) → ¬ (DecodesItem steps (units_left s) q (units_left m))
     begun q m i =
-        let us = units_of (point_of_item q) in
-        let got = slice_left-yields us (units_left s) i.after none i.taken in
-        let one = length-units_of (point_of_item q) in
-        let none_left : length us + length (slice_left i.after) ≡ 0 = grind (arith, length-append, length-drop) in
-        elim (cases_lt (point_of_item q) 0x10000) [
-          | inl l ↦ omega (arith, none_left, one 1 (λ _. refl) (λ g. omega (arith, g, l)))
-          | inr g ↦ omega (arith, none_left, one 2 (λ l. omega (arith, g, l)) (λ _. refl))
-        ]
+        let got = slice_left-yields (units_of (point_of_item q)) (units_left s) i.after none i.taken in
+        omega (arith, (lengths_of_one (point_of_item q)).0, ap length (sym got.0 ∙ whole), ap length nothing, length-drop at v,
+        length-append (units_of (point_of_item q)) (slice_left i.after))
 
     from : (items : List (Result ℕ ℕ)) → ¬ (Yields (decode_steps steps) s items k)
     from [] y = begun x t (subst (λ k. DecodesItem steps (units_left k) x (units_left t)) (sym y) item)
