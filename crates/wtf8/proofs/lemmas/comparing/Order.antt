@@ -36,24 +36,16 @@ Before-from_less c d e = order_of_result Less c d (sym e)
 
 -- what the four tests of a comparison's result say
 pub less_test : (o : Ordering) (c d : List ℕ) → o ≡ slice_cmp nat_cmp c d → IsTrue (is_lt o) ↔ Before c d
-less_test Less c d e = (λ _. order_of_result Less c d e, λ _. refl)
-less_test Equal c d e = (λ t. absurd (false≢true t), λ h. absurd (false≢true (ap is_lt (e ∙ slice_cmp-less c d h))))
-less_test Greater c d e = (λ t. absurd (false≢true t), λ h. absurd (false≢true (ap is_lt (e ∙ slice_cmp-less c d h))))
+less_test o c d e = (λ t. grind (arith, order_of_result o c d e), λ h. ap is_lt (e ∙ slice_cmp-less c d h))
 
 pub greater_test : (o : Ordering) (c d : List ℕ) → o ≡ slice_cmp nat_cmp c d → IsTrue (is_gt o) ↔ Before d c
-greater_test Less c d e = (λ t. absurd (false≢true t), λ h. absurd (false≢true (ap is_gt (e ∙ slice_cmp-greater c d h))))
-greater_test Equal c d e = (λ t. absurd (false≢true t), λ h. absurd (false≢true (ap is_gt (e ∙ slice_cmp-greater c d h))))
-greater_test Greater c d e = (λ _. order_of_result Greater c d e, λ _. refl)
+greater_test o c d e = (λ t. grind (arith, order_of_result o c d e), λ h. ap is_gt (e ∙ slice_cmp-greater c d h))
 
 pub at_most_test : (o : Ordering) (c d : List ℕ) → o ≡ slice_cmp nat_cmp c d → IsTrue (is_le o) ↔ ¬ (Before d c)
-at_most_test Less c d e = (λ _ h. false≢true (ap is_gt (e ∙ slice_cmp-greater c d h)), λ _. refl)
-at_most_test Equal c d e = (λ _ h. false≢true (ap is_gt (e ∙ slice_cmp-greater c d h)), λ _. refl)
-at_most_test Greater c d e = (λ t. absurd (false≢true t), λ n. absurd (n (order_of_result Greater c d e)))
+at_most_test o c d e = grind (arith, order_of_result o c d e, slice_cmp-greater)
 
 pub at_least_test : (o : Ordering) (c d : List ℕ) → o ≡ slice_cmp nat_cmp c d → IsTrue (is_ge o) ↔ ¬ (Before c d)
-at_least_test Less c d e = (λ t. absurd (false≢true t), λ n. absurd (n (order_of_result Less c d e)))
-at_least_test Equal c d e = (λ _ h. false≢true (ap is_lt (e ∙ slice_cmp-less c d h)), λ _. refl)
-at_least_test Greater c d e = (λ _ h. false≢true (ap is_lt (e ∙ slice_cmp-less c d h)), λ _. refl)
+at_least_test o c d e = grind (arith, order_of_result o c d e, slice_cmp-less)
 
 -- Encodings compare byte by byte as their code points compare.
 
@@ -62,7 +54,7 @@ before_encoding : (p q : ℕ) (r s : List ℕ) → p < q → Before (encoding p 
 before_encoding p q r s l = grind (arith, encoding_cases)
 
 Before-nil_encoding : (q : ℕ) (s : List ℕ) → Before [] (encoding q ++ s)
-Before-nil_encoding q s = elim (encoding_cases q) [ one _ f ↦ rw f tt | two _ _ f ↦ rw f tt | three _ _ f ↦ rw f tt | four _ f ↦ rw f tt ]
+Before-nil_encoding q s = grind (arith, encoding_cases)
 
 -- bytes compare as code points
 pub cmp-bytes : (c d : List ℕ) → slice_cmp nat_cmp (bytes c) (bytes d) ≡ slice_cmp nat_cmp c d
@@ -119,7 +111,7 @@ SameSideOfF0-encoding : (p q : ℕ) (r s : List ℕ) → SameSideOfF0 (encoding 
 SameSideOfF0-encoding p q r s h = grind (arith, encoding_cases)
 
 Before-nil_units : (q : ℕ) (d : List ℕ) → Before [] (units (q ∷ d))
-Before-nil_units q d = elim (cases_lt q 0x10000) [ inl h ↦ rw (units-cons_one q d h) tt | inr h ↦ rw (units-cons_two q d h) tt ]
+Before-nil_units q d = grind (arith, cases_lt, units-cons_one, units-cons_two)
 
 -- code points compare as units if their bytes satisfy `SameSideOfF0`
 pub points_as_units : (c d : List ℕ) → SameSideOfF0 (bytes c) (bytes d) → slice_cmp nat_cmp c d ≡ slice_cmp nat_cmp (units c) (units d)
@@ -132,10 +124,7 @@ points_as_units (p ∷ c) (q ∷ d) h =
       | inl same ↦
           let rest = points_as_units c d (SameSideOfF0-cancel_left (encoding p) (bytes c) (bytes d) (rw same at h)) in
           rw same (cmp-append_left (p ∷ []) c d ∙ rest ∙ sym (cmp-append_left (units_of p) (units c) (units d)))
-      | inr (inl l) ↦ slice_cmp-greater (p ∷ c) (q ∷ d) (inl l)
-          ∙ sym (slice_cmp-greater (units (p ∷ c)) (units (q ∷ d)) (before_units q p d c l (row.1, row.0)))
-      | inr (inr l) ↦
-          slice_cmp-less (p ∷ c) (q ∷ d) (inl l) ∙ sym (slice_cmp-less (units (p ∷ c)) (units (q ∷ d)) (before_units p q c d l row))
+      | inr n ↦ grind (arith, slice_cmp-less, slice_cmp-greater, before_units q p d c, before_units p q c d)
     ]
 
 supplementary_begins-cons : (x : ℕ) (w : List ℕ) (n : ℕ) → SupplementaryBegins (x ∷ w) (suc n) ↔ SupplementaryBegins w n
