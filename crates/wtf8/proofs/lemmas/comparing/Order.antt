@@ -127,36 +127,23 @@ points_as_units (p ∷ c) (q ∷ d) h =
       | inr n ↦ grind (arith, slice_cmp-less, slice_cmp-greater, before_units q p d c, before_units p q c d)
     ]
 
-supplementary_begins-cons : (x : ℕ) (w : List ℕ) (n : ℕ) → SupplementaryBegins (x ∷ w) (suc n) ↔ SupplementaryBegins w n
-supplementary_begins-cons x w n = (λ h. (omega (arith, h.0), h.1), λ h. (omega (arith, h.0), h.1))
-
 pub same_side_at_mismatch : (w v : List ℕ) (at : ℕ)
     → IsMismatch w v at → SupplementaryBegins w at ↔ SupplementaryBegins v at → SameSideOfF0 w v
 same_side_at_mismatch [] v at d both = tt
 same_side_at_mismatch (x ∷ w) [] at d both = tt
 same_side_at_mismatch (x ∷ w) (y ∷ v) zero d both = grind (arith, cases_lt)
 same_side_at_mismatch (x ∷ w) (y ∷ v) (suc n) d both =
-    let own = supplementary_begins-cons x w n in
-    let others = supplementary_begins-cons y v n in (
-      λ e. same_side_at_mismatch w v n (mismatch-cons x y w v n d) (λ h. others.0 (both.0 (own.1 h)), λ h. own.0 (both.1 (others.1 h))),
-      λ e. absurd (e (ap (λ u. get_or u 0 0) d.same_before)),
-    )
+    grind (arith, mismatch-cons, same_side_at_mismatch w v n)
 
 -- The order of units: by the bytes at the first difference, or by the parts of both strings from there on.
 
 -- if the bytes of `d` begin with the bytes of `front`, its code points begin with `front`
-record BeginsWithFront (front d rest : List ℕ) : Type 0 where
-  points : List ℕ
-  joined : d ≡ front ++ points
-  encoded : bytes points ≡ rest
-
-BeginsWithFront-from_bytes : (front d rest : List ℕ) → bytes d ≡ bytes front ++ rest → BeginsWithFront front d rest
-BeginsWithFront-from_bytes [] d rest e = record { points = d; joined = refl; encoded = e }
-BeginsWithFront-from_bytes (p ∷ front) [] rest e = absurd (omega (arith, simp length-append at (ap length e), length-encoding_bounds p))
-BeginsWithFront-from_bytes (p ∷ front) (q ∷ d) rest e =
+points_from_bytes : (front d rest : List ℕ) → bytes d ≡ bytes front ++ rest → (c : List ℕ) × (d ≡ front ++ c) × (bytes c ≡ rest)
+points_from_bytes [] d rest e = (d, refl, e)
+points_from_bytes (p ∷ front) [] rest e = absurd (omega (arith, simp length-append at (ap length e), length-encoding_bounds p))
+points_from_bytes (p ∷ front) (q ∷ d) rest e =
     let heads = encoding_same q p (bytes d) (bytes front ++ rest) (e ∙ append_assoc (encoding p) (bytes front) rest) in
-    let more = BeginsWithFront-from_bytes front d rest heads.1 in
-    record { points = more.points; joined = ap (λ k. k ∷ d) heads.0 ∙ ap (λ c. p ∷ c) more.joined; encoded = more.encoded }
+    let more = points_from_bytes front d rest heads.1 in (more.0, ap (λ k. k ∷ d) heads.0 ∙ ap (λ c. p ∷ c) more.1, more.2)
 
 -- the common front of two strings up to a boundary, and the rest of each
 pub record CommonFront (c d : List ℕ) (at : ℕ) : Type 0 where
@@ -172,14 +159,14 @@ common_front_at_lead_byte : {w v : List ℕ} (h : IsWellFormed w) (k : IsWellFor
 common_front_at_lead_byte {w} {v} h k at same pair =
     let cut = cut_at h at (boundary_from_byte h at (omega (arith, pair.0)) (λ _. record { start = inr (omega (arith, pair.1)) })) in
     let front : bytes cut.front ≡ take at v = ap bytes (sym cut.before_points) ∙ (cut.before.encoded ∙ same) in
-    let more = BeginsWithFront-from_bytes cut.front k.points (drop at v)
+    let more = points_from_bytes cut.front k.points (drop at v)
     (k.encoded ∙ (sym (take-append-drop at v) ∙ ap (λ f. f ++ drop at v) (sym front))) in
     record {
       front = cut.front;
       own = cut.back;
-      others = more.points;
+      others = more.0;
       own_joined = cut.points;
-      others_joined = more.joined;
+      others_joined = more.1;
       front_len = cut.splits.front_len;
     }
 
