@@ -103,11 +103,7 @@ lengths_of_one p = grind (arith, encoding_cases, units_one, units_two)
 pub lists_have_lengths : ListsHaveLengths
 lists_have_lengths [] = record { points = omega arith; units_least = omega arith; units_most = omega arith; bytes_most = omega arith }
 lists_have_lengths (p ∷ c) =
-    let here = lengths_of_one p in
-    let rest = lists_have_lengths c in
-    let more = length-append (units_of p) (units c) in
-    let bytes_more = length-append (encoding p) (bytes c) in
-    record { points = omega arith; units_least = omega arith; units_most = omega arith; bytes_most = omega arith }
+    grind (arith, lengths_of_one p, lists_have_lengths c, length-append (units_of p) (units c), length-append (encoding p) (bytes c))
 
 -- Clean lists of code points, divided and joined.
 

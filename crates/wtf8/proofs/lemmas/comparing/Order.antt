@@ -31,9 +31,6 @@ order_of (x ∷ xs) (y ∷ ys) =
 pub order_of_result : (o : Ordering) (c d : List ℕ) → o ≡ slice_cmp nat_cmp c d → MatchOrdering o (Before c d) (c ≡ d) (Before d c)
 order_of_result o c d e = grind (arith, order_of)
 
-pub Before-from_less : (c d : List ℕ) → slice_cmp nat_cmp c d ≡ Less → Before c d
-Before-from_less c d e = order_of_result Less c d (sym e)
-
 -- what the four tests of a comparison's result say
 pub less_test : (o : Ordering) (c d : List ℕ) → o ≡ slice_cmp nat_cmp c d → IsTrue (is_lt o) ↔ Before c d
 less_test o c d e = (λ t. grind (arith, order_of_result o c d e), λ h. ap is_lt (e ∙ slice_cmp-less c d h))
@@ -65,7 +62,7 @@ cmp-bytes (p ∷ c) (q ∷ d) = grind (arith, cases_order, cmp-append_left, slic
 
 -- one encoding is before another exactly if its code points are
 pub before_bytes : (c d : List ℕ) → Before (bytes c) (bytes d) ↔ Before c d
-before_bytes c d = grind (arith, Before-from_less, cmp-bytes, slice_cmp-less)
+before_bytes c d = grind (arith, order_of_result Less c d, order_of_result Less (bytes c) (bytes d), cmp-bytes, slice_cmp-less)
 
 -- Strings compared by their bytes: the code points and units.
 
