@@ -53,17 +53,6 @@ first-encoding p r = grind (arith, encoding_cases)
 pub encoding-from_ascii_byte : (p : ℕ) (r : List ℕ) → get_or (encoding p ++ r) 0 0 < 0x80 → (encoding p ≡ p ∷ []) × (p < 0x80)
 encoding-from_ascii_byte p r h = grind (arith, encoding_cases)
 
--- all are continuation bytes (80 to BF)
-abbrev AreContinuationBytes : List ℕ → Type 0
-AreContinuationBytes [] = Unit {0}
-AreContinuationBytes (x ∷ xs) = (0x80 ≤ x) × (x < 0xC0) × AreContinuationBytes xs
-
-continuation_byte_at : (xs r : List ℕ) (k : ℕ) → AreContinuationBytes xs → k < length xs
-    → (0x80 ≤ get_or (xs ++ r) k 0) × (get_or (xs ++ r) k 0 < 0xC0)
-continuation_byte_at [] r k t h = absurd (omega arith)
-continuation_byte_at (x ∷ xs) r zero t h = (t.0, t.1)
-continuation_byte_at (x ∷ xs) r (suc k) t h = continuation_byte_at xs r k t.2 (omega arith)
-
 -- the bytes after the first are continuation bytes
 pub continuation-encoding : (p k : ℕ) (r : List ℕ) → suc k < length (encoding p)
     → (0x80 ≤ get_or (encoding p ++ r) (suc k) 0) × (get_or (encoding p ++ r) (suc k) 0 < 0xC0)

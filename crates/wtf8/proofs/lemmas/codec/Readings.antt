@@ -96,18 +96,14 @@ pub units-pushed : (c : List ℕ) (p : ℕ) → units (c ++ p ∷ []) ≡ units 
 units-pushed c p = units-append c (p ∷ []) ∙ ap (λ u. units c ++ u) (append-nil (units_of p))
 
 -- bounds between the numbers of code points, units and bytes
-lengths_of_one : (p : ℕ) → (1 ≤ length (units_of p)) × (length (units_of p) ≤ length (encoding p))
+pub lengths_of_one : (p : ℕ) → (1 ≤ length (units_of p)) × (length (units_of p) ≤ length (encoding p))
     × (length (encoding p) ≤ 3 * length (units_of p)) × (length (encoding p) ≤ 4)
 lengths_of_one p = grind (arith, encoding_cases, units_one, units_two)
 
 pub lists_have_lengths : ListsHaveLengths
 lists_have_lengths [] = record { points = omega arith; units_least = omega arith; units_most = omega arith; bytes_most = omega arith }
 lists_have_lengths (p ∷ c) =
-    let here = lengths_of_one p in
-    let rest = lists_have_lengths c in
-    let more = length-append (units_of p) (units c) in
-    let bytes_more = length-append (encoding p) (bytes c) in
-    record { points = omega arith; units_least = omega arith; units_most = omega arith; bytes_most = omega arith }
+    grind (arith, lengths_of_one p, lists_have_lengths c, length-append (units_of p) (units c), length-append (encoding p) (bytes c))
 
 -- Clean lists of code points, divided and joined.
 
@@ -149,28 +145,16 @@ cons-equal_parts p q r s e = (ap (λ w. get_or w 0 0) e, ap (drop 1) e)
 pub trail_first : (p : ℕ) (c : List ℕ) (t : ℕ) (r : List ℕ) → IsClean (p ∷ c) → units (p ∷ c) ≡ t ∷ r → IsTrail t → p ≡ t
 trail_first p c t r x e h = grind (arith, cases_lt, cons-equal_parts, units-cons_one, clean-first, units-cons_two)
 
--- decodes units from the front; the units of a clean list decode to that list
-abbrev points_of_units : List ℕ → List ℕ
-points_of_units [] = []
-points_of_units (l ∷ []) = l ∷ []
-points_of_units (l ∷ t ∷ u) = cond (is_pair l t) (pair l t ∷ points_of_units u) (l ∷ points_of_units (t ∷ u))
-
-points_of_units-cons : (p : ℕ) (c : List ℕ) → IsClean (p ∷ c) → points_of_units (units c) ≡ c → points_of_units (p ∷ units c) ≡ p ∷ c
-points_of_units-cons p c x e = grind (arith, cases_lt, units-cons_one, surrogates_from_is_pair, units-cons_two, clean-first)
-
-points_of_units-units : (c : List ℕ) → IsClean c → points_of_units (units c) ≡ c
-points_of_units-units [] x = refl
-points_of_units-units (p ∷ c) x = elim (cases_lt p 0x10000) [
-  | inl h ↦ rw (units-cons_one p c h) (points_of_units-cons p c x (points_of_units-units c (clean-rest p c x)))
-  | inr h ↦
-      let range = clean-first p c x in
-      let same : pair (lead_of p) (trail_of p) ≡ p = omega arith in
-      rw (units-cons_two p c h, is_pair-surrogates (lead_of p) (trail_of p) (omega arith, omega arith) (omega arith, omega arith))
-      (cc (same, points_of_units-units c (clean-rest p c x)))
-]
+no_trail_after_lead : (p : ℕ) (c : List ℕ) (t : ℕ) (r : List ℕ) → IsClean (p ∷ c) → IsLead p → IsTrail t → ¬ (units c ≡ t ∷ r)
+no_trail_after_lead p [] t r x l k e = omega (arith, ap length e)
+no_trail_after_lead p (q ∷ c) t r x l k e = x.1 (l, rw (trail_first q c t r x.2 e k) k)
 
 pub same_reading : (c d : List ℕ) → IsClean c → IsClean d → units c ≡ units d → c ≡ d
-same_reading c d x y e = sym (points_of_units-units c x) ∙ (ap points_of_units e ∙ points_of_units-units d y)
+same_reading [] [] x y e = refl
+same_reading [] (q ∷ d) x y e = absurd (omega (arith, ap length e, (lists_have_lengths (q ∷ d)).points))
+same_reading (p ∷ c) [] x y e = absurd (omega (arith, ap length e, (lists_have_lengths (p ∷ c)).points))
+same_reading (p ∷ c) (q ∷ d) x y e = grind (arith, cases_lt, cons-equal_parts, units-cons_one, units-cons_two, clean-first, clean-rest,
+    no_trail_after_lead p c, no_trail_after_lead q d, same_reading c d)
 
 pub reads_same : {c d u : List ℕ} → Reads c u → Reads d u → c ≡ d
 reads_same {c} {d} x y = same_reading c d x.clean y.clean (x.same_units ∙ sym y.same_units)

@@ -31,29 +31,18 @@ order_of (x ∷ xs) (y ∷ ys) =
 pub order_of_result : (o : Ordering) (c d : List ℕ) → o ≡ slice_cmp nat_cmp c d → MatchOrdering o (Before c d) (c ≡ d) (Before d c)
 order_of_result o c d e = grind (arith, order_of)
 
-pub Before-from_less : (c d : List ℕ) → slice_cmp nat_cmp c d ≡ Less → Before c d
-Before-from_less c d e = order_of_result Less c d (sym e)
-
 -- what the four tests of a comparison's result say
 pub less_test : (o : Ordering) (c d : List ℕ) → o ≡ slice_cmp nat_cmp c d → IsTrue (is_lt o) ↔ Before c d
-less_test Less c d e = (λ _. order_of_result Less c d e, λ _. refl)
-less_test Equal c d e = (λ t. absurd (false≢true t), λ h. absurd (false≢true (ap is_lt (e ∙ slice_cmp-less c d h))))
-less_test Greater c d e = (λ t. absurd (false≢true t), λ h. absurd (false≢true (ap is_lt (e ∙ slice_cmp-less c d h))))
+less_test o c d e = (λ t. grind (arith, order_of_result o c d e), λ h. ap is_lt (e ∙ slice_cmp-less c d h))
 
 pub greater_test : (o : Ordering) (c d : List ℕ) → o ≡ slice_cmp nat_cmp c d → IsTrue (is_gt o) ↔ Before d c
-greater_test Less c d e = (λ t. absurd (false≢true t), λ h. absurd (false≢true (ap is_gt (e ∙ slice_cmp-greater c d h))))
-greater_test Equal c d e = (λ t. absurd (false≢true t), λ h. absurd (false≢true (ap is_gt (e ∙ slice_cmp-greater c d h))))
-greater_test Greater c d e = (λ _. order_of_result Greater c d e, λ _. refl)
+greater_test o c d e = (λ t. grind (arith, order_of_result o c d e), λ h. ap is_gt (e ∙ slice_cmp-greater c d h))
 
 pub at_most_test : (o : Ordering) (c d : List ℕ) → o ≡ slice_cmp nat_cmp c d → IsTrue (is_le o) ↔ ¬ (Before d c)
-at_most_test Less c d e = (λ _ h. false≢true (ap is_gt (e ∙ slice_cmp-greater c d h)), λ _. refl)
-at_most_test Equal c d e = (λ _ h. false≢true (ap is_gt (e ∙ slice_cmp-greater c d h)), λ _. refl)
-at_most_test Greater c d e = (λ t. absurd (false≢true t), λ n. absurd (n (order_of_result Greater c d e)))
+at_most_test o c d e = grind (arith, order_of_result o c d e, slice_cmp-greater)
 
 pub at_least_test : (o : Ordering) (c d : List ℕ) → o ≡ slice_cmp nat_cmp c d → IsTrue (is_ge o) ↔ ¬ (Before c d)
-at_least_test Less c d e = (λ t. absurd (false≢true t), λ n. absurd (n (order_of_result Less c d e)))
-at_least_test Equal c d e = (λ _ h. false≢true (ap is_lt (e ∙ slice_cmp-less c d h)), λ _. refl)
-at_least_test Greater c d e = (λ _ h. false≢true (ap is_lt (e ∙ slice_cmp-less c d h)), λ _. refl)
+at_least_test o c d e = grind (arith, order_of_result o c d e, slice_cmp-less)
 
 -- Encodings compare byte by byte as their code points compare.
 
@@ -62,7 +51,7 @@ before_encoding : (p q : ℕ) (r s : List ℕ) → p < q → Before (encoding p 
 before_encoding p q r s l = grind (arith, encoding_cases)
 
 Before-nil_encoding : (q : ℕ) (s : List ℕ) → Before [] (encoding q ++ s)
-Before-nil_encoding q s = elim (encoding_cases q) [ one _ f ↦ rw f tt | two _ _ f ↦ rw f tt | three _ _ f ↦ rw f tt | four _ f ↦ rw f tt ]
+Before-nil_encoding q s = grind (arith, encoding_cases)
 
 -- bytes compare as code points
 pub cmp-bytes : (c d : List ℕ) → slice_cmp nat_cmp (bytes c) (bytes d) ≡ slice_cmp nat_cmp c d
@@ -73,7 +62,7 @@ cmp-bytes (p ∷ c) (q ∷ d) = grind (arith, cases_order, cmp-append_left, slic
 
 -- one encoding is before another exactly if its code points are
 pub before_bytes : (c d : List ℕ) → Before (bytes c) (bytes d) ↔ Before c d
-before_bytes c d = grind (arith, Before-from_less, cmp-bytes, slice_cmp-less)
+before_bytes c d = grind (arith, order_of_result Less c d, order_of_result Less (bytes c) (bytes d), cmp-bytes, slice_cmp-less)
 
 -- Strings compared by their bytes: the code points and units.
 
@@ -119,7 +108,7 @@ SameSideOfF0-encoding : (p q : ℕ) (r s : List ℕ) → SameSideOfF0 (encoding 
 SameSideOfF0-encoding p q r s h = grind (arith, encoding_cases)
 
 Before-nil_units : (q : ℕ) (d : List ℕ) → Before [] (units (q ∷ d))
-Before-nil_units q d = elim (cases_lt q 0x10000) [ inl h ↦ rw (units-cons_one q d h) tt | inr h ↦ rw (units-cons_two q d h) tt ]
+Before-nil_units q d = grind (arith, cases_lt, units-cons_one, units-cons_two)
 
 -- code points compare as units if their bytes satisfy `SameSideOfF0`
 pub points_as_units : (c d : List ℕ) → SameSideOfF0 (bytes c) (bytes d) → slice_cmp nat_cmp c d ≡ slice_cmp nat_cmp (units c) (units d)
@@ -132,14 +121,8 @@ points_as_units (p ∷ c) (q ∷ d) h =
       | inl same ↦
           let rest = points_as_units c d (SameSideOfF0-cancel_left (encoding p) (bytes c) (bytes d) (rw same at h)) in
           rw same (cmp-append_left (p ∷ []) c d ∙ rest ∙ sym (cmp-append_left (units_of p) (units c) (units d)))
-      | inr (inl l) ↦ slice_cmp-greater (p ∷ c) (q ∷ d) (inl l)
-          ∙ sym (slice_cmp-greater (units (p ∷ c)) (units (q ∷ d)) (before_units q p d c l (row.1, row.0)))
-      | inr (inr l) ↦
-          slice_cmp-less (p ∷ c) (q ∷ d) (inl l) ∙ sym (slice_cmp-less (units (p ∷ c)) (units (q ∷ d)) (before_units p q c d l row))
+      | inr n ↦ grind (arith, slice_cmp-less, slice_cmp-greater, before_units q p d c, before_units p q c d)
     ]
-
-supplementary_begins-cons : (x : ℕ) (w : List ℕ) (n : ℕ) → SupplementaryBegins (x ∷ w) (suc n) ↔ SupplementaryBegins w n
-supplementary_begins-cons x w n = (λ h. (omega (arith, h.0), h.1), λ h. (omega (arith, h.0), h.1))
 
 pub same_side_at_mismatch : (w v : List ℕ) (at : ℕ)
     → IsMismatch w v at → SupplementaryBegins w at ↔ SupplementaryBegins v at → SameSideOfF0 w v
@@ -147,27 +130,17 @@ same_side_at_mismatch [] v at d both = tt
 same_side_at_mismatch (x ∷ w) [] at d both = tt
 same_side_at_mismatch (x ∷ w) (y ∷ v) zero d both = grind (arith, cases_lt)
 same_side_at_mismatch (x ∷ w) (y ∷ v) (suc n) d both =
-    let own = supplementary_begins-cons x w n in
-    let others = supplementary_begins-cons y v n in (
-      λ e. same_side_at_mismatch w v n (mismatch-cons x y w v n d) (λ h. others.0 (both.0 (own.1 h)), λ h. own.0 (both.1 (others.1 h))),
-      λ e. absurd (e (ap (λ u. get_or u 0 0) d.same_before)),
-    )
+    grind (arith, mismatch-cons, same_side_at_mismatch w v n)
 
 -- The order of units: by the bytes at the first difference, or by the parts of both strings from there on.
 
 -- if the bytes of `d` begin with the bytes of `front`, its code points begin with `front`
-record BeginsWithFront (front d rest : List ℕ) : Type 0 where
-  points : List ℕ
-  joined : d ≡ front ++ points
-  encoded : bytes points ≡ rest
-
-BeginsWithFront-from_bytes : (front d rest : List ℕ) → bytes d ≡ bytes front ++ rest → BeginsWithFront front d rest
-BeginsWithFront-from_bytes [] d rest e = record { points = d; joined = refl; encoded = e }
-BeginsWithFront-from_bytes (p ∷ front) [] rest e = absurd (omega (arith, simp length-append at (ap length e), length-encoding_bounds p))
-BeginsWithFront-from_bytes (p ∷ front) (q ∷ d) rest e =
+points_from_bytes : (front d rest : List ℕ) → bytes d ≡ bytes front ++ rest → (c : List ℕ) × (d ≡ front ++ c) × (bytes c ≡ rest)
+points_from_bytes [] d rest e = (d, refl, e)
+points_from_bytes (p ∷ front) [] rest e = absurd (omega (arith, simp length-append at (ap length e), length-encoding_bounds p))
+points_from_bytes (p ∷ front) (q ∷ d) rest e =
     let heads = encoding_same q p (bytes d) (bytes front ++ rest) (e ∙ append_assoc (encoding p) (bytes front) rest) in
-    let more = BeginsWithFront-from_bytes front d rest heads.1 in
-    record { points = more.points; joined = ap (λ k. k ∷ d) heads.0 ∙ ap (λ c. p ∷ c) more.joined; encoded = more.encoded }
+    let more = points_from_bytes front d rest heads.1 in (more.0, ap (λ k. k ∷ d) heads.0 ∙ ap (λ c. p ∷ c) more.1, more.2)
 
 -- the common front of two strings up to a boundary, and the rest of each
 pub record CommonFront (c d : List ℕ) (at : ℕ) : Type 0 where
@@ -183,14 +156,14 @@ common_front_at_lead_byte : {w v : List ℕ} (h : IsWellFormed w) (k : IsWellFor
 common_front_at_lead_byte {w} {v} h k at same pair =
     let cut = cut_at h at (boundary_from_byte h at (omega (arith, pair.0)) (λ _. record { start = inr (omega (arith, pair.1)) })) in
     let front : bytes cut.front ≡ take at v = ap bytes (sym cut.before_points) ∙ (cut.before.encoded ∙ same) in
-    let more = BeginsWithFront-from_bytes cut.front k.points (drop at v)
+    let more = points_from_bytes cut.front k.points (drop at v)
     (k.encoded ∙ (sym (take-append-drop at v) ∙ ap (λ f. f ++ drop at v) (sym front))) in
     record {
       front = cut.front;
       own = cut.back;
-      others = more.points;
+      others = more.0;
       own_joined = cut.points;
-      others_joined = more.joined;
+      others_joined = more.1;
       front_len = cut.splits.front_len;
     }
 

@@ -11,6 +11,7 @@ use mir.Syntax.{shr, unsigned, bit_and as bit_and_op}
 use mir.Val.{Fits}
 use Rattle.wtf8.specs.Hex.{digit}
 use Rattle.wtf8.proofs.lemmas.codec.Encoding.{encoding_cases}
+use Rattle.wtf8.proofs.lemmas.lanes.AsciiFronts.{Each1-map_all}
 use Rattle.wtf8.proofs.lemmas.codec.Readings.{clean-first, clean-rest}
 
 -- the ASCII digits of 0 to 15
@@ -34,12 +35,16 @@ swz_l-digit_table i (v ∷ values) p h =
     rw (lt-leb 128 v (omega (arith, h.0))) (ap (λ n. get_or digit_table n 0) here ∙ digit_at v h.0) in
     λ j. one j ∷ swz_l-digit_table (suc i) values (omega arith) h.1 j
 
-high_digits-map : (bytes : List ℕ) → length bytes ≡ 16
-    → zip2 (act2 (shr unsigned) (s_int w8) (s_int w8) (s_int w8)) bytes (replicate 16 4) ≡ map (λ b. b / 16) bytes
+abbrev high_digits : List ℕ → List ℕ
+high_digits bytes = zip2 (act2 (shr unsigned) (s_int w8) (s_int w8) (s_int w8)) bytes (replicate 16 4)
+
+abbrev low_digits : List ℕ → List ℕ
+low_digits bytes = zip2 (act2 bit_and_op (s_int w8) (s_int w8) (s_int w8)) bytes (replicate 16 15)
+
+high_digits-map : (bytes : List ℕ) → length bytes ≡ 16 → high_digits bytes ≡ map (λ b. b / 16) bytes
 high_digits-map bytes p = zip2_splat (act2 (shr unsigned) (s_int w8) (s_int w8) (s_int w8)) bytes 16 4 p
 
-low_digits-map : (bytes : List ℕ) → length bytes ≡ 16
-    → zip2 (act2 bit_and_op (s_int w8) (s_int w8) (s_int w8)) bytes (replicate 16 15) ≡ map (λ b. b % 16) bytes
+low_digits-map : (bytes : List ℕ) → length bytes ≡ 16 → low_digits bytes ≡ map (λ b. b % 16) bytes
 low_digits-map bytes p =
     zip2_splat (act2 bit_and_op (s_int w8) (s_int w8) (s_int w8)) bytes 16 15 p ∙ (λ i. map (λ b. and_mask b 4 i) bytes)
 
@@ -47,25 +52,15 @@ map-div_16_below : (bytes : List ℕ) → Each1 (Fits w8) bytes → Each1 (λ v.
 map-div_16_below [] h = tt
 map-div_16_below (b ∷ bytes) h = (omega (arith, h.0.fits), map-div_16_below bytes h.1)
 
-map-mod_16_below : (bytes : List ℕ) → Each1 (λ v. v < 16) (map (λ b. b % 16) bytes)
-map-mod_16_below [] = tt
-map-mod_16_below (b ∷ bytes) = (omega arith, map-mod_16_below bytes)
-
 -- for each lane: a space, its digit in the first vector and its digit in the second
 abbrev interleave_digits : List ℕ → List ℕ
 interleave_digits digits = flat_map (λ k. 32 ∷ get_or digits k 0 ∷ get_or digits (16 + k) 0 ∷ []) (range_with_len 0 16)
-
-abbrev high_digits : List ℕ → List ℕ
-high_digits bytes = zip2 (act2 (shr unsigned) (s_int w8) (s_int w8) (s_int w8)) bytes (replicate 16 4)
-
-abbrev low_digits : List ℕ → List ℕ
-low_digits bytes = zip2 (act2 bit_and_op (s_int w8) (s_int w8) (s_int w8)) bytes (replicate 16 15)
 
 pub highs_below : (bytes : List ℕ) → length bytes ≡ 16 → Each1 (Fits w8) bytes → Each1 (λ v. v < 16) (high_digits bytes)
 highs_below bytes p h = subst (Each1 (λ v. v < 16)) (sym (high_digits-map bytes p)) (map-div_16_below bytes h)
 
 pub lows_below : (bytes : List ℕ) → length bytes ≡ 16 → Each1 (λ v. v < 16) (low_digits bytes)
-lows_below bytes p = subst (Each1 (λ v. v < 16)) (sym (low_digits-map bytes p)) (map-mod_16_below bytes)
+lows_below bytes p = subst (Each1 (λ v. v < 16)) (sym (low_digits-map bytes p)) (Each1-map_all (λ v. v < 16) (λ b. b % 16) (λ b. omega arith) bytes)
 
 -- the interleaved digits of the halves are the spaced text of 16 bytes
 pub block_text : (bytes first second : List ℕ) → length bytes ≡ 16 → first ≡ map digit (high_digits bytes)

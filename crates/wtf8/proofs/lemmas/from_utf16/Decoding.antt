@@ -4,7 +4,7 @@ use Rattle.wtf8.proofs.Common.{None, Some, Result, Ok, Err, refl, sym, ap, ◌�
 use Rattle.wtf8.proofs.Common.{point_of_item, map, decode_steps, ReadsAll, IsClean, IsCodePoint, IsLead, IsTrail, IsReadTo}
 use Rattle.wtf8.proofs.Common.{IsSurrogate, MatchResult, units, pair, MatchOption, IfSome, Bool, IsTrue, ◌≢◌, AreScalar, IsKnownForm, bytes}
 use Rattle.wtf8.proofs.Common.{encoding, map-append, take-append-drop, ◌≤◌, cases_lt, lt-ltb, le-ltb, append_assoc, length-append}
-use Rattle.wtf8.proofs.Common.{length-drop, take_all, DividesPair, MeetsAsPair, copied_steps, iter_steps, iter_rest, common_steps}
+use Rattle.wtf8.proofs.Common.{length-drop, take_all, DividesPair, MeetsAsPair, copied_steps, iter_steps, iter_rest, common_steps, same_from_push, get_or-drop}
 use Rattle.std.proofs.lemmas.List.{drop_more, nil_from_length}
 use Rattle.std.specs.Iterator.{Yields}
 use Rattle.std.specs.Iterator.Adapters.{peekable_source, PeekedOrNext, PeeksNext, copied_source}
@@ -12,13 +12,14 @@ use Rattle.std.specs.declared.iter.Copied.{Copied}
 use Rattle.std.specs.declared.slice.Iter.{Iter}
 use Rattle.std.proofs.Common.{option_copied}
 use Rattle.std.specs.Prelude.{IsSomeAnd}
+use Rattle.std.proofs.Math.Seq.{take-suc}
 use Rattle.std.specs.declared.iter.Ahead.{Ahead}
 use Rattle.wtf8.specs.Unicode.{units_of}
 use Rattle.wtf8.specs.private.Decoding.{DecodesItem}
 use Rattle.wtf8.specs.declared.from_utf16.decode.DecodeUtf16.{DecodeUtf16}
 use Rattle.wtf8.proofs.lemmas.codec.Encoding.{bytes-append}
 use Rattle.wtf8.proofs.lemmas.from_utf16.Transcode.{IsKnownForm-append, undivided-after_no_lead}
-use Rattle.wtf8.proofs.lemmas.codec.Readings.{units_one, units_pair, unpaired-nil_right, unpaired-before_no_trail}
+use Rattle.wtf8.proofs.lemmas.codec.Readings.{lengths_of_one, units_one, units_pair, unpaired-nil_right, unpaired-before_no_trail}
 
 module _ {S A : Type 0} (steps : S → Option A → S → Type 0) where
   -- if each call from `t` is also a call from `s`, draining `t` is draining `s`
@@ -33,22 +34,13 @@ module _ {S A : Type 0} (steps : S → Option A → S → Type 0) where
       (r.0, (r.1.0, (y.0, y.1, r.1.1), r.1.2))
 
 module _ {S : Type 0} (steps : S → Option ℕ → S → Type 0) where
-  MatchOption-equal_step : (p : Option (Option ℕ)) (a b c : S) (r o : Option ℕ) → MatchOption p (steps a o b) (λ k. (o ≡ k) × (b ≡ a))
-      → r ≡ o → c ≡ b → MatchOption p (steps a r c) (λ k. (r ≡ k) × (c ≡ a))
-  MatchOption-equal_step None a b c r o h e f = subst (λ k. steps a k c) (sym e) (subst (λ k. steps a o k) (sym f) h)
-  MatchOption-equal_step (Some k) a b c r o h e f = (e ∙ h.0, f ∙ h.1)
-
   -- a call after a peek yields what it would have yielded before
   peeked_call : (s t u : Ahead S ℕ) (r : Option ℕ) → PeeksNext steps s t → peekable_steps steps t r u → peekable_steps steps s r u
-  peeked_call s t u r h k =
-      let same = subst (λ p. MatchOption p (steps (peekable_source t) r (peekable_source u))
-      (λ o. (r ≡ o) × (peekable_source u ≡ peekable_source t))) h.2 k.1 in
-      (k.0, MatchOption-equal_step (peekable_peeked s) (peekable_source s) (peekable_source t) (peekable_source u) r h.0 h.1 same.0 same.1)
+  peeked_call s t u r h k = grind (arith)
 
   unpeeked_call : (s t : Ahead S ℕ) (r : Option ℕ) → peekable_peeked s ≡ None → PeekedOrNext steps s r t
       → steps (peekable_source s) r (peekable_source t)
-  unpeeked_call s t r e k = subst (λ p. MatchOption p (steps (peekable_source s) r (peekable_source t))
-      (λ o. (r ≡ o) × (peekable_source t ≡ peekable_source s))) e k
+  unpeeked_call s t r e k = grind (arith)
 
   -- if nothing is peeked, the units come from the source
   drains_source : (s : Ahead S ℕ) (xs : List ℕ) → peekable_peeked s ≡ None → Drains (peekable_steps steps) s xs
@@ -61,11 +53,6 @@ module _ {S : Type 0} (steps : S → Option ℕ → S → Type 0) where
       let next = d.1.1.0 in
       let r = drains_source next xs d.1.1.1.0 (d.0, (d.1.0, d.1.1.2, d.1.2)) in
       (r.0, (r.1.0, (peekable_source next, unpeeked_call s next (Some x) e d.1.1.1.1, r.1.1), r.1.2))
-
-  yielded_no_trail : (p : Option (Option ℕ)) (a b : Type 0) (q : ℕ) → IsSomeAnd p (λ o. IfSome o (λ u. ¬ (IsTrail u)))
-      → MatchOption p a (λ o. (Some q ≡ o) × b) → ¬ (IsTrail q)
-  yielded_no_trail None a b q h e = absurd h
-  yielded_no_trail (Some o) a b q h e = subst (λ k. IfSome k (λ u. ¬ (IsTrail u))) (sym e.0) h
 
   item_range : (x : Result ℕ ℕ) → MatchResult x (λ c. IsCodePoint c × ¬ (IsSurrogate c)) IsSurrogate → IsCodePoint (point_of_item x)
   item_range (Ok c) kind = kind.0
@@ -81,7 +68,7 @@ module _ {S : Type 0} (steps : S → Option ℕ → S → Type 0) where
       → Drains (peekable_steps steps) s (units (q ∷ d)) → ¬ (IsTrail q)
   lone_lead s q d lone drains trail =
       let first = subst (λ u. Drains (peekable_steps steps) s u) (ap (λ u. u ++ units d) (units_one q (omega (arith, trail)))) drains in
-      yielded_no_trail (peekable_peeked s) _ _ q lone first.1.1.1.1 trail
+      grind (arith, first.1.1.1.1)
 
   pub record ReadsLeft (s : Ahead S ℕ) (items : List (Result ℕ ℕ)) : Type 0 where
     pub clean : IsClean (map point_of_item items)
@@ -112,23 +99,13 @@ module _ {S : Type 0} (steps : S → Option ℕ → S → Type 0) where
       let r = reads_left items s d in
       record { clean = r.clean; all_units = drains_source s.units (units (map point_of_item items)) e r.all_units }
 
-  -- the units of one item were taken: one unit, or a pair
-  pub takes_one : (s t : Ahead S ℕ) (u p : ℕ) → p ≡ u → u < 0x10000 → peekable_steps steps s (Some u) t
-      → Yields (peekable_steps steps) s (units_of p) t
-  takes_one s t u p e h k = subst (λ us. Yields (peekable_steps steps) s us t) (sym (ap units_of e ∙ units_one u h)) (t, k, refl)
-
-  pub takes_two : (s m t : Ahead S ℕ) (l u p : ℕ) → p ≡ pair l u → IsLead l → IsTrail u → peekable_steps steps s (Some l) m
-      → peekable_steps steps m (Some u) t → Yields (peekable_steps steps) s (units_of p) t
-  takes_two s m t l u p e lead trail h k =
-      subst (λ us. Yields (peekable_steps steps) s us t) (sym (ap units_of e ∙ units_pair l u lead trail)) (m, h, (t, k, refl))
-
   -- a unit that is no lead is one item
   pub item_of_unit : (s t : Ahead S ℕ) (u : ℕ) (x : Result ℕ ℕ) → MatchResult x (λ c. IsCodePoint c × ¬ (IsSurrogate c)) IsSurrogate
       → point_of_item x ≡ u → u < 0x10000 → ¬ (IsLead u) → peekable_steps steps s (Some u) t → DecodesItem steps s x t
   item_of_unit s t u x kind point range not_lead k = record {
     kind = kind;
     after = t;
-    taken = takes_one s t u (point_of_item x) point range k;
+    taken = rw (point, units_one u range) (t, k, refl);
     held = inl refl;
     lone = λ lead. absurd (not_lead (subst IsLead point lead));
   }
@@ -162,45 +139,18 @@ slice_left-yields (x ∷ us) s t n y =
     let r = slice_left-yields us m t y.1.0 y.2 in
     (unit_left (peekable_source s) (peekable_source m) (Some x) (unpeeked_call steps s m (Some x) n y.1.1) ∙ ap (λ w. x ∷ w) r.0, r.1)
 
--- the number of units of a code point
-pub length-units_of : (p n : ℕ) → (p < 0x10000 → n ≡ 1) → (0x10000 ≤ p → n ≡ 2) → n ≡ length (units_of p)
-unfolding units_of
-length-units_of p n one two = grind (arith, cases_lt, lt-ltb, le-ltb)
-
 -- the first code point `p` of the units from index `at` on, and the index `end` after its units
 pub record IsFirstRead (v : List ℕ) (at end p : ℕ) : Type 0 where
   pub within : end ≤ length v
   pub divides_no_pair : ¬ (DividesPair v end)
   pub reads : Reads (p ∷ []) (take (end - at) (drop at v))
 
-undivided-before_no_trail : (v : List ℕ) (at : ℕ) → (at + 1 < length v → ¬ (IsTrail (get_or v (at + 1) 0))) → ¬ (DividesPair v (at + 1))
-undivided-before_no_trail v at no_trail = elim (cases_lt (at + 1) (length v)) [
-  | inl l ↦ subst (λ d. ¬ (MeetsAsPair (take (at + 1) v) d)) (sym (drop_more v (at + 1) 0 l))
-      (unpaired-before_no_trail (get_or v (at + 1) 0) (drop (at + 1 + 1) v) (no_trail l))
-  | inr g ↦ subst (λ d. ¬ (MeetsAsPair (take (at + 1) v) d))
-      (sym (nil_from_length (drop (at + 1) v) (omega (arith, g, length-drop (at + 1) v)))) unpaired-nil_right
-]
-
--- a unit after which no pair is divided is read alone
-IsFirstRead-single : (v : List ℕ) (at : ℕ) → at < length v → get_or v at 0 < 0x10000 → ¬ (DividesPair v (at + 1))
-    → IsFirstRead v at (at + 1) (get_or v at 0)
-IsFirstRead-single v at l h divides = grind (arith, drop_more, append-nil, units_one)
-
--- a unit that is no surrogate is one code point
-pub IsFirstRead-unit : (v : List ℕ) (at : ℕ) → at < length v → get_or v at 0 < 0x10000 → ¬ (IsSurrogate (get_or v at 0))
-    → IsFirstRead v at (at + 1) (get_or v at 0)
-IsFirstRead-unit v at l h not_surrogate = grind (arith, IsFirstRead-single, undivided-after_no_lead)
-
--- a lone surrogate is read alone: a trail, or a lead that no trail follows
-pub IsFirstRead-lone : (v : List ℕ) (at : ℕ) → at < length v → get_or v at 0 < 0x10000
+-- one unit is read alone: no surrogate, a trail, or a lead that no trail follows
+pub IsFirstRead-unit : (v : List ℕ) (at : ℕ) → at < length v → get_or v at 0 < 0x10000
     → (IsLead (get_or v at 0) → at + 1 < length v → ¬ (IsTrail (get_or v (at + 1) 0))) → IsFirstRead v at (at + 1) (get_or v at 0)
-IsFirstRead-lone v at l h lone = IsFirstRead-single v at l h (elim (cases_lt (get_or v at 0) 0xD800) [
-  | inl low ↦ undivided-after_no_lead v at l (λ k. omega (arith, k.0, low))
-  | inr from ↦ elim (cases_lt (get_or v at 0) 0xDC00) [
-    | inl to ↦ undivided-before_no_trail v at (lone (omega (arith, from), omega (arith, to)))
-    | inr high ↦ undivided-after_no_lead v at l (λ k. omega (arith, k.1, high))
-  ]
-])
+IsFirstRead-unit v at l h lone =
+    let divides : ¬ (DividesPair v (at + 1)) = λ m. grind (arith, common_steps, take-suc, same_from_push, get_or-drop, length-drop) in
+    grind (arith, drop_more, append-nil, units_one)
 
 -- a lead and the trail after it are read together
 pub IsFirstRead-pair : (v : List ℕ) (at : ℕ) → at + 1 < length v → IsLead (get_or v at 0) → IsTrail (get_or v (at + 1) 0)
@@ -227,14 +177,9 @@ no_item v at items s k t x none rest y item nothing = from items y
 
     begun : (q : Result ℕ ℕ) (m : DecodeUtf16 (Copied (Iter ℕ))) → ¬ (DecodesItem steps s.units q m.units)
     begun q m i =
-        let us = units_of (point_of_item q) in
-        let got = slice_left-yields us s.units i.after none i.taken in
-        let one = length-units_of (point_of_item q) in
-        let none_left : length us + length (slice_left i.after) ≡ 0 = grind (arith, length-append, length-drop) in
-        elim (cases_lt (point_of_item q) 0x10000) [
-          | inl l ↦ omega (arith, none_left, one 1 (λ _. refl) (λ g. omega (arith, g, l)))
-          | inr g ↦ omega (arith, none_left, one 2 (λ l. omega (arith, g, l)) (λ _. refl))
-        ]
+        let got = slice_left-yields (units_of (point_of_item q)) s.units i.after none i.taken in
+        omega (arith, (lengths_of_one (point_of_item q)).0, ap length (sym got.0 ∙ whole), ap length nothing, length-drop at v,
+        length-append (units_of (point_of_item q)) (slice_left i.after))
 
     from : (items : List (Result ℕ ℕ)) → ¬ (Yields (decode_steps steps) s items k)
     from [] y = begun x t (subst (λ k. DecodesItem steps k.units x t.units) (sym y) item)

@@ -19,10 +19,7 @@ use Rattle.wtf8.proofs.lemmas.codec.Scalars.{IsKnownForm-ascii, scalar-append}
 each_unset : (p : ℕ → Bool) (P Q : ℕ → Type 0) → ((x : ℕ) → P x → p x ≡ false → Q x) → (xs : List ℕ) → Each1 P xs → mask_l (map p xs) ≡ 0
     → Each1 Q xs
 each_unset p P Q h [] f e = tt
-each_unset p P Q h (x ∷ xs) f e = elim (cases_Bool (p x)) [
-  | inl t ↦ absurd (omega (arith, rw t at e))
-  | inr u ↦ (h x f.0 u, each_unset p P Q h xs f.1 (omega (arith, rw u at e)))
-]
+each_unset p P Q h (x ∷ xs) f e = grind (arith, cases_Bool, h x f.0, each_unset p P Q h xs f.1)
 
 -- if the mask is 0, no unit is a surrogate
 pub none_surrogate : (xs : List ℕ) → length xs ≡ 8 → Each1 (Fits w16) xs
@@ -74,33 +71,25 @@ IsReadTo-append {w} {new} {u} {part} {at} {end} {known} {more} x order within di
           (subst (λ z. IsKnownForm (w ++ part) z (known && more)) (sym (ap (λ k. take k u) count ∙ take-add at (end - at) u)) whole);
     }
 
--- the first `k` of `n` units, with no lone surrogate and no lead at their end, are encoded after their form was appended
-scalars_read : {w new u part : List ℕ} {at : ℕ} {known : Bool} (k n : ℕ) → IsReadTo w u at known → k ≤ n → at + n ≤ length u
-    → ((j : ℕ) → j + 1 ≡ k → ¬ (IsLead (get_or (take n (drop at u)) j 0))) → new ≡ w ++ part
-    → IsKnownForm part (take k (take n (drop at u))) true → IsReadTo new u (at + k) known
-scalars_read {w} {new} {u} {part} {at} {known} k n x few within last after form =
-    let same : take k (take n (drop at u)) ≡ take (at + k - at) (drop at u) = grind (arith, take-take) in
-    subst (IsReadTo new u (at + k)) (and-true known) (IsReadTo-append x (omega arith) (omega (arith, few, within))
-    (divides_no_pair k few last) after (subst (λ v. IsKnownForm part v true) same form))
-  where
-    divides_no_pair : (k : ℕ) → k ≤ n → ((j : ℕ) → j + 1 ≡ k → ¬ (IsLead (get_or (take n (drop at u)) j 0))) → ¬ (DividesPair u (at + k))
-    divides_no_pair zero few h = let here : at ≡ at + 0 = omega arith in subst (λ k. ¬ (DividesPair u k)) here x.divides_no_pair
-    divides_no_pair (suc j) few h =
-        let here : at + j + 1 ≡ at + suc j = omega arith in
-        let same = get_or-take n (drop at u) j 0 (omega (arith, few)) ∙ get_or-drop at u j 0 in
-        subst (λ k. ¬ (DividesPair u k)) here (undivided-after_no_lead u (at + j) (omega (arith, few, within))
-        (λ l. h j (omega arith) (omega (arith, same, l.0), omega (arith, same, l.1))))
-
 -- `n` units appended as bytes, FF for each above it, then cut after the first `k`: if these are ASCII, they are encoded
 pub front_read : {w long new u low : List ℕ} {at : ℕ} {known : Bool} (k n end : ℕ) → IsReadTo w u at known → k ≤ n → at + n ≤ length u
     → low ≡ map (λ n. min n 0xFF) (take n (drop at u)) → AreAscii (take k low) → long ≡ w ++ low → end ≡ length w + k → new ≡ take end long
     → IsReadTo new u (at + k) known
-front_read {w = w} {u = u} {low = low} {at = at} k n end x few within saturated ascii longer cut front =
+front_read {w = w} {new = new} {u = u} {low = low} {at = at} {known = known} k n end x few within saturated ascii longer cut front =
     let block = take n (drop at u) in
     let kept : take k low ≡ take k block = ap (take k) saturated ∙ saturated_front k block (subst AreAscii (ap (take k) saturated) ascii) in
     let own : AreAscii (take k block) = subst AreAscii kept ascii in
-    let last = λ (j : ℕ) (e : j + 1 ≡ k).
-    Each1-get_or (λ n. n < 0x80) (take k block) j 0 (omega (arith, e, few, length-chunk at n u within, length-take k block)) own in
     let after = front ∙ ap (take end) longer ∙ ap (λ m. take m (w ++ low)) cut ∙ take-append-add w low k ∙ ap (λ v. w ++ v) kept in
-    scalars_read k n x few within (λ j e l. omega (arith, last j e, get_or-take k block j 0 (omega (arith, e)), l.0)) after
-    (IsKnownForm-ascii (take k block) own)
+    let same : take k block ≡ take (at + k - at) (drop at u) = grind (arith, take-take) in
+    subst (IsReadTo new u (at + k)) (and-true known) (IsReadTo-append x (omega arith) (omega (arith, few, within)) (divides k few own) after
+    (subst (λ v. IsKnownForm (take k block) v true) same (IsKnownForm-ascii (take k block) own)))
+  where
+    divides : (k : ℕ) → k ≤ n → AreAscii (take k (take n (drop at u))) → ¬ (DividesPair u (at + k))
+    divides zero few own = let here : at ≡ at + 0 = omega arith in subst (λ k. ¬ (DividesPair u k)) here x.divides_no_pair
+    divides (suc j) few own =
+        let here : suc (at + j) ≡ at + suc j = omega arith in
+        let low = Each1-get_or (λ n. n < 0x80) (take (suc j) (take n (drop at u))) j 0 (omega (arith, few, length-chunk at n u within,
+        length-take (suc j) (take n (drop at u)))) own in
+        let unit = get_or-take (suc j) (take n (drop at u)) j 0 (omega arith) ∙ get_or-take n (drop at u) j 0 (omega (arith, few))
+        ∙ get_or-drop at u j 0 in
+        subst (λ k. ¬ (DividesPair u k)) here (undivided-after_no_lead u (at + j) (omega (arith, few, within)) (λ l. omega (arith, low, unit, l.0)))

@@ -22,11 +22,7 @@ module _ (w : Width) (n : ℕ) (xs : List ℕ) (few : n ≤ 64) (long : length x
   AreAscii-take k le none = Each1-from_get_or (λ n. n < 0x80) (take k xs) 0 (λ i lt.
       let inside : i < k = omega (arith, lt, length-take k xs) in
       let lane = get_or-map (leb 0x80) xs i 0 false (omega (arith, inside, le, long)) in
-      let low : get_or xs i 0 < 0x80 = elim (cases_lt (get_or xs i 0) 0x80) [
-        | inl l ↦ l
-        | inr g ↦ absurd (none i (omega arith) inside (lane ∙ le-leb 0x80 _ g))
-      ] in
-      subst (λ n. n < 0x80) (sym (get_or-take k xs i 0 inside)) low)
+      grind (arith, get_or-take, le-leb, cases_lt, none i (omega arith) inside, lane))
 
   pub ascii_before : (r : Option ℕ) → IsFirstSet non_ascii_mask r → (unwrap_or r n ≤ n) × AreAscii (take (unwrap_or r n) xs)
   ascii_before r first = by r (first n (map (leb 0x80) xs) few (length-map xs (leb 0x80) ∙ long) non_ascii_mask-mask_l)

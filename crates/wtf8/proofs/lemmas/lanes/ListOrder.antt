@@ -16,10 +16,7 @@ pub slice_cmp-less : (c d : List ℕ) → Before c d → slice_cmp nat_cmp c d �
 slice_cmp-less [] [] h = absurd h
 slice_cmp-less [] (y ∷ ys) h = refl
 slice_cmp-less (x ∷ xs) [] h = absurd h
-slice_cmp-less (x ∷ xs) (y ∷ ys) h = elim h [
-  | inl l ↦ ap (λ o. ordering_then o (slice_cmp nat_cmp xs ys)) (cmp_less x y l)
-  | inr e ↦ rw (← e.0, tied_itself nat_cmp_total x) (slice_cmp-less xs ys e.1)
-]
+slice_cmp-less (x ∷ xs) (y ∷ ys) h = grind (arith, cmp_less, tied_itself, nat_cmp_total, slice_cmp-less xs ys)
 
 pub slice_cmp-greater : (c d : List ℕ) → Before d c → slice_cmp nat_cmp c d ≡ Greater
 slice_cmp-greater c d h = nat_list_cmp_total.antisymm c d ∙ ap ordering_reverse (slice_cmp-less d c h)

@@ -79,24 +79,17 @@ quotients_before_first d y (suc n) (suc m) (x ∷ xs) long le none = (
   quotients_before_first d y n m xs (omega arith) (omega arith) (λ k _ l. none (suc k) (omega arith) (omega arith)),
 )
 
--- the first `count` lanes have the quotient `y` by `d`
-pub record LeadingHavePrefix (d y n : ℕ) (xs : List ℕ) (count : ℕ) : Type 0 where
-  pub within : count ≤ n
-  pub each : Each1 (λ b. b / d ≡ y) (take count xs)
-
-pub LeadingHavePrefix-first_set : (d y n : ℕ) (xs : List ℕ) → n ≤ 64 → length xs ≡ n → (r : Option ℕ)
+-- the lanes before the first set bit have the quotient `y` by `d`
+pub quotients_leading : (d y n : ℕ) (xs : List ℕ) → n ≤ 64 → length xs ≡ n → (r : Option ℕ)
     → IsFirstSet (mask_l (map (top 7) (zip2 (λ a b. cond (not (eqb a b)) 255 0) (quotients d n xs) (replicate n y))) % 2 ^ 64) r
-    → LeadingHavePrefix d y n xs (unwrap_or r n)
-LeadingHavePrefix-first_set d y n xs few long r first = by r (first n (unequal_quotients d y n xs) few lanes
+    → (unwrap_or r n ≤ n) × Each1 (λ b. b / d ≡ y) (take (unwrap_or r n) xs)
+quotients_leading d y n xs few long r first = by r (first n (unequal_quotients d y n xs) few lanes
     (ap (λ ms. mask_l ms % 2 ^ 64) (tops_compared w8 (λ a b. not (eqb a b)) (quotients d n xs) (replicate n y))))
   where
     lanes : length (unequal_quotients d y n xs) ≡ n
-    lanes =
-        let divided = length-zip2 (λ a b. a / b) xs (replicate n d) (long ∙ sym (length-replicate n d)) in
-        length-zip2 (λ a b. not (eqb a b)) (quotients d n xs) (replicate n y) (divided ∙ (long ∙ sym (length-replicate n y)))
-        ∙ (divided ∙ long)
+    lanes = grind (arith, length-zip2, length-replicate)
 
-    by : (r : Option ℕ) → IsFirstIn (IsSet (unequal_quotients d y n xs)) 0 n r → LeadingHavePrefix d y n xs (unwrap_or r n)
-    by None none = record { within = omega arith; each = quotients_before_first d y n n xs long (omega arith) none }
-    by (Some k) h =
-        record { within = omega (arith, h.1); each = quotients_before_first d y n k xs long (omega (arith, h.1)) h.0.none_between }
+    by : (r : Option ℕ) → IsFirstIn (IsSet (unequal_quotients d y n xs)) 0 n r
+        → (unwrap_or r n ≤ n) × Each1 (λ b. b / d ≡ y) (take (unwrap_or r n) xs)
+    by None none = (omega arith, quotients_before_first d y n n xs long (omega arith) none)
+    by (Some k) h = (omega (arith, h.1), quotients_before_first d y n k xs long (omega (arith, h.1)) h.0.none_between)

@@ -3,7 +3,7 @@ use Rattle.wtf8.proofs.Common.{◌≡◌, ◌≢◌, ◌↔◌, ℕ, zero, suc, 
 use Rattle.wtf8.proofs.Common.{ap, subst, arith, List, [], ◌∷◌, ◌∙◌, map, length, get_or, nat_eq, take, take_all, cases_Bool, both_ways}
 use Rattle.wtf8.proofs.Common.{eq-eqb, eqb-true, length-chunk, get_or-chunk, get_or-zip2, length-zip2, tops_compared, mask_l, w8, None}
 use Rattle.wtf8.proofs.Common.{Some, Option, ◌%◌, ◌^◌, pointwise, bytes_decides, chunk, zip2, top, IsLeast, NoneIn, not-true, MatchOption}
-use Rattle.wtf8.proofs.Common.{DifferAt, DecidesNone, IsFirstSet, IsSet}
+use Rattle.wtf8.proofs.Common.{DifferAt, DecidesNone, IsFirstSet, IsSet, false_from_ne_true}
 use Rattle.std.proofs.lemmas.Bool.Decides.{same_from_decides}
 use Rattle.wtf8.proofs.lemmas.lanes.Masks.{first_at_offset, lowest_set, none_set}
 
@@ -22,9 +22,7 @@ module _ (n : ℕ) (w v : List ℕ) (i : ℕ) (few : n ≤ 64) (own : i + n ≤ 
   unequal_mask = mask_l (map (top 7) (zip2 (λ a b. cond (is_unequal a b) 255 0) (chunk i n w) (chunk i n v))) % 2 ^ 64
 
   length-unequal_lanes : length unequal_lanes ≡ n
-  length-unequal_lanes =
-      let one = length-chunk i n w own in
-      length-zip2 is_unequal (chunk i n w) (chunk i n v) (one ∙ sym (length-chunk i n v others)) ∙ one
+  length-unequal_lanes = grind (arith, length-zip2, length-chunk)
 
   unequal_mask-mask_l : unequal_mask ≡ mask_l unequal_lanes % 2 ^ 64
   unequal_mask-mask_l = ap (λ ms. mask_l ms % 2 ^ 64) (tops_compared w8 is_unequal (chunk i n w) (chunk i n v))
@@ -68,17 +66,8 @@ take-before_mismatch (suc n) (x ∷ w) (y ∷ v) p q h = elim (cases_Bool (eqb x
 -- a Boolean that is true exactly if lists of equal length have no mismatch is the result of their comparison
 pub pointwise-from_no_mismatch : (b : Bool) (w v : List ℕ) → length w ≡ length v → DecidesNone (DifferAt w v) 0 (length w) b
     → b ≡ pointwise nat_eq w v
-pointwise-from_no_mismatch b w v long h = same_from_decides b (pointwise nat_eq w v) (to b h, from b h) (bytes_decides w v)
-  where
-    whole : NoneIn (DifferAt w v) 0 (length w) → w ≡ v
-    whole none =
-        let front = take-before_mismatch (length w) w v (omega arith) (omega arith) none in
-        sym (take_all (length w) w (omega arith)) ∙ (front ∙ take_all (length w) v (omega arith))
-
-    to : (b : Bool) → DecidesNone (DifferAt w v) 0 (length w) b → IsTrue b → w ≡ v
-    to true none t = whole none
-    to false found t = absurd (both_ways _ refl t)
-
-    from : (b : Bool) → DecidesNone (DifferAt w v) 0 (length w) b → w ≡ v → IsTrue b
-    from true none e = refl
-    from false found e = absurd (found (λ j _ _ d. d (ap (λ w. get_or w j 0) e)))
+pointwise-from_no_mismatch true w v long none =
+    let front = take-before_mismatch (length w) w v (omega arith) (omega arith) none in
+    sym ((bytes_decides w v).1 (sym (take_all (length w) w (omega arith)) ∙ (front ∙ take_all (length w) v (omega arith))))
+pointwise-from_no_mismatch false w v long found =
+    sym (false_from_ne_true _ (λ t. found (λ j _ _ d. d (ap (λ w. get_or w j 0) ((bytes_decides w v).0 t)))))

@@ -4,6 +4,7 @@ use Rattle.wtf8.proofs.Common.{zero, Bool, true, cond, length, arith, lt-ltb, le
 use Rattle.wtf8.proofs.Common.{◌≡◌, ℕ, suc, ◌+◌, ◌<◌, ◌≤◌, ltb, leb, List, [], ◌∷◌, map, w8, sym, ap, ◌∙◌, zip2, top, ◌||◌, Fits, refl, w16}
 use lib.Lanes.{Steps}
 use Rattle.wtf8.specs.private.UnitsInBytes.{utf16_len}
+use Rattle.wtf8.proofs.lemmas.lanes.AsciiFronts.{Each1-map_all}
 use Rattle.wtf8.proofs.lemmas.lanes.SurrogateLanes.{lane_of_bool}
 
 pub utf16_len-ascii : (b : ℕ) → b < 0x80 → utf16_len b ≡ 1
@@ -42,19 +43,10 @@ abbrev pub unit_count_lanes : ℕ → List ℕ → List ℕ
 unit_count_lanes n xs =
     zip2 (λ a b. a + b) (ones_in_set_lanes n (ascii_or_lead_lanes n xs)) (ones_in_set_lanes n (four_byte_lead_lanes n xs))
 
-top-bit_or : (a b : Bool) → top 7 (bit_or (lane_of_bool a) (lane_of_bool b)) ≡ a || b
-top-bit_or a b = grind (arith)
-
-top-lane_of_bool : (a : Bool) → top 7 (lane_of_bool a) ≡ a
-top-lane_of_bool a = grind (arith)
-
-utf16_len-from_tests : (x : ℕ) → cond (ltb x 0x80 || leb 0xC0 x) 1 0 + cond (leb 0xF0 x) 1 0 ≡ utf16_len x
-unfolding utf16_len
-utf16_len-from_tests x = grind (arith, nat_tests)
-
 utf16_len-from_lanes : (x : ℕ) → cond (top 7 (bit_or (lane_of_bool (ltb x 0x80)) (lane_of_bool (leb 0xC0 x)))) 1 0 + cond
     (top 7 (lane_of_bool (leb 0xF0 x))) 1 0 ≡ utf16_len x
-utf16_len-from_lanes x = rw (top-bit_or (ltb x 0x80) (leb 0xC0 x), top-lane_of_bool (leb 0xF0 x)) (utf16_len-from_tests x)
+unfolding utf16_len
+utf16_len-from_lanes x = grind (arith, nat_tests)
 
 pub unit_count_lanes-utf16_len : (n : ℕ) (xs : List ℕ) → length xs ≡ n → unit_count_lanes n xs ≡ map utf16_len xs
 unit_count_lanes-utf16_len n [] e = refl
@@ -72,8 +64,7 @@ pub lanes_fit : (n : ℕ) (ms ks : List Bool) → Each2 (λ a b. Fits w8 (a + b)
 lanes_fit n ms ks = grind (arith, Each2-of, ones_at_most_one)
 
 utf16_lens_at_most_two : (xs : List ℕ) → Each1 (λ a. a ≤ 2) (map utf16_len xs)
-utf16_lens_at_most_two [] = tt
-utf16_lens_at_most_two (x ∷ xs) = (utf16_len_at_most_two x, utf16_lens_at_most_two xs)
+utf16_lens_at_most_two = Each1-map_all (λ a. a ≤ 2) utf16_len utf16_len_at_most_two
 
 sum_l-utf16_len : (xs : List ℕ) → sum_l (map utf16_len xs) ≡ sum_utf16_len xs
 sum_l-utf16_len [] = refl

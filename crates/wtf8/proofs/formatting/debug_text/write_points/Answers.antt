@@ -5,9 +5,6 @@ use Rattle.wtf8.proofs.formatting.debug_text.write_points.Goals as goal
 pub loop-code_point-init : goal.loop-code_point-init
 loop-code_point-init g c = Continues-start (flat_map escape_surrogate c.args.text.well_formed.points)
 
-pub loop-code_point-smaller : goal.loop-code_point-smaller
-loop-code_point-smaller g c = omega (arith, ap length c.in-Some.ensures.some)
-
 pub loop-code_point-preserved : goal.loop-code_point-preserved
 loop-code_point-preserved g c = λ flush.
     let before = c.loop-code_point.invariant flush in

@@ -1,6 +1,6 @@
 use Rattle.wtf8.proofs.Common.{false≢true, refl, ◌∙◌, ◌+◌, ◌-◌, ◌<◌, [], ◌∷◌, arith, drop, get_or, length, sym, subst, take, Reads, IsLead}
 use Rattle.wtf8.proofs.Common.{IsTrail}
-use Rattle.wtf8.proofs.lemmas.from_utf16.Decoding.{IsFirstRead-lone, IsFirstRead-pair, IsFirstRead-unit}
+use Rattle.wtf8.proofs.lemmas.from_utf16.Decoding.{IsFirstRead-pair, IsFirstRead-unit}
 use Rattle.wtf8.proofs.from_utf16.decode.read_point.Goals.{else-unit-le-LAST_LEAD-via-then-unit-le-LAST_LEAD+then-at-v+else-is_trail_unit}
 use Rattle.wtf8.proofs.from_utf16.decode.read_point.Goals.{else-unit-le-LAST_LEAD-via-then-unit-le-LAST_LEAD+else-at-v}
 use Rattle.wtf8.proofs.from_utf16.decode.read_point.Goals.{else-unit-le-LAST_LEAD-via-else-unit-le-LAST_LEAD}
@@ -9,7 +9,7 @@ use Rattle.wtf8.proofs.from_utf16.decode.read_point.Goals as goal
 pub returns-then-unit-lt-FIRST_LEAD-clause-reads : goal.returns-then-unit-lt-FIRST_LEAD-clause-reads
 returns-then-unit-lt-FIRST_LEAD-clause-reads c = subst (λ p. Reads (p ∷ [])
     (take (c.args.at + 1 - c.args.at) (drop c.args.at c.args.v.now))) (sym c.point_of_unit.ensures) (IsFirstRead-unit c.args.v.now c.args.at
-    c.requires (omega (arith, (c.type_inv.v c.args.at).fits)) (λ s. omega (arith, s.0, s.1, c.then-unit-lt-FIRST_LEAD.either))).reads
+    c.requires (omega (arith, (c.type_inv.v c.args.at).fits)) (λ l. omega (arith, l, c.then-unit-lt-FIRST_LEAD.either))).reads
 
 pub returns-then-is_trail_unit-clause-reads : goal.returns-then-is_trail_unit-clause-reads
 returns-then-is_trail_unit-clause-reads c = subst (λ p. Reads (p ∷ []) (take (c.args.at + 2 - c.args.at) (drop c.args.at c.args.v.now)))
@@ -18,12 +18,6 @@ returns-then-is_trail_unit-clause-reads c = subst (λ p. Reads (p ∷ []) (take 
 
 pub returns-clause-reads : goal.returns-clause-reads
 returns-clause-reads c =
-    let no_trail : IsLead (get_or c.args.v.now c.args.at 0) → c.args.at + 1 < length c.args.v.now
-    → ¬ (IsTrail (get_or c.args.v.now (c.args.at + 1) 0)) = λ lead within. elim c.else-unit-le-LAST_LEAD.branch [
-      | else-unit-le-LAST_LEAD-via-then-unit-le-LAST_LEAD+then-at-v+else-is_trail_unit w ↦
-          λ t. absurd (false≢true (w.if-is_trail_unit.ensures.1 t))
-      | else-unit-le-LAST_LEAD-via-then-unit-le-LAST_LEAD+else-at-v w ↦ absurd (omega (arith, within, w.if-at-v.false))
-      | else-unit-le-LAST_LEAD-via-else-unit-le-LAST_LEAD w ↦ absurd (omega (arith, lead.1, w.if-unit-le-LAST_LEAD.false))
-    ] in
     subst (λ p. Reads (p ∷ []) (take (c.args.at + 1 - c.args.at) (drop c.args.at c.args.v.now))) (sym c.point_of_unit-2.ensures)
-    (IsFirstRead-lone c.args.v.now c.args.at c.requires (omega (arith, (c.type_inv.v c.args.at).fits)) no_trail).reads
+    (IsFirstRead-unit c.args.v.now c.args.at c.requires (omega (arith, (c.type_inv.v c.args.at).fits))
+    (λ lead within t. grind (arith, false≢true, c.else-unit-le-LAST_LEAD.branch))).reads

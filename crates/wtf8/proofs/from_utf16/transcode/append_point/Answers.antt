@@ -10,7 +10,7 @@ returns-then-unit-lt2048-clause-read g c =
     let at = c.args.from.at in
     let point = number c.point_of_unit.result in
     let unit =
-    IsFirstRead-unit v at c.requires.within (omega (arith, c.if-unit-lt2048.true)) (λ s. omega (arith, s.0, c.if-unit-lt2048.true)) in
+    IsFirstRead-unit v at c.requires.within (omega (arith, c.if-unit-lt2048.true)) (λ l. omega (arith, l.0, c.if-unit-lt2048.true)) in
     subst (IsReadTo c.append.new.bytes.items v (at + 1)) (and-true c.args.from.is_utf8)
     (IsReadTo-append c.requires.read (omega arith) unit.within unit.divides_no_pair c.in_ok-append.ensures.ok (record {
       form = record {

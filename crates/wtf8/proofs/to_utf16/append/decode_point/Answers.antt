@@ -1,5 +1,5 @@
 use Rattle.wtf8.proofs.Common.{◌≡◌, ℕ, ◌+◌, ◌<◌, ◌≤◌, List, [], ◌∷◌, encoding, IsWellFormed, ap, arith, length, number, subst, sym}
-use Rattle.wtf8.proofs.Common.{take, length-drop, ◌∙◌, units, BeginsWithPoint, BeginsWithUnits, FirstPointIs}
+use Rattle.wtf8.proofs.Common.{take, drop, length-drop, ◌∙◌, units, BeginsWithPoint, BeginsWithUnits, FirstPointIs}
 use Rattle.wtf8.proofs.lemmas.codec.Readings.{first_of, units_one, units_two}
 use Rattle.wtf8.proofs.lemmas.to_utf16.Blocks.{ReadUnits, read_units}
 use Rattle.wtf8.proofs.to_utf16.append.decode_point.Goals as goal
@@ -57,22 +57,14 @@ write_units-requires-in_default c =
     begins in
     (omega arith, (omega arith, (omega (arith, c.requires.room, ap length (begins view.well_formed).1), ((omega arith, r.within), all))))
 
+-- a code point takes at least one byte
+shorter : {w v : List ℕ} {p n : ℕ} → ReadUnits w p n → v ≡ drop n w → length v < length w
+shorter {w} {n = n} r e = omega (arith, r.positive, r.within, ap length e, length-drop n w)
+
 pub returns-then-value-lt65536-clause-shorter : goal.returns-then-value-lt65536-clause-shorter
-returns-then-value-lt65536-clause-shorter c =
-    let view = c.args.left.view in
-    let r =
-    first_point_read view.well_formed (number c.read-width.result.0) c.read-width.result.1 c.requires.nonempty c.read-width.ensures in
-    omega (
-      arith,
-      r.positive,
-      r.within,
-      ap length c.write_units-then-value-lt65536.ensures.bytes,
-      length-drop c.read-width.result.1 view.bytes.now,
-    )
+returns-then-value-lt65536-clause-shorter c = shorter (first_point_read c.args.left.view.well_formed _ _ c.requires.nonempty
+    c.read-width.ensures) c.write_units-then-value-lt65536.ensures.bytes
 
 pub returns-else-value-lt65536-clause-shorter : goal.returns-else-value-lt65536-clause-shorter
-returns-else-value-lt65536-clause-shorter c =
-    let view = c.args.left.view in
-    let r =
-    first_point_read view.well_formed (number c.read-width.result.0) c.read-width.result.1 c.requires.nonempty c.read-width.ensures in
-    omega (arith, r.positive, r.within, ap length c.write_units-in_default.ensures.bytes, length-drop c.read-width.result.1 view.bytes.now)
+returns-else-value-lt65536-clause-shorter c = shorter (first_point_read c.args.left.view.well_formed _ _ c.requires.nonempty
+    c.read-width.ensures) c.write_units-in_default.ensures.bytes

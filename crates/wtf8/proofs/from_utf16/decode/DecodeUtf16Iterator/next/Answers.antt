@@ -1,6 +1,7 @@
-use Rattle.wtf8.proofs.Common.{◌<◌, rules, refl, inl, inr, sym, subst, arith, Some, peekable_steps, peekable_peeked, IsLead, IsTrail}
-use Rattle.wtf8.proofs.Common.{true≢false}
-use Rattle.wtf8.proofs.lemmas.from_utf16.Decoding.{item_of_unit, takes_one, takes_two, peeked_no_trail}
+use Rattle.wtf8.proofs.Common.{◌<◌, rules, refl, inl, inr, sym, subst, arith, Some, peekable_steps, peekable_peeked, IsLead}
+use Rattle.wtf8.proofs.Common.{IsTrail, true≢false}
+use Rattle.wtf8.proofs.lemmas.codec.Readings.{units_one, units_pair}
+use Rattle.wtf8.proofs.lemmas.from_utf16.Decoding.{item_of_unit, peeked_no_trail}
 use Rattle.wtf8.proofs.from_utf16.decode.DecodeUtf16Iterator.next.Goals as goal
 
 pub returns-in-Some-clause-steps : goal.returns-in-Some-clause-steps
@@ -15,8 +16,8 @@ returns-in-Some-clause-steps g c =
     record {
       kind = (omega (arith, c.char_of_pair.ensures), λ s. omega (arith, c.char_of_pair.ensures, s));
       after = c.next_if.new.self;
-      taken = takes_two steps c.args.self.now.units c.next.new.self c.next_if.new.self unit trail c.char_of_pair.result
-          c.char_of_pair.ensures is_lead is_trail c.in_ok-unit.ensures.steps second;
+      taken = rw (c.char_of_pair.ensures, units_pair unit trail is_lead is_trail)
+          (c.next.new.self, c.in_ok-unit.ensures.steps, (c.next_if.new.self, second, refl));
       held = inl refl;
       lone = λ lead. absurd (omega (arith, c.char_of_pair.ensures, lead));
     }
@@ -28,8 +29,7 @@ returns-in-None-clause-steps g c =
     record {
       kind = search rules;
       after = c.next.new.self;
-      taken = takes_one g.I.Iterator.next_gives c.args.self.now.units c.next.new.self unit unit refl
-          (omega arith) c.in_ok-unit.ensures.steps;
+      taken = rw (units_one unit (omega arith)) (c.next.new.self, c.in_ok-unit.ensures.steps, refl);
       held = inr (told.0, told.1, told.2);
       lone = λ _. peeked_no_trail (peekable_peeked c.next_if.new.self) told.0 _ told.2 c.in-None.ensures.refused
           (λ u failed trail. true≢false (sym (failed.1.1 (subst IsTrail (sym failed.2) trail))));
