@@ -175,13 +175,13 @@ divides_whole f r n lead_excluded =
     )
 
 -- `r`, the units from `begin` on without the trail `half` of a pair divided there, divides the pairs of the whole
-pub divides_after : (u r : List ℕ) (half : Option ℕ) (begin n : ℕ) → begin ≤ length u → option_to_list half ++ r ≡ drop begin u
-    → (IsSome half ↔ DividesPair u begin)
-    → 0 < length (option_to_list half) + n → n ≤ length r → DividesPair r n ↔ DividesPair u (begin + (length (option_to_list half) + n))
-divides_after u r half begin n in_u e d more in_r =
+pub divides_after : (u r : List ℕ) (half : Option ℕ) (begin n : ℕ) {end : ℕ} → begin + (length (option_to_list half) + n) ≡ end
+    → begin ≤ length u → option_to_list half ++ r ≡ drop begin u → (IsSome half ↔ DividesPair u begin)
+    → 0 < length (option_to_list half) + n → n ≤ length r → DividesPair r n ↔ DividesPair u end
+divides_after u r half begin n {end} s in_u e d more in_r =
     let f = take begin u ++ option_to_list half in
     let whole : f ++ r ≡ u = grind (arith, append_assoc, take-append-drop) in
-    let long : length f + n ≡ begin + (length (option_to_list half) + n) = grind (arith, length-append, length-take-le) in
+    let long : length f + n ≡ end = grind (arith, length-append, length-take-le) in
     subst (λ k. DividesPair r n ↔ DividesPair u k) long
     (subst (λ w. DividesPair r n ↔ DividesPair w (length f + n)) whole (divides_whole f r n (no_lead_before half e d more)))
   where

@@ -7,7 +7,7 @@ use Rattle.wtf8.specs.Building.{appended_units, reserved_bytes}
 use Rattle.wtf8.proofs.lemmas.strings.StringLaws.{reserved_more}
 use Rattle.wtf8.proofs.lemmas.strings.Concatenation.{take-cons-drop, take-push}
 use Rattle.wtf8.proofs.lemmas.strings.ExtendedForms.{Found, found_more, beginning_of_form}
-use Rattle.wtf8.proofs.strings.buf.Wtf8Buf.apply_all.Goals.{In_default, then-not-kept, else-not-kept}
+use Rattle.wtf8.proofs.strings.buf.Wtf8Buf.apply_all.Goals.{In_default}
 use Rattle.wtf8.proofs.strings.buf.Wtf8Buf.apply_all.Goals as goal
 
 -- Runs of building calls, call by call, and the units that pushes and extensions append.
@@ -83,9 +83,9 @@ loop-done-preserved g c =
     let run = run_more u (take i calls) was c.loop-done.refused call now (cond c.in-Ok.kept 0 1) inv.ran c.in-Ok.ensures.step in
     let count : (c.if-not-kept.refused ≡ c.loop-done.refused + cond c.in-Ok.kept 0 1) × (c.if-not-kept.refused ≤ i + 1) =
     elim c.if-not-kept.branch [
-      | then-not-kept w ↦
+      | goal.then-not-kept w ↦
           (w.refused-is ∙ refused-one_more c.in-Ok.kept c.loop-done.refused w.if-not-kept.true, omega (arith, w.refused-is, inv.counted))
-      | else-not-kept w ↦
+      | goal.else-not-kept w ↦
           (w.refused-is ∙ (rw w.if-not-kept.false (omega arith)), omega (arith, w.refused-is, inv.counted))
     ] in record {
       ran = subst (λ d. Run u d now c.if-not-kept.refused) (sym more)

@@ -18,17 +18,11 @@ returns-then-cut-n g c =
       refl,
     )
 
-pub read_lead-lead-requires-clause-front : goal.read_lead-lead-requires-clause-front
-read_lead-lead-requires-clause-front g c =
+pub read_lead-lead-requires : goal.read_lead-lead-requires
+read_lead-lead-requires g c =
     let h = c.as_wtf8-view.result.well_formed in
     let x = in_pair_at h c.args.n c.in-Some.cut c.in-Some.ensures.some c.in-Some.ensures.divided c.if-cut-n.false in
-    (pair_at_cut h x.divided c.split_at.ensures.back).0
-
-pub read_lead-lead-requires-clause-least : goal.read_lead-lead-requires-clause-least
-read_lead-lead-requires-clause-least g c =
-    let h = c.as_wtf8-view.result.well_formed in
-    let x = in_pair_at h c.args.n c.in-Some.cut c.in-Some.ensures.some c.in-Some.ensures.divided c.if-cut-n.false in
-    (pair_at_cut h x.divided c.split_at.ensures.back).2
+    let pair = pair_at_cut h x.divided c.split_at.ensures.back in record { front = pair.0; least = pair.2 }
 
 pub keep_lead-requires-clause-lead : goal.keep_lead-requires-clause-lead
 keep_lead-requires-clause-lead g c =
