@@ -85,7 +85,7 @@ beginning_no_longer w x u v f g =
     let b = beginning_of_form u v x g in omega (arith, b.within, ap length (same_form b.whole w u b.form f))
 
 pub both_no_longer : BothAreNoLonger
-both_no_longer w v x a b f g h = (both_length f g h).most
+both_no_longer w v x a b f g h = (both_length f g h).1
 
 -- Proofs of the laws of ASCII bytes: each is one code point and one unit.
 

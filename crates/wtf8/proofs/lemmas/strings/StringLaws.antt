@@ -116,15 +116,11 @@ cut_or_not {w} h k = elim (cases_lt k (length w)) [
   ]
 ]
 
-boundary_of_form : {w u : List ℕ} (f : IsForm w u) (k : ℕ) → IsBoundary u k ⊎ (IsBoundary u k → ⊥)
-boundary_of_form f k = elim (cut_or_not (well_formed_of f) k) [
-  | inl b ↦ inl (subst (λ v. IsBoundary v k) f.reads.same_units b)
-  | inr n ↦ inr (λ b. n (subst (λ v. IsBoundary v k) (sym f.reads.same_units) b))
-]
-
 boundary_or_not : (u : List ℕ) (k : ℕ) → IsBoundary u k ⊎ (IsBoundary u k → ⊥)
 boundary_or_not u k = elim (units_or_not u) [
-  | inl s ↦ boundary_of_form (one_form u s).has k
+  | inl s ↦
+      let f = (one_form u s).has in
+      subst (λ v. IsBoundary v k ⊎ (IsBoundary v k → ⊥)) f.reads.same_units (cut_or_not (well_formed_of f) k)
   | inr n ↦ inr (λ b. n (units_read (b.front ++ b.back) u b.splits.reads))
 ]
 

@@ -37,15 +37,9 @@ pub record SurrogateIn (c : List ℕ) (i : ℕ) : Type 0 where
 
 first_surrogate_in : (b : List ℕ) → 1 < length (bytes b) → get_or (bytes b) 0 0 ≡ 0xED → 0xA0 ≤ get_or (bytes b) 1 0 → SurrogateIn b 0
 first_surrogate_in [] n e s = absurd (omega arith)
-first_surrogate_in (p ∷ b) n e s = elim (encoding_cases p) [
-  | one h r ↦ absurd (omega (arith, rw r at e))
-  | two l h r ↦ absurd (omega (arith, rw r at e))
-  | three l h r ↦
-      let high = rw r at e in
-      let low = rw r at s in
-      record { front = []; point = p; back = b; joined = refl; front_len = refl; surrogate = (omega arith, omega arith) }
-  | four l r ↦ absurd (omega (arith, rw r at e))
-]
+first_surrogate_in (p ∷ b) n e s =
+    let surrogate : IsSurrogate p = grind (arith, encoding_cases) in
+    record { front = []; point = p; back = b; joined = refl; front_len = refl; surrogate = surrogate }
 
 pub surrogate_in : (c : List ℕ) (i : ℕ) → SurrogateAt (bytes c) i → SurrogateIn c i
 surrogate_in c i s =
@@ -220,11 +214,8 @@ around_surrogate w front p back found e n s =
       within = omega (arith, ap length whole, length-append {A = ℕ});
     }
 
-pub record Replaced (c w : List ℕ) (found : ℕ) : Type 0 where
-  pub within : found + 3 ≤ length w
-  pub next : Replacing c (take found w ++ (0xEF ∷ 0xBF ∷ 0xBD ∷ drop (found + 3) w)) (found + 3)
-
-pub replacing_step : (c w : List ℕ) (from found : ℕ) → Replacing c w from → IsLeast (SurrogateAt w) from found → Replaced c w found
+pub replacing_step : (c w : List ℕ) (from found : ℕ) → Replacing c w from → IsLeast (SurrogateAt w) from found
+    → (found + 3 ≤ length w) × Replacing c (take found w ++ (0xEF ∷ 0xBF ∷ 0xBD ∷ drop (found + 3) w)) (found + 3)
 replacing_step c w from found r least =
     let p = surrogate_in (lossy_points r.done ++ r.rest) found (subst (λ v. SurrogateAt v found) r.encoded least.here) in
     let b = shorter_is_prefix (lossy_points r.done) r.rest p.front
@@ -238,16 +229,13 @@ replacing_step c w from found r least =
     let done : lossy_points ((r.done ++ b.more) ++ p.point ∷ []) ≡ p.front ++ 0xFFFD ∷ [] =
     simp (lossy_points-append, lossy_points-scalar b.more plain, ← b.joined, replace_surrogate-surrogate p.point p.surrogate) in
     let sign : encoding 0xFFFD ≡ 0xEF ∷ 0xBF ∷ 0xBD ∷ [] = encoding_three 0xFFFD (lit≤ tt) (lit< tt) in
-    record {
-      within = a.within;
-      next = record {
-        done = (r.done ++ b.more) ++ p.point ∷ [];
-        rest = p.back;
-        joined = r.joined ∙ simp (rest, append_assoc);
-        encoded = rw (a.before, a.after, done, append_assoc p.front (0xFFFD ∷ []) p.back, bytes-append p.front (0xFFFD ∷ p.back), sign);
-        done_len = simp (done, bytes-append, length-append, sign, p.front_len);
-      };
-    }
+    (a.within, record {
+      done = (r.done ++ b.more) ++ p.point ∷ [];
+      rest = p.back;
+      joined = r.joined ∙ simp (rest, append_assoc);
+      encoded = rw (a.before, a.after, done, append_assoc p.front (0xFFFD ∷ []) p.back, bytes-append p.front (0xFFFD ∷ p.back), sign);
+      done_len = simp (done, bytes-append, length-append, sign, p.front_len);
+    })
 
 -- a string divided at its first surrogate: text, the surrogate, and the rest
 pub record SplitAtSurrogate (w : List ℕ) (h : IsWellFormed w) (found : ℕ) : Type 0 where

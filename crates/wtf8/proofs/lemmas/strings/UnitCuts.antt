@@ -134,10 +134,6 @@ lead_kept {w} h {n} {k} {p} d =
           ∙ ap (λ v. v ++ encoding (lead_of p)) (cut_by h d.front (p ∷ d.rest) k d.joined d.front_len).before.encoded;
     }
 
-pub lead_kept_units : {c : List ℕ} {n k p : ℕ} → IsClean c → (d : Divided c n k p) → units (d.front ++ lead_of p ∷ []) ≡ take n (units c)
-lead_kept_units {p} clean d =
-    cc (units-pushed d.front (lead_of p), units_one (lead_of p) (omega (arith, IsCodePoint-divided clean d, d.large)), d.kept)
-
 -- at a cut between code points the first `n` units are the units before position `k`
 pub front_at : {w : List ℕ} (h : IsWellFormed w) {n k : ℕ} → Undivided h.points n k → IsFront (units h.points) k (take n (units h.points))
 front_at h x = grind (arith)
@@ -198,11 +194,8 @@ divides_after u r half begin n {end} s in_u e d more in_r =
 pub continuation_range : (b : ℕ) → 0x80 ≤ b → b < 0xC0 → is_continuation b ≡ true
 continuation_range b l h = rw (le-ltb b 0x80 l, lt-ltb b 0xC0 h) refl
 
-pub ascii_no_continuation : (b : ℕ) → b < 0x80 → is_continuation b ≡ false
-ascii_no_continuation b h = rw (lt-ltb b 0x80 h) refl
-
-pub lead_no_continuation : (b : ℕ) → 0xC0 ≤ b → is_continuation b ≡ false
-lead_no_continuation b l = rw (le-ltb b 0x80 (omega arith), le-ltb b 0xC0 l) refl
+pub no_continuation : (b : ℕ) → Begins b → is_continuation b ≡ false
+no_continuation b h = grind (arith, lt-ltb, le-ltb)
 
 -- well-formed bytes do not begin with a continuation byte
 Begins-first_byte : {w : List ℕ} → IsWellFormed w → 0 < length w → Begins (get_or w 0 0)
@@ -210,10 +203,7 @@ Begins-first_byte h n = let b = (first_of h n).0 in subst Begins (sym (ap (λ v.
 
 pub first_no_continuation : {w : List ℕ} → IsWellFormed w → is_continuation (get_or w 0 0) ≡ false
 first_no_continuation {w = []} h = refl
-first_no_continuation {w = a ∷ r} h = elim ((Begins-first_byte h (omega arith)).start) [
-  | inl l ↦ ascii_no_continuation a l
-  | inr g ↦ lead_no_continuation a g
-]
+first_no_continuation {w = a ∷ r} h = no_continuation a (Begins-first_byte h (omega arith))
 
 -- bytes that begin with no continuation byte hold no trail
 pub held_trail-none : (w : List ℕ) → is_continuation (get_or w 0 0) ≡ false → (held_trail w ≡ []) × (after_held_trail w ≡ w)
@@ -227,14 +217,16 @@ pub held_trail-some : (w : List ℕ) → 1 < length w → is_continuation (get_o
     → (held_trail w ≡ trail_from_bytes (get_or w 0 0) (get_or w 1 0) ∷ []) × (after_held_trail w ≡ drop 2 w)
 held_trail-some w h e = grind (arith)
 
--- after the first unit of a code point the second, if any, is held
-units-first : (old new points more : List ℕ) (p unit : ℕ) → old ≡ [] → points ≡ p ∷ more → units_of p ≡ unit ∷ new
-    → old ++ units points ≡ unit ∷ (new ++ units more)
-units-first old new points more p unit e f g = rw (e, f) (ap (λ u. u ++ units more) g)
-
-unread_after-first : (old new points more : List ℕ) (p unit : ℕ) → old ≡ [] → points ≡ p ∷ more → units_of p ≡ unit ∷ new
-    → record { held = new; points = more } ≡ unread_after (record { held = old; points = points })
-unread_after-first old new points more p unit e f g = rw (e, f) (ap (λ t. record { held = t; points = more }) (sym (ap (drop 1) g)))
+-- a step to `next`: after the first unit of the code point `p` the second, if any, is held
+steps_first : (v : List ℕ) (at : ℕ) (h : IsWellFormed (after_held_trail (drop at v))) (p unit next : ℕ) → held_trail (drop at v) ≡ []
+    → next ≤ length v → (after : IsWellFormed (after_held_trail (drop next v))) → h.points ≡ p ∷ after.points
+    → units_of p ≡ unit ∷ held_trail (drop next v) → StepsUnit v at h unit next
+steps_first v at h p unit next none within after joined all = record {
+  within = within;
+  after = after;
+  first = rw (none, joined) (ap (λ u. u ++ units after.points) all);
+  left = rw (none, joined) (ap (λ t. record { held = t; points = after.points }) (sym (ap (drop 1) all)));
+}
 
 -- a step over a code point of one unit
 pub steps_one : (v : List ℕ) (at : ℕ) (h : IsWellFormed (after_held_trail (drop at v))) (p next : ℕ) → at < length v
@@ -244,44 +236,28 @@ steps_one v at h p next long e small read =
     let n = held_trail-none (drop at v) e in
     let t = Taken-from_first v at (IsWellFormed-equal_bytes h (sym n.1)) p next long read in
     let m = held_trail-none (drop next v) (first_no_continuation t.rest) in
-    let all : units_of p ≡ p ∷ held_trail (drop next v) = units_one p small ∙ ap (λ k. p ∷ k) (sym m.0) in
-    record {
-      within = t.within;
-      after = IsWellFormed-equal_bytes t.rest m.1;
-      first = units-first _ _ h.points t.rest.points p p n.0 t.joined all;
-      left = unread_after-first _ _ h.points t.rest.points p p n.0 t.joined all;
-    }
+    steps_first v at h p p next n.0 t.within (IsWellFormed-equal_bytes t.rest m.1) t.joined (units_one p small ∙ ap (λ k. p ∷ k) (sym m.0))
 
 -- a step over the lead of a supplementary code point
 pub steps_lead : (v : List ℕ) (at : ℕ) (h : IsWellFormed (after_held_trail (drop at v))) (unit next : ℕ) → at < length v
     → 0xF0 ≤ get_or (drop at v) 0 0 → next ≡ at + 2
     → ((b : BeginsWithPoint (drop at v)) → unit ≡ lead_of b.point) → StepsUnit v at h unit next
 steps_lead v at h unit next long g two_on read =
-    let n = held_trail-none (drop at v) (lead_no_continuation (get_or (drop at v) 0 0) (omega arith)) in
+    let n = held_trail-none (drop at v) (no_continuation (get_or (drop at v) 0 0) (record { start = inr (omega arith) })) in
     let f = first_of (IsWellFormed-equal_bytes h (sym n.1)) (omega (arith, length-drop at v)) in
     let b = f.0 in
     let p = b.point in
-    let begin : get_or (drop at v) 0 0 ≡ get_or (encoding p ++ b.rest) 0 0 = ap (λ w. get_or w 0 0) b.encoded in
-    elim (encoding_cases p) [
-      | one l e ↦ absurd (omega (arith, rw e at begin))
-      | two _ l e ↦ absurd (omega (arith, rw e at begin))
-      | three _ l e ↦ absurd (omega (arith, rw e at begin))
-      | four l e ↦
-          let c = 0x80 + p / 64 % 64 in
-          let d = 0x80 + p % 64 in
-          let whole = b.encoded ∙ ap (λ x. x ++ b.rest) e in
-          let rest : drop next v ≡ c ∷ d ∷ b.rest = ap (λ k. drop k v) two_on ∙ (sym (drop-drop 2 at v) ∙ ap (drop 2) whole) in
-          let k = held_trail-some (c ∷ d ∷ b.rest) (omega arith) (continuation_range c (omega arith) (omega arith)) in
-          let trail : trail_from_bytes c d ≡ trail_of p = omega arith in
-          let all : units_of p ≡ unit ∷ held_trail (drop next v) = grind (arith, units_two) in
-          record {
-            within = omega (arith, two_on, ap length whole, length-drop at v);
-            after = IsWellFormed-equal_bytes f.1.rest (ap after_held_trail rest
-                ∙ (k.1 ∙ sym (ap (drop (length (encoding p))) b.encoded ∙ drop_at (encoding p) b.rest (length (encoding p)) refl)));
-            first = units-first _ _ h.points f.1.rest.points p unit n.0 f.1.joined all;
-            left = unread_after-first _ _ h.points f.1.rest.points p unit n.0 f.1.joined all;
-          }
-    ]
+    let large : 0x10000 ≤ p = (b.by_lead.four g).4 in
+    let c = 0x80 + p / 64 % 64 in
+    let d = 0x80 + p % 64 in
+    let whole = b.encoded ∙ ap (λ x. x ++ b.rest) (encoding_four p large) in
+    let rest : drop next v ≡ c ∷ d ∷ b.rest = ap (λ k. drop k v) two_on ∙ (sym (drop-drop 2 at v) ∙ ap (drop 2) whole) in
+    let k = held_trail-some (c ∷ d ∷ b.rest) (omega arith) (continuation_range c (omega arith) (omega arith)) in
+    let trail : trail_from_bytes c d ≡ trail_of p = omega arith in
+    let after = IsWellFormed-equal_bytes f.1.rest (ap after_held_trail rest
+    ∙ (k.1 ∙ sym (ap (drop (length (encoding p))) b.encoded ∙ drop_at (encoding p) b.rest (length (encoding p)) refl))) in
+    let all : units_of p ≡ unit ∷ held_trail (drop next v) = grind (arith, units_two) in
+    steps_first v at h p unit next n.0 (omega (arith, two_on, ap length whole, length-drop at v)) after f.1.joined all
 
 -- a step over the held trail
 pub steps_trail : (v : List ℕ) (at : ℕ) (h : IsWellFormed (after_held_trail (drop at v))) (next : ℕ) → 0x80 ≤ get_or (drop at v) 0 0

@@ -223,14 +223,7 @@ ascii_from_lengths : (c : List ℕ) → length (bytes c) ≡ length (units c) �
 ascii_from_lengths [] e = tt
 ascii_from_lengths (p ∷ c) e =
     let bound = (lists_have_lengths c).units_least in
-    let all_bytes = length-append (encoding p) (bytes c) in
-    let all_units = length-append (units_of p) (units c) in
-    elim (encoding_cases p) [
-      | one l r ↦ (l, ascii_from_lengths c (omega (arith, e, all_bytes, all_units, ap length r, ap length (units_one p (omega arith)))))
-      | two l g r ↦ absurd (omega (arith, e, all_bytes, all_units, bound, ap length r, ap length (units_one p (omega arith))))
-      | three l g r ↦ absurd (omega (arith, e, all_bytes, all_units, bound, ap length r, ap length (units_one p g)))
-      | four l r ↦ absurd (omega (arith, e, all_bytes, all_units, bound, ap length r, ap length (units_two p l)))
-    ]
+    grind (arith, encoding_cases, units_one, units_two, length-append, ascii_from_lengths c)
 
 -- a string with equal numbers of bytes and units is ASCII, and its units are its bytes
 pub ascii_same : {w u : List ℕ} → IsForm w u → length w ≡ length u → AreAscii u × (w ≡ u)

@@ -1,7 +1,7 @@
-use Rattle.wtf8.proofs.Common.{◌≡◌, ℕ, ◌+◌, ◌<◌, ◌≤◌, ◌∙◌, List, length, get_or, drop, arith, ap, sym, subst, refl, length-drop}
+use Rattle.wtf8.proofs.Common.{◌≡◌, ℕ, ◌+◌, ◌<◌, ◌≤◌, ◌∙◌, List, length, get_or, drop, arith, ap, sym, subst, refl, length-drop, inl, inr}
 use Rattle.wtf8.proofs.Common.{IsWellFormed, BeginsWithPoint, trail_from_bytes, after_held_trail, FirstPointIs, StepsUnit}
 use Rattle.wtf8.proofs.lemmas.codec.Encoding.{BeginsWithPoint-equal_bytes}
-use Rattle.wtf8.proofs.lemmas.strings.UnitCuts.{ascii_no_continuation, lead_no_continuation, held_trail-none, held_trail-two_bytes}
+use Rattle.wtf8.proofs.lemmas.strings.UnitCuts.{no_continuation, held_trail-none, held_trail-two_bytes}
 use Rattle.wtf8.proofs.lemmas.strings.UnitCuts.{steps_one, steps_lead, steps_trail}
 use Rattle.wtf8.proofs.lemmas.codec.Readings.{first_of, IsWellFormed-equal_bytes, lead_of}
 use Rattle.wtf8.proofs.strings.iters.read_unit.Goals as goal
@@ -11,7 +11,7 @@ steps_over_one_byte : {w : List ℕ} → (v : List ℕ) (at : ℕ) (h : IsWellFo
     → at < length v → unit ≡ get_or w 0 0 → get_or w 0 0 < 0x80 → StepsUnit v at h unit (at + 1)
 steps_over_one_byte v at h unit same long u low =
     let first = ap (λ x. get_or x 0 0) same in
-    steps_one v at h unit (at + 1) long (ascii_no_continuation (get_or (drop at v) 0 0) (omega (arith, first))) (omega arith) (λ b.
+    steps_one v at h unit (at + 1) long (no_continuation (get_or (drop at v) 0 0) (record { start = inl (omega (arith, first)) })) (omega arith) (λ b.
     let f = b.by_lead in (omega (arith, first), omega (arith, first)))
 
 -- a step over a code point of two or three bytes
@@ -19,7 +19,7 @@ steps_over_two_or_three_bytes : {w : List ℕ} → (v : List ℕ) (at : ℕ) (h 
     → w ≡ drop at v → at < length v → 0xC0 ≤ get_or w 0 0 → p < 0x10000 → FirstPointIs w p n → StepsUnit v at h p (at + n)
 steps_over_two_or_three_bytes v at h p n same long high small read =
     let first = ap (λ x. get_or x 0 0) same in
-    steps_one v at h p (at + n) long (lead_no_continuation (get_or (drop at v) 0 0) (omega (arith, first))) small (λ b.
+    steps_one v at h p (at + n) long (no_continuation (get_or (drop at v) 0 0) (record { start = inr (omega (arith, first)) })) small (λ b.
     let t = read (BeginsWithPoint-equal_bytes b same) in (t.0, omega (arith, t.1)))
 
 -- a step over the lead of a code point of four bytes
@@ -32,7 +32,7 @@ steps_over_four_bytes v at h unit same long high read =
 begins_with_point : {w : List ℕ} → (v : List ℕ) (at : ℕ) → IsWellFormed (after_held_trail (drop at v)) → w ≡ drop at v → at < length v
     → 0xC0 ≤ get_or w 0 0 → BeginsWithPoint w
 begins_with_point v at h same long high =
-    let n = held_trail-none (drop at v) (lead_no_continuation (get_or (drop at v) 0 0) (omega (arith, ap (λ x. get_or x 0 0) same))) in
+    let n = held_trail-none (drop at v) (no_continuation (get_or (drop at v) 0 0) (record { start = inr (omega (arith, ap (λ x. get_or x 0 0) same)) })) in
     subst BeginsWithPoint (sym same) (first_of (IsWellFormed-equal_bytes h (sym n.1)) (omega (arith, length-drop at v))).0
 
 -- a trail has both of its bytes

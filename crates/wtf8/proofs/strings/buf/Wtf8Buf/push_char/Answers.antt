@@ -13,8 +13,8 @@ pub invariant_of-self-inside : goal.invariant_of-self-inside
 invariant_of-self-inside g c =
     let f = scalar_facts c.args.c c.ranges.c.0 in
     let own = c.self.inside in
-    utf8_prefix_after_push c.push_char.result c.args.c own.utf8_prefix.len own.utf8_prefix.len own.well_formed f.range own.scalar_prefix
-    (omega arith) (λ _. f.not_surrogate) (record { whole = _; extends = c.push_char.ensures.units; becomes = c.push_char.ensures.bytes })
+    utf8_prefix_after_push c.push_char.result c.args.c own.utf8_prefix.len own.utf8_prefix.len own.well_formed f.0 own.scalar_prefix
+    (omega arith) (λ _. f.1) (record { whole = _; extends = c.push_char.ensures.units; becomes = c.push_char.ensures.bytes })
 
 pub returns-clause-ok : goal.returns-clause-ok
 returns-clause-ok g c =
