@@ -98,10 +98,7 @@ scalar_facts c e = grind (arith, scalar_cases)
 pub clean-scalars : (cs : List ℕ) → scalars cs ≡ true → IsClean cs
 clean-scalars [] e = tt
 clean-scalars (c ∷ []) e = (scalar_facts c (and_parts (scalar c) (scalars []) e).0).0
-clean-scalars (c ∷ d ∷ cs) e =
-    let p = and_parts (scalar c) (scalars (d ∷ cs)) e in
-    let f = scalar_facts c p.0 in
-    (f.0, (λ h. f.1 (omega (arith, h.0), omega (arith, h.0))), clean-scalars (d ∷ cs) p.1)
+clean-scalars (c ∷ d ∷ cs) e = grind (arith, and_parts, scalar_facts, clean-scalars (d ∷ cs))
 
 -- the bytes of a text are well-formed, with its characters as code points
 abbrev pub well_formed_text : (w : List ℕ) → IsUtf8 w → IsWellFormed w
@@ -119,9 +116,7 @@ well_formed-equal_text {v} u e = IsWellFormed-equal_bytes (well_formed_text v u)
 -- the characters of a text are scalar values
 pub scalar-characters : (c : List ℕ) → scalars c ≡ true → AreScalar c
 scalar-characters [] e = tt
-scalar-characters (p ∷ c) e =
-    let parts = and_parts (scalar p) (scalars c) e in
-    ((scalar_facts p parts.0).1, scalar-characters c parts.1)
+scalar-characters (p ∷ c) e = grind (arith, and_parts, scalar_facts, scalar-characters c)
 
 pub scalar_text : {w : List ℕ} → IsUtf8 w → AreScalar (chars w)
 scalar_text {w} u = scalar-characters (chars w) (scalars-chars w u)
@@ -217,16 +212,15 @@ utf8_prefix_after_extension c v k n h e x s l t extended =
     let same : now.points ≡ glue h.points c = same_reading now.points (glue h.points c) now.clean (clean-glue h.points c h.clean x) whole in
     (now, (subst (AreScalarTo n) (sym same) (scalar_to-glue k n h.points c s l (λ m. t (omega (arith, m, ap length h.encoded)))), tt))
 
-module _ {T E Z : Type 0} {b m : Vec ℕ Z} {v : List ℕ} where
+module _ {T E Z : Type 0} {b m : Vec ℕ Z} where
   -- after a call that appended units or was refused the bytes are well-formed, with a UTF-8 prefix of `n` bytes
-  pub utf8_prefix_after_append : (r : Result T E) (c : List ℕ) (k n : ℕ) (h : IsWellFormed b.items) → v ≡ units c → IsClean c
-      → AreScalarTo k h.points → n ≤ k
-      → (length b.items < n → AreScalar c) → ExtendsFormOrKeeps b v m r → (x : IsWellFormed m.items) × (AreScalarTo n x.points × Unit {0})
-  utf8_prefix_after_append (Ok _) c k n h e x s l t g = utf8_prefix_after_extension c v k n h e x s l t (rw g.becomes.ok g.extends)
+  pub utf8_prefix_after_append : {v : List ℕ} (r : Result T E) (c : List ℕ) (k n : ℕ) (h : IsWellFormed b.items) → v ≡ units c
+      → IsClean c → AreScalarTo k h.points → n ≤ k → (length b.items < n → AreScalar c) → ExtendsFormOrKeeps b v m r
+      → (x : IsWellFormed m.items) × (AreScalarTo n x.points × Unit {0})
+  utf8_prefix_after_append (Ok _) c k n h e x s l t g = utf8_prefix_after_extension c _ k n h e x s l t (rw g.becomes.ok g.extends)
   utf8_prefix_after_append (Err _) c k n h e x s l t g =
       (IsWellFormed-equal_bytes h g.becomes.err, ((λ f p b g m. s f p b g (omega (arith, l, m))), tt))
 
-module _ {T E Z : Type 0} {b m : Vec ℕ Z} where
   pub utf8_prefix_after_push : (r : Result T E) (p : ℕ) (k n : ℕ) (h : IsWellFormed b.items) → IsCodePoint p → AreScalarTo k h.points
       → n ≤ k → (length b.items < n → ¬ (IsSurrogate p)) → ExtendsFormOrKeeps b (units_of p) m r
       → (x : IsWellFormed m.items) × (AreScalarTo n x.points × Unit {0})

@@ -11,7 +11,7 @@ use Rattle.wtf8.proofs.lemmas.codec.Encoding.{first-encoding, begins_with}
 use Rattle.wtf8.proofs.lemmas.codec.Readings.{clean-first, clean-front, clean-back, clean-append, clean-unpaired, unpaired-before_no_trail}
 use Rattle.wtf8.proofs.lemmas.codec.Readings.{meets_by, lead_of, trail_of, units_one, units_two, units-append, units-pushed, first_of}
 use Rattle.wtf8.proofs.lemmas.codec.Readings.{points-nil, Taken-from_first, IsWellFormed-equal_bytes}
-use Rattle.wtf8.proofs.lemmas.strings.Concatenation.{points_meet, last_of, empty, ends}
+use Rattle.wtf8.proofs.lemmas.strings.Concatenation.{points_meet, last_of}
 use Rattle.wtf8.proofs.lemmas.strings.Positions.{CutsUnits, cut_by, PointsAbout, points_about, sum_utf16_len-bytes}
 
 -- The parts of a string before and after its first `n` units.
@@ -134,10 +134,6 @@ lead_kept {w} h {n} {k} {p} d =
           ∙ ap (λ v. v ++ encoding (lead_of p)) (cut_by h d.front (p ∷ d.rest) k d.joined d.front_len).before.encoded;
     }
 
--- at a cut between code points the first `n` units are the units before position `k`
-pub front_at : {w : List ℕ} (h : IsWellFormed w) {n k : ℕ} → Undivided h.points n k → IsFront (units h.points) k (take n (units h.points))
-front_at h x = grind (arith)
-
 -- `Undivided` after `n` units means that no pair is divided there, `Divided` that one is
 pub divides_none : {c : List ℕ} {n k : ℕ} → IsClean c → Undivided c n k → ¬ (DividesPair (units c) n)
 divides_none {c} {n} clean x m =
@@ -161,9 +157,12 @@ divides_whole f r n lead_excluded =
       λ m. meets_by (f ++ m.front) m.rest m.lead m.trail m.is_lead m.is_trail
           (front ∙ (ap (λ x. f ++ x) m.ends ∙ sym (append_assoc f m.front (m.lead ∷ [])))) (back ∙ m.begins),
       λ m. elim (last_of (take n r)) [
-        | empty e ↦
+        | inl e ↦
             absurd (lead_excluded e m.front m.lead (sym (append-nil f) ∙ (ap (λ x. f ++ x) (sym e) ∙ (sym front ∙ m.ends))) m.is_lead)
-        | ends g l e ↦
+        | inr x ↦
+            let g = x.0 in
+            let l = x.1 in
+            let e = x.2 in
             let same =
             (same_from_push (f ++ g) m.front l m.lead (append_assoc f g (l ∷ []) ∙ (ap (λ x. f ++ x) (sym e) ∙ (sym front ∙ m.ends)))).1 in
             meets_by g m.rest m.lead m.trail m.is_lead m.is_trail (e ∙ ap (λ x. g ++ x ∷ []) same) (sym back ∙ m.begins)

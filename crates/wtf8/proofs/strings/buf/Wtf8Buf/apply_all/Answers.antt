@@ -73,12 +73,8 @@ loop-done-preserved g c =
     let one : Run was (call ∷ []) now (cond c.in-Ok.kept 0 1) = (now, _, 0, c.in-Ok.ensures.step, (refl, refl), omega arith) in
     let run = runs_add u was now (take i calls) (call ∷ []) c.loop-done.refused (cond c.in-Ok.kept 0 1) inv.ran one in
     let count : (c.if-not-kept.refused ≡ c.loop-done.refused + cond c.in-Ok.kept 0 1) × (c.if-not-kept.refused ≤ i + 1) =
-    elim c.if-not-kept.branch [
-      | goal.then-not-kept w ↦
-          (w.refused-is ∙ (rw w.if-not-kept.true (omega arith)), omega (arith, w.refused-is, inv.counted))
-      | goal.else-not-kept w ↦
-          (w.refused-is ∙ (rw w.if-not-kept.false (omega arith)), omega (arith, w.refused-is, inv.counted))
-    ] in record {
+    grind (arith, c.if-not-kept.branch, inv.counted) in
+    record {
       ran = subst (λ d. Run u d now c.if-not-kept.refused) (sym more)
           (subst (λ n. Run u (take i calls ++ call ∷ []) now n) (sym count.0) run);
       counted = count.1;

@@ -2,7 +2,7 @@ use Rattle.wtf8.proofs.Common.{◌≡◌, ◌∙◌, ◌++◌, ◌∷◌, [], ap
 use Rattle.wtf8.proofs.lemmas.strings.Positions.{front_unique}
 use Rattle.wtf8.proofs.lemmas.codec.Readings.{IsWellFormed-equal_bytes, same_points, units-pushed, units_one, lead_of}
 use Rattle.wtf8.proofs.lemmas.strings.ExtendedForms.{scalar_to-cut, scalar_to-equal_bytes}
-use Rattle.wtf8.proofs.lemmas.strings.UnitCuts.{IsCodePoint-divided, front_at, in_pair_at, lead_kept, pair_at_cut, undivided_at}
+use Rattle.wtf8.proofs.lemmas.strings.UnitCuts.{IsCodePoint-divided, in_pair_at, lead_kept, pair_at_cut, undivided_at}
 use Rattle.wtf8.proofs.strings.buf.Wtf8Buf.try_truncate_units.Goals as goal
 
 pub returns-then-cut-n : goal.returns-then-cut-n
@@ -10,7 +10,8 @@ returns-then-cut-n g c =
     let h = c.as_wtf8-view.result.well_formed in
     let k = c.in-Some.cut.position in
     let x = undivided_at h c.args.n c.in-Some.cut c.in-Some.ensures.some c.if-cut-n.true in
-    let front = subst (λ v. IsFront v k (take c.args.n v)) c.as_wtf8-view.ensures.units (front_at h x) in
+    let own : IsFront (units h.points) k (take c.args.n (units h.points)) = grind (arith) in
+    let front = subst (λ v. IsFront v k (take c.args.n v)) c.as_wtf8-view.ensures.units own in
     inl (
       omega (arith, x.within, ap length c.as_wtf8-view.ensures.units),
       front_unique c.args.self.now.units k _ _ c.truncate.ensures.units front,
