@@ -180,7 +180,8 @@ reading_exists [] h = ([], record { clean = tt; same_units = refl })
 reading_exists (n ∷ u) h =
     let rest = reading_exists u (All-tail IsUnit n u h) in
     let unit = All-head IsUnit n u h in
-    let one : Reads (n ∷ []) (n ∷ []) = record { clean = omega arith; same_units = cc (append-nil (units_of n), units_one n (omega arith)) } in
+    let same = append-nil (units_of n) ∙ units_one n (omega arith) in
+    let one : Reads (n ∷ []) (n ∷ []) = record { clean = omega arith; same_units = same } in
     (glue (n ∷ []) rest.0, reads-glue (n ∷ []) rest.0 (n ∷ []) u one rest.1)
 
 pub one_reading : UnitsHaveOneReading

@@ -106,7 +106,10 @@ starts_or_not w k = grind (arith, cases_lt)
 -- it is decidable whether a position is a boundary
 cut_or_not : {w : List ℕ} (h : IsWellFormed w) (k : ℕ) → IsBoundary (units h.points) k ⊎ (IsBoundary (units h.points) k → ⊥)
 cut_or_not {w} h k = elim (starts_or_not w k) [
-  | inl s ↦ elim (cases_lt (length w) k) [ inl m ↦ inr (λ b. omega (arith, (cut_at h k b).within)) | inr m ↦ inl (boundary_from_byte h k m s) ]
+  | inl s ↦ elim (cases_lt (length w) k) [
+    | inl m ↦ inr (λ b. omega (arith, (cut_at h k b).within))
+    | inr m ↦ inl (boundary_from_byte h k m s)
+  ]
   | inr n ↦ inr (λ b. n (byte_from_boundary h k b))
 ]
 

@@ -5,9 +5,9 @@ use Rattle.wtf8.proofs.Common.{bytes, encoding, IsWellFormed, IsFront, ◌<◌, 
 use Rattle.wtf8.proofs.Common.{take-append-drop, length-drop, Reads, true, false, ◌/◌, ◌%◌, lt-ltb, le-ltb, drop-drop, append-nil, IsLead}
 use Rattle.wtf8.proofs.Common.{units_of, trail_from_bytes, held_trail, after_held_trail, unread_after, length-take-le, take-append-add}
 use Rattle.wtf8.proofs.Common.{drop-append-add, option_to_list, IsSome, StepsUnit, DividesPair, is_continuation}
-use Rattle.wtf8.proofs.Common.{cases_lt, IsCursorOfUnit, UnitCursor, take_all, sum_utf16_len}
+use Rattle.wtf8.proofs.Common.{cases_lt, FirstPointIs, IsCursorOfUnit, UnitCursor, take_all, sum_utf16_len}
 use Rattle.wtf8.proofs.lemmas.codec.Encoding.{encoding_four, bytes-append, bytes-pushed, encoding_cases, one, two, three, four, Begins}
-use Rattle.wtf8.proofs.lemmas.codec.Encoding.{first-encoding, begins_with}
+use Rattle.wtf8.proofs.lemmas.codec.Encoding.{first-encoding, begins_with, BeginsWithPoint-equal_bytes}
 use Rattle.wtf8.proofs.lemmas.codec.Readings.{clean-first, clean-front, clean-back, clean-append, clean-unpaired, unpaired-before_no_trail}
 use Rattle.wtf8.proofs.lemmas.codec.Readings.{meets_by, lead_of, trail_of, units_one, units_two, units-append, units-pushed, first_of}
 use Rattle.wtf8.proofs.lemmas.codec.Readings.{points-nil, Taken-from_first, IsWellFormed-equal_bytes}
@@ -227,50 +227,60 @@ steps_first v at h p unit next none within after joined all = record {
   left = rw (none, joined) (ap (λ t. record { held = t; points = after.points }) (sym (ap (drop 1) all)));
 }
 
--- a step over a code point of one unit
-pub steps_one : (v : List ℕ) (at : ℕ) (h : IsWellFormed (after_held_trail (drop at v))) (p next : ℕ) → at < length v
-    → is_continuation (get_or (drop at v) 0 0) ≡ false → p < 0x10000
-    → ((b : BeginsWithPoint (drop at v)) → (p ≡ b.point) × (next ≡ at + length (encoding b.point))) → StepsUnit v at h p next
-steps_one v at h p next long e small read =
-    let n = held_trail-none (drop at v) e in
-    let t = Taken-from_first v at (IsWellFormed-equal_bytes h (sym n.1)) p next long read in
-    let m = held_trail-none (drop next v) (first_no_continuation t.rest) in
-    steps_first v at h p p next n.0 t.within (IsWellFormed-equal_bytes t.rest m.1) t.joined (units_one p small ∙ ap (λ k. p ∷ k) (sym m.0))
+-- bytes that begin a code point hold no trail
+pub none_held_at : {w : List ℕ} (v : List ℕ) (at : ℕ) → w ≡ drop at v → Begins (get_or w 0 0)
+    → (held_trail (drop at v) ≡ []) × (after_held_trail (drop at v) ≡ drop at v)
+none_held_at v at same start =
+    held_trail-none (drop at v) (no_continuation (get_or (drop at v) 0 0) (subst (λ x. Begins (get_or x 0 0)) same start))
+
+-- a step over a code point of one unit and `n` bytes
+pub steps_one : {w : List ℕ} (v : List ℕ) (at : ℕ) (h : IsWellFormed (after_held_trail (drop at v))) (p n : ℕ) → w ≡ drop at v
+    → at < length v → Begins (get_or w 0 0) → p < 0x10000 → FirstPointIs w p n → StepsUnit v at h p (at + n)
+steps_one v at h p n same long start small read =
+    let none = none_held_at v at same start in
+    let t = Taken-from_first v at (IsWellFormed-equal_bytes h (sym none.1)) p (at + n) long (λ b.
+    let x = read (BeginsWithPoint-equal_bytes b same) in (x.0, omega (arith, x.1))) in
+    let m = held_trail-none (drop (at + n) v) (first_no_continuation t.rest) in
+    let all = units_one p small ∙ ap (λ k. p ∷ k) (sym m.0) in
+    steps_first v at h p p (at + n) none.0 t.within (IsWellFormed-equal_bytes t.rest m.1) t.joined all
 
 -- a step over the lead of a supplementary code point
-pub steps_lead : (v : List ℕ) (at : ℕ) (h : IsWellFormed (after_held_trail (drop at v))) (unit next : ℕ) → at < length v
-    → 0xF0 ≤ get_or (drop at v) 0 0 → next ≡ at + 2
-    → ((b : BeginsWithPoint (drop at v)) → unit ≡ lead_of b.point) → StepsUnit v at h unit next
-steps_lead v at h unit next long g two_on read =
-    let n = held_trail-none (drop at v) (no_continuation (get_or (drop at v) 0 0) (record { start = inr (omega arith) })) in
+pub steps_lead : {w : List ℕ} (v : List ℕ) (at : ℕ) (h : IsWellFormed (after_held_trail (drop at v))) (unit : ℕ) → w ≡ drop at v
+    → at < length v → 0xF0 ≤ get_or w 0 0 → ((b : BeginsWithPoint w) → unit ≡ lead_of b.point) → StepsUnit v at h unit (at + 2)
+steps_lead v at h unit same long g read =
+    let n = none_held_at v at same (record { start = inr (omega arith) }) in
     let f = first_of (IsWellFormed-equal_bytes h (sym n.1)) (omega (arith, length-drop at v)) in
     let b = f.0 in
     let p = b.point in
-    let large : 0x10000 ≤ p = (b.by_lead.four g).4 in
+    let lead : unit ≡ lead_of p = read (BeginsWithPoint-equal_bytes b same) in
+    let large : 0x10000 ≤ p = (b.by_lead.four (omega (arith, ap (λ x. get_or x 0 0) same))).4 in
     let c = 0x80 + p / 64 % 64 in
     let d = 0x80 + p % 64 in
     let whole = b.encoded ∙ ap (λ x. x ++ b.rest) (encoding_four p large) in
-    let rest : drop next v ≡ c ∷ d ∷ b.rest = ap (λ k. drop k v) two_on ∙ (sym (drop-drop 2 at v) ∙ ap (drop 2) whole) in
+    let rest : drop (at + 2) v ≡ c ∷ d ∷ b.rest = sym (drop-drop 2 at v) ∙ ap (drop 2) whole in
     let k = held_trail-some (c ∷ d ∷ b.rest) (omega arith) (continuation_range c (omega arith) (omega arith)) in
     let trail : trail_from_bytes c d ≡ trail_of p = omega arith in
     let after = IsWellFormed-equal_bytes f.1.rest (ap after_held_trail rest
     ∙ (k.1 ∙ sym (ap (drop (length (encoding p))) b.encoded ∙ drop_at (encoding p) b.rest (length (encoding p)) refl))) in
-    let all : units_of p ≡ unit ∷ held_trail (drop next v) = grind (arith, units_two) in
-    steps_first v at h p unit next n.0 (omega (arith, two_on, ap length whole, length-drop at v)) after f.1.joined all
+    let all : units_of p ≡ unit ∷ held_trail (drop (at + 2) v) = grind (arith, units_two) in
+    steps_first v at h p unit (at + 2) n.0 (omega (arith, ap length whole, length-drop at v)) after f.1.joined all
 
 -- a step over the held trail
-pub steps_trail : (v : List ℕ) (at : ℕ) (h : IsWellFormed (after_held_trail (drop at v))) (next : ℕ) → 0x80 ≤ get_or (drop at v) 0 0
-    → get_or (drop at v) 0 0 < 0xC0 → next ≡ at + 2
-    → StepsUnit v at h (trail_from_bytes (get_or (drop at v) 0 0) (get_or (drop at v) 1 0)) next
-steps_trail v at h next l g two_on =
-    let whole = held_trail-two_bytes (drop at v) h l g in
-    let n = held_trail-some (drop at v) whole (continuation_range (get_or (drop at v) 0 0) l g) in
-    let b = IsWellFormed-equal_bytes h ((ap (λ k. drop k v) two_on ∙ sym (drop-drop 2 at v)) ∙ sym n.1) in
-    let m = held_trail-none (drop next v) (first_no_continuation b) in
+pub steps_trail : {w : List ℕ} (v : List ℕ) (at : ℕ) (h : IsWellFormed (after_held_trail (drop at v))) (unit : ℕ) → w ≡ drop at v
+    → 0x80 ≤ get_or w 0 0 → get_or w 0 0 < 0xC0 → unit ≡ trail_from_bytes (get_or w 0 0) (get_or w 1 0) → StepsUnit v at h unit (at + 2)
+steps_trail v at h unit same l g u =
+    let first = ap (λ x. get_or x 0 0) same in
+    let least : 0x80 ≤ get_or (drop at v) 0 0 = omega (arith, first) in
+    let most : get_or (drop at v) 0 0 < 0xC0 = omega (arith, first) in
+    let whole = held_trail-two_bytes (drop at v) h least most in
+    let n = held_trail-some (drop at v) whole (continuation_range (get_or (drop at v) 0 0) least most) in
+    let b = IsWellFormed-equal_bytes h (sym (drop-drop 2 at v) ∙ sym n.1) in
+    let m = held_trail-none (drop (at + 2) v) (first_no_continuation b) in
+    let own = u ∙ ap (λ x. trail_from_bytes (get_or x 0 0) (get_or x 1 0)) same in
     record {
-      within = omega (arith, two_on, whole, length-drop at v);
+      within = omega (arith, whole, length-drop at v);
       after = IsWellFormed-equal_bytes b m.1;
-      first = rw (n.0, m.0) refl;
+      first = rw (n.0, m.0, own) refl;
       left = rw (n.0, m.0) refl;
     }
 
