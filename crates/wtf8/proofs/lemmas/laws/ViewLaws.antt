@@ -14,7 +14,7 @@ use Rattle.wtf8.specs.PointLaws.{CollectedPointsAreTaken, CollectedPointsAreAfte
 use Rattle.wtf8.specs.StringLaws.{CharactersComeBack}
 use Rattle.wtf8.proofs.lemmas.codec.Encoding.{encoding_one, bytes-append, bytes-pushed, encoding_same}
 use Rattle.wtf8.proofs.lemmas.codec.Readings.{clean-append, unpaired-after_no_lead, unpaired-before_no_trail, same_reading, units_one}
-use Rattle.wtf8.proofs.lemmas.codec.Readings.{units-append, units_pair, lists_have_lengths, form_append-unpaired}
+use Rattle.wtf8.proofs.lemmas.codec.Readings.{units-append, units_pair, lists_have_lengths, form-append, form_append-unpaired}
 use Rattle.wtf8.proofs.lemmas.comparing.Order.{before_bytes, cmp-bytes, order_of}
 use Rattle.wtf8.proofs.lemmas.laws.ComparisonLaws.{equal_buffers_compare, equal_views_compare}
 use Rattle.wtf8.proofs.lemmas.strings.Concatenation.{equal_forms, one_form, units_read, one_reading, none_begins_another, reads-glue}
@@ -45,24 +45,9 @@ IsForm-cons_ascii b l g = record {
 }
 
 -- two forms with an ASCII unit between them
-Reads-ascii_between : {w u x v : List ℕ} (b : ℕ) → b < 0x80 → (f : IsForm w u) (g : IsForm x v)
-    → Reads (f.points ++ b ∷ g.points) (u ++ b ∷ v)
-Reads-ascii_between {u = u} b l f g =
-    let after = (IsForm-cons_ascii b l g).reads in
-    record {
-      clean =
-          clean-append f.points (b ∷ g.points) f.reads.clean after.clean (unpaired-before_no_trail b g.points (λ t. omega (arith, t.0, l)));
-      same_units = units-append f.points (b ∷ g.points)
-          ∙ (ap (λ a. a ++ units (b ∷ g.points)) f.reads.same_units ∙ ap (λ a. u ++ a) after.same_units);
-    }
-
-IsForm-ascii_between : {w u x v : List ℕ} (b : ℕ) → b < 0x80 → IsForm w u → IsForm x v → IsForm (w ++ b ∷ x) (u ++ b ∷ v)
-IsForm-ascii_between {w} b l f g = record {
-  points = f.points ++ b ∷ g.points;
-  reads = Reads-ascii_between b l f g;
-  encoded = bytes-append f.points (b ∷ g.points)
-      ∙ (ap (λ a. a ++ bytes (b ∷ g.points)) f.encoded ∙ ap (λ a. w ++ a) (IsForm-cons_ascii b l g).encoded);
-}
+abbrev IsForm-ascii_between : {w u x v : List ℕ} (b : ℕ) → b < 0x80 → IsForm w u → IsForm x v → IsForm (w ++ b ∷ x) (u ++ b ∷ v)
+IsForm-ascii_between b l f g =
+    form-append f (IsForm-cons_ascii b l g) (unpaired-before_no_trail b g.points (λ t. omega (arith, t.0, l)))
 
 -- the units of `whole` are those of `front`, an ASCII unit and those of `back` exactly if its bytes are
 pub parted_by_ascii : (whole front back : Wtf8) (b : ℕ) → b < 0x80
@@ -86,7 +71,7 @@ begins_by_ascii whole front b rest l e =
     (all_back (view_units front ++ b ∷ []) rest (subst (All IsUnit) (sym (append_assoc (view_units front) (b ∷ []) rest)) all)) in
     let same : whole.bytes.now ≡ w ++ b ∷ back.one = (equal_forms whole.bytes.now (w ++ b ∷ back.one) (view_units whole)
     (view_units front ++ b ∷ rest) (view_form whole) (IsForm-ascii_between b l f back.has)).1 e in
-    let reads = subst (Reads (view_points front ++ b ∷ back.has.points)) (sym e) (Reads-ascii_between b l f back.has) in
+    let reads = subst (Reads (view_points front ++ b ∷ back.has.points)) (sym e) (IsForm-ascii_between b l f back.has).reads in
     record {
       inside = omega (arith, ap length same, length-append w (b ∷ back.one));
       front_bytes = ap (take (length w)) same ∙ take_at w (b ∷ back.one) (length w) refl;

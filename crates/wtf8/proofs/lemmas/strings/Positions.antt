@@ -248,7 +248,6 @@ points_about c n s h =
           let joined : c ≡ cut.front ++ p ∷ rest = cut.joined ∙ ap (λ b. cut.front ++ b) e in
           let long : cursor < length (bytes c) =
           omega (arith, cut.front_len, ap (λ d. length (bytes d)) joined, length-bytes_append cut.front p rest, length-encoding_bounds p) in
-          let here : get_or (bytes c) cursor 0 ≡ get_or (encoding p ++ bytes rest) 0 0 = ap (λ d. get_or (bytes d) cursor 0) joined
-          ∙ (ap (λ k. get_or (bytes (cut.front ++ p ∷ rest)) k 0) (sym cut.front_len) ∙ first-bytes_after cut.front p rest) in
+          let here : get_or (bytes c) cursor 0 ≡ get_or (encoding p ++ bytes rest) 0 0 = grind (arith, first-bytes_after) in
           omega (arith, next long, ap utf16_len here, utf16_len-encoding p (bytes rest));
     }

@@ -19,12 +19,9 @@ surrogate_at f p b s =
     let whole : bytes (f ++ p ∷ b) ≡ bytes f ++ (encoding p ++ bytes b) = bytes-append f (p ∷ b) in
     let at : (k : ℕ) → get_or (bytes (f ++ p ∷ b)) (length (bytes f) + k) 0 ≡ get_or (encoding p ++ bytes b) k 0 =
     λ k. ap (λ w. get_or w (length (bytes f) + k) 0) whole ∙ get_or-append-add (bytes f) (encoding p ++ bytes b) k 0 in
-    record {
-      within = omega
-          (arith, ap length whole, length-append (bytes f) (encoding p ++ bytes b), length-append (encoding p) (bytes b), ap length row);
-      first = ap (λ k. get_or (bytes (f ++ p ∷ b)) k 0) (omega arith) ∙ (at 0 ∙ (ap (λ w. get_or (w ++ bytes b) 0 0) row ∙ omega arith));
-      second = omega (arith, at 1, ap (λ w. get_or (w ++ bytes b) 1 0) row);
-    }
+    let first = at 0 in
+    let second = at 1 in
+    grind (arith, length-append)
 
 -- the code point that begins at such bytes is a surrogate
 pub record SurrogateIn (c : List ℕ) (i : ℕ) : Type 0 where
@@ -204,15 +201,9 @@ pub record AroundSurrogate (w : List ℕ) (front : List ℕ) (found : ℕ) (back
 pub around_surrogate : (w front : List ℕ) (p : ℕ) (back : List ℕ) (found : ℕ) → w ≡ bytes (front ++ p ∷ back) → length (bytes front) ≡ found
     → IsSurrogate p → AroundSurrogate w front found back
 around_surrogate w front p back found e n s =
-    let three = length-surrogate p s in
     let whole : w ≡ bytes front ++ (encoding p ++ bytes back) = e ∙ bytes-append front (p ∷ back) in
     let other : w ≡ (bytes front ++ encoding p) ++ bytes back = whole ∙ sym (append_assoc (bytes front) (encoding p) (bytes back)) in
-    record {
-      before = ap (take found) whole ∙ take_at (bytes front) (encoding p ++ bytes back) found n;
-      after = ap (drop (found + 3)) other ∙ drop_at (bytes front ++ encoding p) (bytes back) (found + 3)
-          (omega (arith, n, three, length-append (bytes front) (encoding p)));
-      within = omega (arith, ap length whole, length-append {A = ℕ});
-    }
+    grind (arith, length-surrogate, length-append, take_at, drop_at)
 
 pub replacing_step : (c w : List ℕ) (from found : ℕ) → Replacing c w from → IsLeast (SurrogateAt w) from found
     → (found + 3 ≤ length w) × Replacing c (take found w ++ (0xEF ∷ 0xBF ∷ 0xBD ∷ drop (found + 3) w)) (found + 3)

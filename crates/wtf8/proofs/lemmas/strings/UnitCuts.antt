@@ -200,13 +200,13 @@ no_continuation b h = grind (arith, lt-ltb, le-ltb)
 Begins-first_byte : {w : List ℕ} → IsWellFormed w → 0 < length w → Begins (get_or w 0 0)
 Begins-first_byte h n = let b = (first_of h n).0 in subst Begins (sym (ap (λ v. get_or v 0 0) b.encoded)) (first-encoding b.point b.rest)
 
-pub first_no_continuation : {w : List ℕ} → IsWellFormed w → is_continuation (get_or w 0 0) ≡ false
-first_no_continuation {w = []} h = refl
-first_no_continuation {w = a ∷ r} h = no_continuation a (Begins-first_byte h (omega arith))
-
 -- bytes that begin with no continuation byte hold no trail
-pub held_trail-none : (w : List ℕ) → is_continuation (get_or w 0 0) ≡ false → (held_trail w ≡ []) × (after_held_trail w ≡ w)
+held_trail-none : (w : List ℕ) → is_continuation (get_or w 0 0) ≡ false → (held_trail w ≡ []) × (after_held_trail w ≡ w)
 held_trail-none w e = grind (arith)
+
+pub none_held : {w : List ℕ} → IsWellFormed w → (held_trail w ≡ []) × (after_held_trail w ≡ w)
+none_held {w = []} h = (refl, refl)
+none_held {w = a ∷ r} h = held_trail-none (a ∷ r) (no_continuation a (Begins-first_byte h (omega arith)))
 
 -- bytes that begin inside a pair have both bytes of the trail
 pub held_trail-two_bytes : (w : List ℕ) → IsWellFormed (after_held_trail w) → 0x80 ≤ get_or w 0 0 → get_or w 0 0 < 0xC0 → 1 < length w
@@ -240,7 +240,7 @@ steps_one v at h p n same long start small read =
     let none = none_held_at v at same start in
     let t = Taken-from_first v at (IsWellFormed-equal_bytes h (sym none.1)) p (at + n) long (λ b.
     let x = read (BeginsWithPoint-equal_bytes b same) in (x.0, omega (arith, x.1))) in
-    let m = held_trail-none (drop (at + n) v) (first_no_continuation t.rest) in
+    let m = none_held t.rest in
     let all = units_one p small ∙ ap (λ k. p ∷ k) (sym m.0) in
     steps_first v at h p p (at + n) none.0 t.within (IsWellFormed-equal_bytes t.rest m.1) t.joined all
 
@@ -275,7 +275,7 @@ steps_trail v at h unit same l g u =
     let whole = held_trail-two_bytes (drop at v) h least most in
     let n = held_trail-some (drop at v) whole (continuation_range (get_or (drop at v) 0 0) least most) in
     let b = IsWellFormed-equal_bytes h (sym (drop-drop 2 at v) ∙ sym n.1) in
-    let m = held_trail-none (drop (at + 2) v) (first_no_continuation b) in
+    let m = none_held b in
     let own = u ∙ ap (λ x. trail_from_bytes (get_or x 0 0) (get_or x 1 0)) same in
     record {
       within = omega (arith, whole, length-drop at v);
