@@ -138,10 +138,9 @@ lead_last c g l h e = elim (last_of c) [
   | inr x ↦
       let f = x.0 in
       let p = x.1 in
-      let z = x.2 in
-      let whole : units f ++ units_of p ≡ g ++ l ∷ [] = cc (units-pushed f p) in
+      let whole : units f ++ units_of p ≡ g ++ l ∷ [] = cc (units-pushed f p, x.2) in
       elim (cases_lt p 0x10000) [
-        | inl s ↦ (f, z ∙ ap (λ n. f ++ n ∷ []) (same_from_push (units f) g p l (ap (λ u. units f ++ u) (sym (units_one p s)) ∙ whole)).1)
+        | inl s ↦ (f, x.2 ∙ ap (λ n. f ++ n ∷ []) (same_from_push (units f) g p l (rw (units_one p s) at whole)).1)
         | inr s ↦
             let two : (units f ++ lead_of p ∷ []) ++ trail_of p ∷ [] ≡ g ++ l ∷ [] = rw (append_assoc, ← units_two p s) whole in
             absurd (omega (arith, (same_from_push (units f ++ lead_of p ∷ []) g (trail_of p) l two).1, h.1))

@@ -52,8 +52,7 @@ surrogate_in c i s =
       point = f.point;
       back = f.back;
       joined = cut.joined ∙ (ap (λ b. cut.front ++ b) f.joined ∙ sym (append_assoc cut.front f.front (f.point ∷ f.back)));
-      front_len = omega
-          (arith, ap length (bytes-append cut.front f.front), length-append (bytes cut.front) (bytes f.front), cut.front_len, f.front_len);
+      front_len = simp (bytes-append, length-append, cut.front_len, f.front_len) (omega arith);
       surrogate = f.surrogate;
     }
 
@@ -122,14 +121,11 @@ pub ends_in_surrogate : (w f : List ℕ) (p : ℕ) → IsSurrogate p → bytes (
 ends_in_surrogate w f p s e =
     let row = third_row p in
     let whole : w ≡ bytes f ++ row = sym e ∙ (bytes-pushed f p ∙ ap (λ v. bytes f ++ v) (encoding_three p (omega arith) (omega arith))) in
-    let long : length w ≡ length (bytes f) + 3 = ap length whole ∙ length-append (bytes f) row in
-    let at : (k m : ℕ) → length (bytes f) + k ≡ m → get_or w m 0 ≡ get_or row k 0 = λ k m q. cc (get_or-append-add (bytes f) row k 0) in
-    record {
-      three = omega arith;
-      first = at 0 (length w - 3) (omega arith) ∙ omega arith;
-      second = at 1 (length w - 2) (omega arith);
-      third = at 2 (length w - 1) (omega arith);
-    }
+    let at : (k : ℕ) → get_or w (length (bytes f) + k) 0 ≡ get_or row k 0 = λ k. cc (get_or-append-add (bytes f) row k 0) in
+    let first = at 0 in
+    let second = at 1 in
+    let third = at 2 in
+    grind (arith, length-append)
 
 -- the surrogate that ends a string if the third byte from the end is ED and the next at least A0
 pub record LastSurrogate (c w : List ℕ) : Type 0 where
@@ -143,8 +139,7 @@ pub last_surrogate : {w : List ℕ} (h : IsWellFormed w) → 3 ≤ length w → 
     → LastSurrogate h.points w
 last_surrogate {w} h len first second =
     let i = length w - 3 in
-    let next : get_or w (i + 1) 0 ≡ get_or w (length w - 2) 0 = ap (λ k. get_or w k 0) (omega arith) in
-    let at : SurrogateAt w i = record { within = omega arith; first = first; second = omega (arith, next, second) } in
+    let at : SurrogateAt w i = grind (arith) in
     let p = surrogate_in h.points i (subst (λ v. SurrogateAt v i) (sym h.encoded) at) in
     let whole : bytes p.front ++ (encoding p.point ++ bytes p.back) ≡ w = cc (bytes-append p.front (p.point ∷ p.back)) in
     let long = simp length-append at (ap length whole) in

@@ -98,17 +98,11 @@ pub in_pair_at_cursor : {c : List ℕ} {n : ℕ} {cursor : UnitCursor} → Point
 in_pair_at_cursor {c} {n} {cursor} x inside m = at_back x.cut.back refl
   where
     at_back : (back : List ℕ) → x.cut.back ≡ back → InPair c n cursor
-    at_back [] e =
-        let whole = ap bytes x.cut.joined ∙ (bytes-append x.cut.front x.cut.back ∙ ap (λ b. bytes x.cut.front ++ bytes b) e) in
-        absurd (omega (arith, inside, ap length whole, length-append (bytes x.cut.front) [], x.cut.front_len))
+    at_back [] e = absurd (grind (arith, append-nil, x.cut.joined, x.cut.front_len))
     at_back (p ∷ rest) e =
-        let more = x.holds p rest e in
-        elim (cases_lt p 0x10000) [
-          | inl h ↦ absurd (omega (arith, more, ap length (units_one p h), m, x.not_beyond))
-          | inr h ↦
-              let one_less : cursor.units + 1 ≡ n = omega (arith, more, ap length (units_two p h), m, x.not_beyond) in
-              record { point = p; divided = divided_from_cut x.cut p rest e h one_less; one_less = one_less }
-        ]
+        let large : 0x10000 ≤ p = grind (arith, cases_lt, units_one, x.holds p rest e, x.not_beyond) in
+        let one_less : cursor.units + 1 ≡ n = omega (arith, x.holds p rest e, ap length (units_two p large), m, x.not_beyond) in
+        record { point = p; divided = divided_from_cut x.cut p rest e large one_less; one_less = one_less }
 
 -- what the position of a cursor says: the cut is between code points, or inside the pair that begins there
 pub undivided_at : {w : List ℕ} (h : IsWellFormed w) (n : ℕ) (cursor : UnitCursor) → IsCursorOfUnit w n cursor → cursor.units ≡ n

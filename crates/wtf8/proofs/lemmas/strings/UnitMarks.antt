@@ -204,14 +204,11 @@ divided_are_surrogates u n m =
     let inside : n < length u = omega (arith, ap length m.begins, length-drop n u) in
     let front : length (m.front ++ m.lead ∷ []) ≡ n = sym (ap length m.ends) ∙ length-take-le n u (omega (arith, inside)) in
     let whole : u ≡ (m.front ++ m.lead ∷ []) ++ m.trail ∷ m.rest = grind (arith, take-append-drop) in
-    let before : n - 1 ≡ length m.front = omega (arith, front, length-append m.front (m.lead ∷ [])) in
+    let long = length-append m.front (m.lead ∷ []) in
+    let before : n - 1 ≡ length m.front = omega (arith, front) in
     let lead : get_or u (n - 1) 0 ≡ m.lead = grind (arith, append_assoc, get_or-append_seam) in
-    let trail : get_or u n 0 ≡ m.trail = grind (arith, get_or-append_seam) in (
-      omega (arith, front, length-append m.front (m.lead ∷ [])),
-      inside,
-      subst IsLead (sym lead) m.is_lead,
-      subst IsTrail (sym trail) m.is_trail,
-    )
+    let trail : get_or u n 0 ≡ m.trail = grind (arith, get_or-append_seam) in
+    (omega (arith, front), inside, subst IsLead (sym lead) m.is_lead, subst IsTrail (sym trail) m.is_trail)
 
 -- code points with equal numbers of bytes and units are ASCII
 ascii_from_lengths : (c : List ℕ) → length (bytes c) ≡ length (units c) → AreAscii c

@@ -150,9 +150,3 @@ returns-in_default-clause-stopped g c =
       before = c.loop-done.invariant.ran;
       leaves = c.in_default.ensures.refused;
     }
-
-pub returns-clause-run : goal.returns-clause-run
-returns-clause-run g c = rw (take_all c.loop-done.done c.args.calls.now (omega arith)) at c.loop-done.invariant.ran
-
-pub returns-clause-reserved : goal.returns-clause-reserved
-returns-clause-reserved g c = rw (take_all c.loop-done.done c.args.calls.now (omega arith)) at c.loop-done.invariant.reserved
