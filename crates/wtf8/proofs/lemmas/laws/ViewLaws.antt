@@ -3,19 +3,26 @@ use Rattle.wtf8.proofs.Common.{◌≡◌, ◌<◌, ◌+◌, ℕ, List, [], ◌�
 use Rattle.wtf8.proofs.Common.{take, take_at, append_assoc, units, bytes, Reads, IsForm, IsBack, Wtf8, view_units, view_form, AreScalar}
 use Rattle.wtf8.proofs.Common.{lossy_points, chars, bytes_are_encodes, All, IsUnit, number, numbers, Drains, Option, Run, Build, CodePoint}
 use Rattle.wtf8.proofs.Common.{slice_index, YieldsList-from_first, chars-encodes, get_or-append_seam, take_source, take_count, skip_source}
-use Rattle.wtf8.proofs.Common.{skip_count, view_points, rules}
+use Rattle.wtf8.proofs.Common.{skip_count, view_points, rules, bytes-injective}
 use Rattle.std.proofs.lemmas.Iterator.{YieldsList, items_from_drains, YieldsList-from_take}
 use Rattle.std.proofs.lemmas.Iterator.Adapters.{YieldsList-from_skip}
+use Rattle.std.specs.Char.{encode_utf8}
+use Rattle.wtf8.specs.EncodingLaws.{ScalarsAreInUtf8}
+use Rattle.wtf8.specs.Form.{encoding}
 use Rattle.wtf8.specs.PointLaws.{DrainedPointsAreLeft, DrainedPointsAreTaken, DrainedPointsAreAfterSkip, CollectedPointsAreLeft}
 use Rattle.wtf8.specs.PointLaws.{CollectedPointsAreTaken, CollectedPointsAreAfterSkip}
 use Rattle.wtf8.specs.StringLaws.{CharactersComeBack}
 use Rattle.wtf8.proofs.lemmas.codec.Encoding.{encoding_one, bytes-append, bytes-pushed, encoding_same}
 use Rattle.wtf8.proofs.lemmas.codec.Readings.{clean-append, unpaired-after_no_lead, unpaired-before_no_trail, same_reading, units_one}
-use Rattle.wtf8.proofs.lemmas.codec.Readings.{units-append}
-use Rattle.wtf8.proofs.lemmas.strings.Concatenation.{equal_forms, one_form, units_read, one_reading, none_begins_another}
+use Rattle.wtf8.proofs.lemmas.codec.Readings.{units-append, units_pair, lists_have_lengths, form-append, form_append-unpaired}
+use Rattle.wtf8.proofs.lemmas.comparing.Order.{before_bytes, cmp-bytes, order_of}
+use Rattle.wtf8.proofs.lemmas.laws.ComparisonLaws.{equal_buffers_compare, equal_views_compare}
+use Rattle.wtf8.proofs.lemmas.strings.Concatenation.{equal_forms, one_form, units_read, one_reading, none_begins_another, reads-glue}
+use Rattle.wtf8.proofs.lemmas.strings.Concatenation.{form_paired, glue_meeting, glue-unpaired, glue_assoc, glue-nil}
 use Rattle.wtf8.proofs.lemmas.strings.ExtendedForms.{all_back}
 use Rattle.wtf8.proofs.lemmas.strings.Surrogates.{scalars_true, scalars-lossy_points}
-use Rattle.wtf8.proofs.lemmas.strings.StringLaws.{run_once, runs_add, scalars_stay}
+use Rattle.wtf8.proofs.lemmas.strings.StringLaws.{run_once, runs_add, scalars_stay, equal_views}
+use Rattle.wtf8.proofs.lemmas.strings.UnitMarks.{divided_are_surrogates}
 
 -- the code points of a view are the only reading of its units
 pub view_reads : (t : Wtf8) → Reads (view_points t) (view_units t)
@@ -38,24 +45,9 @@ IsForm-cons_ascii b l g = record {
 }
 
 -- two forms with an ASCII unit between them
-Reads-ascii_between : {w u x v : List ℕ} (b : ℕ) → b < 0x80 → (f : IsForm w u) (g : IsForm x v)
-    → Reads (f.points ++ b ∷ g.points) (u ++ b ∷ v)
-Reads-ascii_between {u = u} b l f g =
-    let after = (IsForm-cons_ascii b l g).reads in
-    record {
-      clean =
-          clean-append f.points (b ∷ g.points) f.reads.clean after.clean (unpaired-before_no_trail b g.points (λ t. omega (arith, t.0, l)));
-      same_units = units-append f.points (b ∷ g.points)
-          ∙ (ap (λ a. a ++ units (b ∷ g.points)) f.reads.same_units ∙ ap (λ a. u ++ a) after.same_units);
-    }
-
-IsForm-ascii_between : {w u x v : List ℕ} (b : ℕ) → b < 0x80 → IsForm w u → IsForm x v → IsForm (w ++ b ∷ x) (u ++ b ∷ v)
-IsForm-ascii_between {w} b l f g = record {
-  points = f.points ++ b ∷ g.points;
-  reads = Reads-ascii_between b l f g;
-  encoded = bytes-append f.points (b ∷ g.points)
-      ∙ (ap (λ a. a ++ bytes (b ∷ g.points)) f.encoded ∙ ap (λ a. w ++ a) (IsForm-cons_ascii b l g).encoded);
-}
+abbrev IsForm-ascii_between : {w u x v : List ℕ} (b : ℕ) → b < 0x80 → IsForm w u → IsForm x v → IsForm (w ++ b ∷ x) (u ++ b ∷ v)
+IsForm-ascii_between b l f g =
+    form-append f (IsForm-cons_ascii b l g) (unpaired-before_no_trail b g.points (λ t. omega (arith, t.0, l)))
 
 -- the units of `whole` are those of `front`, an ASCII unit and those of `back` exactly if its bytes are
 pub parted_by_ascii : (whole front back : Wtf8) (b : ℕ) → b < 0x80
@@ -79,7 +71,7 @@ begins_by_ascii whole front b rest l e =
     (all_back (view_units front ++ b ∷ []) rest (subst (All IsUnit) (sym (append_assoc (view_units front) (b ∷ []) rest)) all)) in
     let same : whole.bytes.now ≡ w ++ b ∷ back.one = (equal_forms whole.bytes.now (w ++ b ∷ back.one) (view_units whole)
     (view_units front ++ b ∷ rest) (view_form whole) (IsForm-ascii_between b l f back.has)).1 e in
-    let reads = subst (Reads (view_points front ++ b ∷ back.has.points)) (sym e) (Reads-ascii_between b l f back.has) in
+    let reads = subst (Reads (view_points front ++ b ∷ back.has.points)) (sym e) (IsForm-ascii_between b l f back.has).reads in
     record {
       inside = omega (arith, ap length same, length-append w (b ∷ back.one));
       front_bytes = ap (take (length w)) same ∙ take_at w (b ∷ back.one) (length w) refl;
@@ -140,18 +132,15 @@ collected_front s points d = search (rules, items_from_drains, YieldsList-from_t
 pub collected_back : CollectedPointsAreAfterSkip
 collected_back s points d = search (rules, items_from_drains, YieldsList-from_skip, YieldsList-from_first)
 
+-- the encoding of every number is the library's
+pub encoding_utf8 : ScalarsAreInUtf8
+unfolding encoding encode_utf8
+encoding_utf8 p s = refl
+
 -- the lemmas that state a law word for word, and so prove it
-pub ruleset laws = (
-  one_reading,
-  units_read,
-  none_begins_another,
-  encoding_same,
-  run_once,
-  runs_add,
-  scalars_stay,
-  characters_come_back,
-  view_reads,
-  one_view_reading,
-  view_characters,
-  lossy_characters,
-)
+pub ruleset encoding_laws = (encoding_utf8, encoding_one, encoding_same, none_begins_another, units_one, units_pair, lists_have_lengths)
+pub ruleset byte_laws = (before_bytes, cmp-bytes, order_of, equal_buffers_compare, equal_views_compare, bytes-injective)
+pub ruleset form_laws = (one_reading, units_read, equal_views, parted_by_ascii, reads-glue, form_paired, form_append-unpaired)
+pub ruleset glue_laws = (glue_meeting, glue-unpaired, glue_assoc, glue-nil, run_once, runs_add, scalars_stay, characters_come_back)
+pub ruleset view_laws = (view_reads, one_view_reading, view_characters, lossy_characters, divided_are_surrogates)
+pub ruleset laws = (encoding_laws, byte_laws, form_laws, glue_laws, view_laws)

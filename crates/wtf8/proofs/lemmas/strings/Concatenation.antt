@@ -1,9 +1,9 @@
 -- Strings joined: the form of two lists of units, with the pair at the seam as one code point.
-use Rattle.wtf8.proofs.Common.{◌≡◌, ℕ, inl, inr, List, [], ◌∷◌, ◌++◌, refl, sym, ap, ◌∙◌, subst, arith, append_assoc, cases_Bool, form_of}
+use Rattle.wtf8.proofs.Common.{◌≡◌, ℕ, inl, inr, ◌⊎◌, List, [], ◌∷◌, ◌++◌, refl, sym, ap, ◌∙◌, subst, arith, append_assoc, cases_Bool}
 use Rattle.wtf8.proofs.Common.{append-nil, IsLead, IsTrail, units, units_of, pair, IsClean, Reads, MeetsAsPair, is_pair, glue, ◌+◌, ◌-◌}
 use Rattle.wtf8.proofs.Common.{◌≤◌, length, take, drop, length-append, cases_lt, take_at, drop_at, same_from_push, bytes, encoding, IsForm}
 use Rattle.wtf8.proofs.Common.{length-drop, All, All-nil, All-cons, All-head, All-tail, All-same, IsUnit, IsCodePoint, ◌%◌, ◌<◌, get_or}
-use Rattle.wtf8.proofs.Common.{take-append-drop, length-take-le}
+use Rattle.wtf8.proofs.Common.{take-append-drop, length-take-le, form_of}
 use Rattle.std.proofs.lemmas.List.{drop_more, take_more}
 use Rattle.std.proofs.lemmas.List.Elements.{All-append}
 use Rattle.wtf8.specs.Laws.{UnitsHaveOneReading, ReadingsAreOfUnits, UnitsHaveOneForm, FormsAreOfOneList, EqualFormsHaveEqualUnits}
@@ -17,30 +17,22 @@ use Rattle.wtf8.proofs.lemmas.codec.Readings.{lead_of, trail_of, units_two, unit
 -- Lists of any kind: the last item, and the item at an index.
 
 -- a list is empty or has a last item
-pub data Last (c : List ℕ) : Type 0 where
-  empty : c ≡ [] → Last c
-  ends : (f : List ℕ) (l : ℕ) → c ≡ f ++ l ∷ [] → Last c
-
-pub last_of : (c : List ℕ) → Last c
-last_of [] = empty refl
-last_of (p ∷ c) = elim (last_of c) [ empty e ↦ ends [] p (ap (λ d. p ∷ d) e) | ends f l e ↦ ends (p ∷ f) l (ap (λ d. p ∷ d) e) ]
+pub last_of : (c : List ℕ) → (c ≡ []) ⊎ ((f : List ℕ) × (l : ℕ) × (c ≡ f ++ l ∷ []))
+last_of [] = inl refl
+last_of (p ∷ c) = elim (last_of c) [ inl e ↦ inr ([], p, ap (λ d. p ∷ d) e) | inr x ↦ inr (p ∷ x.0, x.1, ap (λ d. p ∷ d) x.2) ]
 
 module _ {X : Type 0} where
   -- dividing a list with one more item, at that item or before it
-  pub data SplitOfPush (xs : List X) (x : X) (front : List X) (y : X) (back : List X) : Type 0 where
-    at_last : xs ≡ front → x ≡ y → SplitOfPush xs x front y back
-    before : (rest : List X) → xs ≡ front ++ y ∷ rest → back ≡ rest ++ x ∷ [] → SplitOfPush xs x front y back
-
   pub split_of_push : (xs : List X) (x : X) (front : List X) (y : X) (back : List X) → xs ++ x ∷ [] ≡ front ++ y ∷ back
-      → SplitOfPush xs x front y back
-  split_of_push [] x [] y back e = at_last refl (ap (λ l. get_or l 0 x) e)
+      → ((xs ≡ front) × (x ≡ y)) ⊎ ((rest : List X) × (xs ≡ front ++ y ∷ rest) × (back ≡ rest ++ x ∷ []))
+  split_of_push [] x [] y back e = inl (refl, ap (λ l. get_or l 0 x) e)
   split_of_push [] x (f ∷ front) y back e = absurd (omega (arith, ap length e, length-append front (y ∷ back)))
-  split_of_push (z ∷ xs) x [] y back e = before xs (ap (λ h. h ∷ xs) (ap (λ l. get_or l 0 z) e)) (sym (ap (drop 1) e))
+  split_of_push (z ∷ xs) x [] y back e = inr (xs, ap (λ h. h ∷ xs) (ap (λ l. get_or l 0 z) e), sym (ap (drop 1) e))
   split_of_push (z ∷ xs) x (f ∷ front) y back e =
       let same : z ≡ f = ap (λ l. get_or l 0 z) e in
       elim (split_of_push xs x front y back (ap (drop 1) e)) [
-        | at_last s o ↦ at_last (cc (s, same)) o
-        | before rest s b ↦ before rest (cc (s, same)) b
+        | inl a ↦ inl (cc (a.0, same), a.1)
+        | inr b ↦ inr (b.0, cc (b.1, same), b.2)
       ]
 
   -- the items before an index, the item there and the items after it are the list
@@ -142,11 +134,13 @@ form_meeting {w} {v} {a} {b} x y m =
 -- a lead that is the last unit is the last code point
 pub lead_last : (c g : List ℕ) (l : ℕ) → IsLead l → units c ≡ g ++ l ∷ [] → (f : List ℕ) × (c ≡ f ++ l ∷ [])
 lead_last c g l h e = elim (last_of c) [
-  | empty z ↦ absurd (omega (arith, ap (λ d. length (units d)) z, ap length e, length-append g (l ∷ [])))
-  | ends f p z ↦
-      let whole : units f ++ units_of p ≡ g ++ l ∷ [] = cc (units-pushed f p) in
+  | inl z ↦ absurd (omega (arith, ap (λ d. length (units d)) z, ap length e, length-append g (l ∷ [])))
+  | inr x ↦
+      let f = x.0 in
+      let p = x.1 in
+      let whole : units f ++ units_of p ≡ g ++ l ∷ [] = cc (units-pushed f p, x.2) in
       elim (cases_lt p 0x10000) [
-        | inl s ↦ (f, z ∙ ap (λ n. f ++ n ∷ []) (same_from_push (units f) g p l (ap (λ u. units f ++ u) (sym (units_one p s)) ∙ whole)).1)
+        | inl s ↦ (f, x.2 ∙ ap (λ n. f ++ n ∷ []) (same_from_push (units f) g p l (rw (units_one p s) at whole)).1)
         | inr s ↦
             let two : (units f ++ lead_of p ∷ []) ++ trail_of p ∷ [] ≡ g ++ l ∷ [] = rw (append_assoc, ← units_two p s) whole in
             absurd (omega (arith, (same_from_push (units f ++ lead_of p ∷ []) g (trail_of p) l two).1, h.1))
@@ -179,26 +173,25 @@ length_paired w v z a b x y f m =
 
 -- Proofs of the laws of readings and forms: they exist, and each is the only one.
 
--- a single unit is the code point of the same number
-reads_one : (n : ℕ) → IsUnit n → Reads (n ∷ []) (n ∷ [])
-reads_one n h = record { clean = omega arith; same_units = append-nil (units_of n) ∙ units_one n (omega arith) }
-
 -- the reading of a list of units: the first unit joined to the reading of the others
 reading_exists : (u : List ℕ) → All IsUnit u → (c : List ℕ) × Reads c u
 reading_exists [] h = ([], record { clean = tt; same_units = refl })
 reading_exists (n ∷ u) h =
     let rest = reading_exists u (All-tail IsUnit n u h) in
-    (glue (n ∷ []) rest.0, reads-glue (n ∷ []) rest.0 (n ∷ []) u (reads_one n (All-head IsUnit n u h)) rest.1)
+    let unit = All-head IsUnit n u h in
+    let same = append-nil (units_of n) ∙ units_one n (omega arith) in
+    let one : Reads (n ∷ []) (n ∷ []) = record { clean = omega arith; same_units = same } in
+    (glue (n ∷ []) rest.0, reads-glue (n ∷ []) rest.0 (n ∷ []) u one rest.1)
 
 pub one_reading : UnitsHaveOneReading
 one_reading u h = grind (arith, reading_exists, same_reading)
 
-units_in_range : (p : ℕ) → IsCodePoint p → All IsUnit (units_of p)
-units_in_range p h = grind (arith, cases_lt, units_one, All-cons, All-nil, units_two)
-
 all_units : (c : List ℕ) → IsClean c → All IsUnit (units c)
 all_units [] x = All-nil IsUnit
-all_units (p ∷ c) x = All-append IsUnit (units_of p) (units c) (units_in_range p (clean-first p c x)) (all_units c (clean-rest p c x))
+all_units (p ∷ c) x =
+    let range = clean-first p c x in
+    let own : All IsUnit (units_of p) = grind (arith, cases_lt, units_one, All-cons, All-nil, units_two) in
+    All-append IsUnit (units_of p) (units c) own (all_units c (clean-rest p c x))
 
 pub units_read : ReadingsAreOfUnits
 units_read c u x = All-same IsUnit u (units c) (sym x.same_units) (all_units c x.clean)

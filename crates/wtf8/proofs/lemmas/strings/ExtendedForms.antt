@@ -1,12 +1,12 @@
 -- The effect of appending calls: the contents, the UTF-8 prefix and the capacity.
+use Rattle.wtf8.proofs.Common.{form_of, well_formed_of}
 use Rattle.wtf8.proofs.Common.{◌≡◌, ◌+◌, ◌-◌, ◌≤◌, List, [], ◌∷◌, ℕ, ◌++◌, length, take, drop, Result, Ok, Err, OnOk, OnErr, refl, ap, ◌∙◌}
 use Rattle.wtf8.proofs.Common.{sym, subst, arith, append-nil, drop_all, units, units_of, pair, IsLead, IsTrail, IsCodePoint, UnitString}
 use Rattle.wtf8.proofs.Common.{KeepsContents, MeetsAsPair, encoding, IsWellFormed, IsForm, ExtendsForm, ExtendsFormOrKeeps, inl, inr, true}
 use Rattle.wtf8.proofs.Common.{chars, IsUtf8, scalars-chars, and_parts, scalar, scalars, IsSurrogate, IsClean, bytes_are_encodes, AreScalar}
 use Rattle.wtf8.proofs.Common.{append_assoc, length-append, All, take_at, drop_at, All-drop, All-same, Step, EachCallFits, Build, number}
 use Rattle.wtf8.proofs.Common.{numbers, glue, IsUnit, bytes, ◌<◌, cases_lt, append_cancel_left, SurrogateAt, on_ok_weaker, vec_capacity}
-use Rattle.wtf8.proofs.Common.{length-map, All-take, encodes-chars, on_err_weaker, IsOk, HasRoomFor, CallFits, CodePoint, AreScalarTo}
-use Rattle.wtf8.proofs.Common.{form_of, well_formed_of}
+use Rattle.wtf8.proofs.Common.{length-map, All-take, encodes-chars, on_err_weaker, IsOk, HasRoomFor, FitWithin, CallFits, CodePoint, AreScalarTo}
 use lib.Utf8.{scalar_cases}
 use Rattle.std.specs.declared.vec.Vec.{Vec}
 use Rattle.wtf8.proofs.lemmas.codec.Encoding.{length-surrogate, length-encoding_bounds, length-bytes_append, encoding_four}
@@ -22,11 +22,6 @@ use Rattle.wtf8.proofs.lemmas.strings.Positions.{shorter_is_prefix}
 
 -- A string after a call that appended to its bytes, or was refused.
 
--- strings with equal bytes have equal contents
-pub contents_of : (new old : UnitString) → new.bytes ≡ old.bytes → KeepsContents old new
-contents_of new old e =
-    record { units = units_from_form new.bytes new.units old.units new.form (subst (λ w. IsForm w old.units) (sym e) old.form); bytes = e }
-
 module _ {T E Z : Type 0} {b n : Vec ℕ Z} {v : List ℕ} {r : Result T E} where
   -- the units after a call that appended `v`; `was` and `old` are the string before it
   pub units_appended : (was old : UnitString) (k : IsWellFormed n.items) → was ≡ old → was.bytes ≡ b.items → ExtendsFormOrKeeps b v n r
@@ -38,7 +33,10 @@ module _ {T E Z : Type 0} {b n : Vec ℕ Z} {v : List ℕ} {r : Result T E} wher
   pub kept_contents : (was old new : UnitString) → was ≡ old → was.bytes ≡ b.items → new.bytes ≡ n.items → ExtendsFormOrKeeps b v n r
       → OnErr r (KeepsContents old new)
   kept_contents was old new s e f g =
-      on_err_weaker r (λ h. contents_of new old (f ∙ (h ∙ (sym e ∙ ap (λ (t : UnitString). t.bytes) s)))) g.becomes.err
+      on_err_weaker r (λ h.
+      let same = f ∙ (h ∙ (sym e ∙ ap (λ (t : UnitString). t.bytes) s)) in
+      let form = subst (λ w. IsForm w old.units) (sym same) old.form in
+      record { units = units_from_form new.bytes new.units old.units new.form form; bytes = same }) g.becomes.err
 
   pub room_found : (was old : UnitString) → was ≡ old → was.bytes ≡ b.items → was.capacity ≡ vec_capacity b → ExtendsFormOrKeeps b v n r
       → HasRoomFor old v → IsOk r
@@ -66,19 +64,13 @@ pub ExtendsForm-append : {w v : List ℕ} (h : IsWellFormed w) (k : IsWellFormed
 ExtendsForm-append h k n = ExtendsForm-by_units (units k.points) h (form-append (form_of h) (form_of k) n)
 
 -- the encoding of one code point is well-formed
-abbrev one_point : (p : ℕ) → IsCodePoint p → IsWellFormed (encoding p)
+abbrev pub one_point : (p : ℕ) → IsCodePoint p → IsWellFormed (encoding p)
 one_point p range = record { points = p ∷ []; clean = range; encoded = append-nil (encoding p) }
 
 -- the encoding of one code point is the form of its units
 abbrev pub point_form : (p : ℕ) → IsCodePoint p → IsForm (encoding p) (units_of p)
 point_form p range =
     record { points = p ∷ []; reads = record { clean = range; same_units = append-nil (units_of p) }; encoded = append-nil (encoding p) }
-
--- appending one code point that completes no pair
-pub ExtendsForm-push : {w : List ℕ} (h : IsWellFormed w) (p : ℕ) → IsCodePoint p → ¬ (MeetsAsPair h.points (p ∷ []))
-    → ExtendsForm w (w ++ encoding p) (units_of p)
-ExtendsForm-push {w} h p range n =
-    subst (ExtendsForm w (w ++ encoding p)) (append-nil (units_of p)) (ExtendsForm-append h (one_point p range) n)
 
 -- appending a trail that completes the lead at the end
 pub record CompletedPair (w : List ℕ) (l t : ℕ) : Type 0 where
@@ -101,20 +93,13 @@ CompletedPair-from_lead {w} h f l t lead trail e =
 -- Text: its bytes are well-formed, and its characters are their code points.
 
 -- a scalar value is a code point that is no surrogate
-pub record ScalarFacts (c : ℕ) : Type 0 where
-  pub range : IsCodePoint c
-  pub not_surrogate : ¬ (IsSurrogate c)
-
-pub scalar_facts : (c : ℕ) → scalar c ≡ true → ScalarFacts c
+pub scalar_facts : (c : ℕ) → scalar c ≡ true → IsCodePoint c × ¬ (IsSurrogate c)
 scalar_facts c e = grind (arith, scalar_cases)
 
 pub clean-scalars : (cs : List ℕ) → scalars cs ≡ true → IsClean cs
 clean-scalars [] e = tt
-clean-scalars (c ∷ []) e = (scalar_facts c (and_parts (scalar c) (scalars []) e).0).range
-clean-scalars (c ∷ d ∷ cs) e =
-    let p = and_parts (scalar c) (scalars (d ∷ cs)) e in
-    let f = scalar_facts c p.0 in
-    (f.range, (λ h. f.not_surrogate (omega (arith, h.0), omega (arith, h.0))), clean-scalars (d ∷ cs) p.1)
+clean-scalars (c ∷ []) e = (scalar_facts c (and_parts (scalar c) (scalars []) e).0).0
+clean-scalars (c ∷ d ∷ cs) e = grind (arith, and_parts, scalar_facts, clean-scalars (d ∷ cs))
 
 -- the bytes of a text are well-formed, with its characters as code points
 abbrev pub well_formed_text : (w : List ℕ) → IsUtf8 w → IsWellFormed w
@@ -132,9 +117,7 @@ well_formed-equal_text {v} u e = IsWellFormed-equal_bytes (well_formed_text v u)
 -- the characters of a text are scalar values
 pub scalar-characters : (c : List ℕ) → scalars c ≡ true → AreScalar c
 scalar-characters [] e = tt
-scalar-characters (p ∷ c) e =
-    let parts = and_parts (scalar p) (scalars c) e in
-    ((scalar_facts p parts.0).not_surrogate, scalar-characters c parts.1)
+scalar-characters (p ∷ c) e = grind (arith, and_parts, scalar_facts, scalar-characters c)
 
 pub scalar_text : {w : List ℕ} → IsUtf8 w → AreScalar (chars w)
 scalar_text {w} u = scalar-characters (chars w) (scalars-chars w u)
@@ -230,16 +213,15 @@ utf8_prefix_after_extension c v k n h e x s l t extended =
     let same : now.points ≡ glue h.points c = same_reading now.points (glue h.points c) now.clean (clean-glue h.points c h.clean x) whole in
     (now, (subst (AreScalarTo n) (sym same) (scalar_to-glue k n h.points c s l (λ m. t (omega (arith, m, ap length h.encoded)))), tt))
 
-module _ {T E Z : Type 0} {b m : Vec ℕ Z} {v : List ℕ} where
+module _ {T E Z : Type 0} {b m : Vec ℕ Z} where
   -- after a call that appended units or was refused the bytes are well-formed, with a UTF-8 prefix of `n` bytes
-  pub utf8_prefix_after_append : (r : Result T E) (c : List ℕ) (k n : ℕ) (h : IsWellFormed b.items) → v ≡ units c → IsClean c
-      → AreScalarTo k h.points → n ≤ k
-      → (length b.items < n → AreScalar c) → ExtendsFormOrKeeps b v m r → (x : IsWellFormed m.items) × (AreScalarTo n x.points × Unit {0})
-  utf8_prefix_after_append (Ok _) c k n h e x s l t g = utf8_prefix_after_extension c v k n h e x s l t (rw g.becomes.ok g.extends)
+  pub utf8_prefix_after_append : {v : List ℕ} (r : Result T E) (c : List ℕ) (k n : ℕ) (h : IsWellFormed b.items) → v ≡ units c
+      → IsClean c → AreScalarTo k h.points → n ≤ k → (length b.items < n → AreScalar c) → ExtendsFormOrKeeps b v m r
+      → (x : IsWellFormed m.items) × (AreScalarTo n x.points × Unit {0})
+  utf8_prefix_after_append (Ok _) c k n h e x s l t g = utf8_prefix_after_extension c _ k n h e x s l t (rw g.becomes.ok g.extends)
   utf8_prefix_after_append (Err _) c k n h e x s l t g =
       (IsWellFormed-equal_bytes h g.becomes.err, ((λ f p b g m. s f p b g (omega (arith, l, m))), tt))
 
-module _ {T E Z : Type 0} {b m : Vec ℕ Z} where
   pub utf8_prefix_after_push : (r : Result T E) (p : ℕ) (k n : ℕ) (h : IsWellFormed b.items) → IsCodePoint p → AreScalarTo k h.points
       → n ≤ k → (length b.items < n → ¬ (IsSurrogate p)) → ExtendsFormOrKeeps b (units_of p) m r
       → (x : IsWellFormed m.items) × (AreScalarTo n x.points × Unit {0})
@@ -249,11 +231,8 @@ module _ {T E Z : Type 0} {b m : Vec ℕ Z} where
 -- Lengths of forms and of their parts, and the capacity that a list of calls needs.
 
 -- joined lists have at most the bytes of both, and at least one byte for each unit of the second
-pub record GluedLength (c d : List ℕ) : Type 0 where
-  pub least : length (bytes c) + length (units d) ≤ length (bytes (glue c d))
-  pub most : length (bytes (glue c d)) ≤ length (bytes c) + length (bytes d)
-
-glued_length : (c d : List ℕ) → GluedLength c d
+glued_length : (c d : List ℕ) → (length (bytes c) + length (units d) ≤ length (bytes (glue c d)))
+    × (length (bytes (glue c d)) ≤ length (bytes c) + length (bytes d))
 glued_length c d = elim (meets_or_not c d) [
   | inl m ↦
       let s = meeting_bytes m refl refl in
@@ -262,37 +241,26 @@ glued_length c d = elim (meets_or_not c d) [
       let three = length-surrogate m.trail (omega (arith, m.is_trail), omega (arith, m.is_trail)) in
       let back : length (bytes d) ≡ 3 + length (bytes m.rest) = simp (m.begins, length-append, three) in
       let own : length (units d) ≡ 1 + length (units m.rest) = grind (arith, length-append, units_one) in
-      record { least = omega (arith, both, paired, back, own, (lists_have_lengths m.rest).units_least); most = omega (arith, both, paired) }
+      (omega (arith, both, paired, back, own, (lists_have_lengths m.rest).units_least), omega (arith, both, paired))
   | inr n ↦
       let both = ap length (bytes_glue-unpaired c d n refl refl) ∙ length-append (bytes c) (bytes d) in
-      record { least = omega (arith, both, (lists_have_lengths d).units_least); most = omega (arith, both) }
+      (omega (arith, both, (lists_have_lengths d).units_least), omega (arith, both))
 ]
 
 -- the form of two lists has at most the bytes of both forms, and at least one byte for each unit of the second
-pub record BothLength (w v z b : List ℕ) : Type 0 where
-  pub least : length w + length b ≤ length z
-  pub most : length z ≤ length w + length v
-
-pub both_length : {w v z a b : List ℕ} → IsForm w a → IsForm v b → IsForm z (a ++ b) → BothLength w v z b
+pub both_length : {w v z a b : List ℕ} → IsForm w a → IsForm v b → IsForm z (a ++ b)
+    → (length w + length b ≤ length z) × (length z ≤ length w + length v)
 both_length {w} {v} {z} {a} {b} x y f =
     let n = glued_length x.points y.points in
     let whole = ap length (same_form z (bytes (glue x.points y.points)) (a ++ b) f (form-glue w v a b x y)) in
     let front = ap length x.encoded in
-    record {
-      least = omega (arith, n.least, whole, front, ap length y.reads.same_units);
-      most = omega (arith, n.most, whole, front, ap length y.encoded);
-    }
-
--- the first part of a list of units has a form, which is no longer than the form of the whole
-pub record Beginning (u w : List ℕ) : Type 0 where
-  pub whole : List ℕ
-  pub form : IsForm whole u
-  pub within : length whole ≤ length w
+    (omega (arith, n.0, whole, front, ap length y.reads.same_units), omega (arith, n.1, whole, front, ap length y.encoded))
 
 pub all_back : (a b : List ℕ) → All IsUnit (a ++ b) → All IsUnit b
 all_back a b h = All-same IsUnit b (drop (length a) (a ++ b)) (sym (drop_at a b (length a) refl)) (All-drop IsUnit (length a) (a ++ b) h)
 
-pub beginning_of_form : (a b w : List ℕ) → IsForm w (a ++ b) → Beginning a w
+-- the first part of a list of units has a form, which is no longer than the form of the whole
+pub beginning_of_form : (a b w : List ℕ) → IsForm w (a ++ b) → FitWithin a 0 (length w)
 beginning_of_form a b w f =
     let all = units_read f.points (a ++ b) f.reads in
     let front = one_form a
@@ -300,7 +268,7 @@ beginning_of_form a b w f =
     record {
       whole = front.one;
       form = front.has;
-      within = omega (arith, (both_length front.has (one_form b (all_back a b all)).has f).least);
+      within = omega (arith, (both_length front.has (one_form b (all_back a b all)).has f).0);
     }
 
 -- appending code points adds at least one byte for each
@@ -309,7 +277,7 @@ pub extended_length : (ps : List CodePoint) (w u y : List ℕ) → IsForm w u �
 extended_length ps w u y h k =
     let v = units (numbers ps) in
     let back = one_form v (all_back u v (units_read k.points (u ++ v) k.reads)) in
-    omega (arith, (both_length h back.has k).least, (lists_have_lengths (numbers ps)).points, length-map ps number)
+    omega (arith, (both_length h back.has k).0, (lists_have_lengths (numbers ps)).points, length-map ps number)
 
 -- If each of `calls ++ more` fits `capacity`, each of `more` fits it after `calls`, and the capacity has not shrunk.
 pub record Found (u : List ℕ) (calls : List Build) (now : List ℕ) (capacity grown : ℕ) : Type 0 where

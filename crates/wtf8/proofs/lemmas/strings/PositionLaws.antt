@@ -1,14 +1,13 @@
 -- The laws of positions, of lengths and of ASCII bytes.
+use Rattle.wtf8.proofs.Common.{well_formed_of}
 use Rattle.wtf8.proofs.Common.{List, append_assoc, length-append, append-nil, append_cancel_left, IsBoundary, All-cons, All-drop, slice_get}
 use Rattle.wtf8.proofs.Common.{ℕ, length, subst, arith, units, bytes, IsForm, get_or, drop_at, All-head, All-nil, encoding, IsFront, IsBack}
-use Rattle.wtf8.proofs.Common.{[], ◌++◌, refl, ap, ◌∙◌, sym, Reads, ◌≡◌, ◌≢◌, ◌<◌, ◌+◌, ◌-◌, ◌/◌, ◌%◌, inl, ◌∷◌, All, Some, zero, suc}
-use Rattle.wtf8.proofs.Common.{well_formed_of}
-use Rattle.std.proofs.lemmas.List.{append_cancel_right}
+use Rattle.wtf8.proofs.Common.{cases_lt, [], ◌++◌, refl, ap, ◌∙◌, sym, Reads, ◌≡◌, ◌≢◌, ◌<◌, ◌+◌, ◌-◌, ◌/◌, ◌%◌, inl, ◌∷◌, All, Some, zero, suc}
 use Rattle.wtf8.specs.Laws.{FrontAndBackAreWhole}
 use Rattle.wtf8.specs.PositionLaws.{StartIsBoundary, EndIsBoundary, NoneIsBeyondEnd, FrontBoundariesAreOfWhole, WholeBoundariesAreOfFront}
 use Rattle.wtf8.specs.PositionLaws.{WholeBoundariesAreOfBack, BackBoundariesAreOfWhole, BeginningsAreNoLonger, BothAreNoLonger}
 use Rattle.wtf8.specs.PositionLaws.{AsciiIsBetweenBoundaries, AsciiIsOneUnit, AsciiIsNoOtherUnit}
-use Rattle.wtf8.proofs.lemmas.codec.Encoding.{bytes-append, bytes-pushed, encoding_cases, one, two, three, four, encoding-from_ascii_byte}
+use Rattle.wtf8.proofs.lemmas.codec.Encoding.{bytes-append, bytes-pushed, encoding_one, encoding-from_ascii_byte}
 use Rattle.wtf8.proofs.lemmas.codec.Readings.{reads_same, same_form, units-append, units_one, units_two, units-cons_one}
 use Rattle.wtf8.proofs.lemmas.strings.ExtendedForms.{beginning_of_form, both_length}
 use Rattle.wtf8.proofs.lemmas.strings.Positions.{Cut, cut_at, shorter_is_prefix, front_unique, front_reads, back_reads, front_boundary}
@@ -86,7 +85,7 @@ beginning_no_longer w x u v f g =
     let b = beginning_of_form u v x g in omega (arith, b.within, ap length (same_form b.whole w u b.form f))
 
 pub both_no_longer : BothAreNoLonger
-both_no_longer w v x a b f g h = (both_length f g h).most
+both_no_longer w v x a b f g h = (both_length f g h).1
 
 -- Proofs of the laws of ASCII bytes: each is one code point and one unit.
 
@@ -139,10 +138,9 @@ ascii_alone w u k form h low =
 pub ascii_one_unit : AsciiIsOneUnit
 ascii_one_unit w u f g k form h low front back =
     let s = AsciiUnitAt-from_form form k h low in
-    let same_front = append_cancel_right f s.front (get_or w k 0 ∷ s.back) (front_and_back u f _ k front s.from_it ∙ sym s.whole) in
     let same_back = append_cancel_left (s.front ++ get_or w k 0 ∷ []) g s.back
     (front_and_back u _ g (k + 1) s.to_it back ∙ (sym s.whole ∙ sym (append_assoc s.front (get_or w k 0 ∷ []) s.back))) in
-    sym s.whole ∙ (ap (λ v. v ++ get_or w k 0 ∷ s.back) (sym same_front) ∙ ap (λ v. f ++ get_or w k 0 ∷ v) (sym same_back))
+    sym (front_and_back u f _ k front s.from_it) ∙ ap (λ v. f ++ get_or w k 0 ∷ v) (sym same_back)
 
 -- an ASCII number that is none of the bytes is none of the units
 none_of_points : (c : List ℕ) (b : ℕ) → b < 0x80 → All (λ x. x ≢ b) (bytes c) → All (λ x. x ≢ b) (units c)
@@ -152,16 +150,8 @@ none_of_points (p ∷ c) b l h =
     let rest : All P (bytes c) = subst (All P) (drop_at (encoding p) (bytes c) (length (encoding p)) refl)
     (All-drop P (length (encoding p)) (encoding p ++ bytes c) h) in
     let after = none_of_points c b l rest in
-    elim (encoding_cases p) [
-      | one m e ↦ rw (units_one p (omega arith)) (All-cons P p (units c) (All-head P p (bytes c) (rw e at h)) after)
-      | two m n e ↦ rw (units_one p (omega arith)) (All-cons P p (units c) (λ (q : p ≡ b). omega (arith, q)) after)
-      | three m n e ↦ rw (units_one p (omega arith)) (All-cons P p (units c) (λ (q : p ≡ b). omega (arith, q)) after)
-      | four m e ↦
-          let lead = 0xD800 + (p - 0x10000) / 0x400 in
-          let trail = 0xDC00 + (p - 0x10000) % 0x400 in
-          rw (units_two p m) (All-cons P lead (trail ∷ units c) (λ (q : lead ≡ b). omega (arith, q))
-          (All-cons P trail (units c) (λ (q : trail ≡ b). omega (arith, q)) after))
-    ]
+    let first : p < 0x80 → P p = λ m. All-head P p (bytes c) (rw (encoding_one p m) at h) in
+    grind (arith, cases_lt, units_one, units_two, All-cons)
 
 pub ascii_no_other_unit : AsciiIsNoOtherUnit
 ascii_no_other_unit w u b form l h =

@@ -19,11 +19,6 @@ pub record Split (c : List ℕ) (k : ℕ) : Type 0 where
   pub joined : c ≡ front ++ back
   pub front_len : length (bytes front) ≡ k
 
-Split-cons : (p : ℕ) {c : List ℕ} {k : ℕ} → length (encoding p) ≤ k → Split c (k - length (encoding p)) → Split (p ∷ c) k
-Split-cons p h s =
-    let whole = length-append (encoding p) (bytes s.front) in
-    record { front = p ∷ s.front; back = s.back; joined = ap (λ r. p ∷ r) s.joined; front_len = omega (arith, h, s.front_len, whole) }
-
 -- bytes may be cut at their end and where a code point begins
 pub split_at : (c : List ℕ) (k : ℕ) → k ≤ length (bytes c) → (k < length (bytes c) → Begins (get_or (bytes c) k 0)) → Split c k
 split_at c zero h s = record { front = []; back = c; joined = refl; front_len = refl }
@@ -35,7 +30,9 @@ split_at (p ∷ c) (suc k) h s =
       | inl l ↦ let inside = continuation-encoding p k (bytes c) l in absurd (omega (arith, (s (omega arith)).start))
       | inr l ↦
           let at = get_or-append_right (encoding p) (bytes c) (length (encoding p)) (suc k) 0 refl l in
-          Split-cons p l (split_at c (suc k - length (encoding p)) (omega arith) (λ m. subst Begins at (s (omega arith))))
+          let cut = split_at c (suc k - length (encoding p)) (omega arith) (λ m. subst Begins at (s (omega arith))) in
+          let long = length-append (encoding p) (bytes cut.front) in
+          record { front = p ∷ cut.front; back = cut.back; joined = ap (λ r. p ∷ r) cut.joined; front_len = omega (arith, cut.front_len) }
     ]
 
 -- the byte after a front is the first byte of the next code point
@@ -251,7 +248,6 @@ points_about c n s h =
           let joined : c ≡ cut.front ++ p ∷ rest = cut.joined ∙ ap (λ b. cut.front ++ b) e in
           let long : cursor < length (bytes c) =
           omega (arith, cut.front_len, ap (λ d. length (bytes d)) joined, length-bytes_append cut.front p rest, length-encoding_bounds p) in
-          let here : get_or (bytes c) cursor 0 ≡ get_or (encoding p ++ bytes rest) 0 0 = ap (λ d. get_or (bytes d) cursor 0) joined
-          ∙ (ap (λ k. get_or (bytes (cut.front ++ p ∷ rest)) k 0) (sym cut.front_len) ∙ first-bytes_after cut.front p rest) in
+          let here : get_or (bytes c) cursor 0 ≡ get_or (encoding p ++ bytes rest) 0 0 = grind (arith, first-bytes_after) in
           omega (arith, next long, ap utf16_len here, utf16_len-encoding p (bytes rest));
     }

@@ -10,7 +10,7 @@ use Rattle.wtf8.specs.StringLaws.{StringsArePaired, RoomLeftIsFound, ScalarsStay
 use Rattle.wtf8.proofs.lemmas.codec.Encoding.{Begins}
 use Rattle.wtf8.proofs.lemmas.codec.Readings.{same_form, same_reading, form_append-unpaired}
 use Rattle.wtf8.proofs.lemmas.strings.Concatenation.{equal_forms, form-glue, form_paired, length_paired, one_form}
-use Rattle.wtf8.proofs.lemmas.strings.Concatenation.{units_read, at_last, before, split_of_push}
+use Rattle.wtf8.proofs.lemmas.strings.Concatenation.{units_read, split_of_push}
 use Rattle.wtf8.proofs.lemmas.strings.Positions.{cut_at, front_unique, front_boundary, boundary_from_byte, byte_from_boundary}
 use Rattle.wtf8.proofs.lemmas.strings.Surrogates.{lossy_points-scalar}
 use Rattle.wtf8.proofs.lemmas.strings.PositionLaws.{both_no_longer, ascii_no_other_unit}
@@ -100,31 +100,24 @@ units_or_not (x ∷ u) = elim (cases_lt x 0x10000) [
   | inr h ↦ inr (λ s. omega (arith, All-head IsUnit x u s))
 ]
 
-begins_or_not : (b : ℕ) → Begins b ⊎ (Begins b → ⊥)
-begins_or_not b = grind (arith, cases_lt)
+starts_or_not : (w : List ℕ) (k : ℕ) → (k < length w → Begins (get_or w k 0)) ⊎ ((k < length w → Begins (get_or w k 0)) → ⊥)
+starts_or_not w k = grind (arith, cases_lt)
 
 -- it is decidable whether a position is a boundary
 cut_or_not : {w : List ℕ} (h : IsWellFormed w) (k : ℕ) → IsBoundary (units h.points) k ⊎ (IsBoundary (units h.points) k → ⊥)
-cut_or_not {w} h k = elim (cases_lt k (length w)) [
-  | inl l ↦ elim (begins_or_not (get_or w k 0)) [
-    | inl s ↦ inl (boundary_from_byte h k (omega arith) (λ _. s))
-    | inr n ↦ inr (λ b. n (byte_from_boundary h k b l))
-  ]
-  | inr l ↦ elim (cases_lt (length w) k) [
+cut_or_not {w} h k = elim (starts_or_not w k) [
+  | inl s ↦ elim (cases_lt (length w) k) [
     | inl m ↦ inr (λ b. omega (arith, (cut_at h k b).within))
-    | inr m ↦ inl (boundary_from_byte h k m (λ x. absurd (omega arith)))
+    | inr m ↦ inl (boundary_from_byte h k m s)
   ]
-]
-
-boundary_of_form : {w u : List ℕ} (f : IsForm w u) (k : ℕ) → IsBoundary u k ⊎ (IsBoundary u k → ⊥)
-boundary_of_form f k = elim (cut_or_not (well_formed_of f) k) [
-  | inl b ↦ inl (subst (λ v. IsBoundary v k) f.reads.same_units b)
-  | inr n ↦ inr (λ b. n (subst (λ v. IsBoundary v k) (sym f.reads.same_units) b))
+  | inr n ↦ inr (λ b. n (byte_from_boundary h k b))
 ]
 
 boundary_or_not : (u : List ℕ) (k : ℕ) → IsBoundary u k ⊎ (IsBoundary u k → ⊥)
 boundary_or_not u k = elim (units_or_not u) [
-  | inl s ↦ boundary_of_form (one_form u s).has k
+  | inl s ↦
+      let f = (one_form u s).has in
+      subst (λ v. IsBoundary v k ⊎ (IsBoundary v k → ⊥)) f.reads.same_units (cut_or_not (well_formed_of f) k)
   | inr n ↦ inr (λ b. n (units_read (b.front ++ b.back) u b.splits.reads))
 ]
 
@@ -179,13 +172,14 @@ pub reserved_more : {u now : List ℕ} {calls : List Build} {call : Build} {capa
     → LeavesReserved u (calls ++ call ∷ []) larger
 reserved_more {u} {now} {calls} {call} {capacity} {larger} n f ran grows here front back m v r e none run =
     elim (split_of_push calls call front (Reserve m) back e) [
-      | at_last same last ↦
+      | inl at_last ↦
           let once = run_once u calls in
-          let outcome = (once.no_other now n ran).0 ∙ sym (once.no_other v r (subst (λ c. Run u c v r) (sym same) run)).0 in
-          subst (λ w. FitWithin w m larger) outcome (here m last)
-      | before rest same after ↦
+          let outcome = (once.no_other now n ran).0 ∙ sym (once.no_other v r (subst (λ c. Run u c v r) (sym at_last.0) run)).0 in
+          subst (λ w. FitWithin w m larger) outcome (here m at_last.1)
+      | inr before ↦
+          let rest = before.0 in
           let all = All-pop IsNoTruncation
-          (rest ++ call ∷ []) rest (Some call) refl (All-same IsNoTruncation (rest ++ call ∷ []) back (sym after) none) in
-          let found = f front rest m v r same all.0 run in
+          (rest ++ call ∷ []) rest (Some call) refl (All-same IsNoTruncation (rest ++ call ∷ []) back (sym before.2) none) in
+          let found = f front rest m v r before.1 all.0 run in
           record { whole = found.whole; form = found.form; within = omega (arith, found.within, grows all.1) }
     ]

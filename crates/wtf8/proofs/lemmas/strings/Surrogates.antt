@@ -19,12 +19,9 @@ surrogate_at f p b s =
     let whole : bytes (f ++ p ∷ b) ≡ bytes f ++ (encoding p ++ bytes b) = bytes-append f (p ∷ b) in
     let at : (k : ℕ) → get_or (bytes (f ++ p ∷ b)) (length (bytes f) + k) 0 ≡ get_or (encoding p ++ bytes b) k 0 =
     λ k. ap (λ w. get_or w (length (bytes f) + k) 0) whole ∙ get_or-append-add (bytes f) (encoding p ++ bytes b) k 0 in
-    record {
-      within = omega
-          (arith, ap length whole, length-append (bytes f) (encoding p ++ bytes b), length-append (encoding p) (bytes b), ap length row);
-      first = ap (λ k. get_or (bytes (f ++ p ∷ b)) k 0) (omega arith) ∙ (at 0 ∙ (ap (λ w. get_or (w ++ bytes b) 0 0) row ∙ omega arith));
-      second = omega (arith, at 1, ap (λ w. get_or (w ++ bytes b) 1 0) row);
-    }
+    let first = at 0 in
+    let second = at 1 in
+    grind (arith, length-append)
 
 -- the code point that begins at such bytes is a surrogate
 pub record SurrogateIn (c : List ℕ) (i : ℕ) : Type 0 where
@@ -37,15 +34,9 @@ pub record SurrogateIn (c : List ℕ) (i : ℕ) : Type 0 where
 
 first_surrogate_in : (b : List ℕ) → 1 < length (bytes b) → get_or (bytes b) 0 0 ≡ 0xED → 0xA0 ≤ get_or (bytes b) 1 0 → SurrogateIn b 0
 first_surrogate_in [] n e s = absurd (omega arith)
-first_surrogate_in (p ∷ b) n e s = elim (encoding_cases p) [
-  | one h r ↦ absurd (omega (arith, rw r at e))
-  | two l h r ↦ absurd (omega (arith, rw r at e))
-  | three l h r ↦
-      let high = rw r at e in
-      let low = rw r at s in
-      record { front = []; point = p; back = b; joined = refl; front_len = refl; surrogate = (omega arith, omega arith) }
-  | four l r ↦ absurd (omega (arith, rw r at e))
-]
+first_surrogate_in (p ∷ b) n e s =
+    let surrogate : IsSurrogate p = grind (arith, encoding_cases) in
+    record { front = []; point = p; back = b; joined = refl; front_len = refl; surrogate = surrogate }
 
 pub surrogate_in : (c : List ℕ) (i : ℕ) → SurrogateAt (bytes c) i → SurrogateIn c i
 surrogate_in c i s =
@@ -61,8 +52,7 @@ surrogate_in c i s =
       point = f.point;
       back = f.back;
       joined = cut.joined ∙ (ap (λ b. cut.front ++ b) f.joined ∙ sym (append_assoc cut.front f.front (f.point ∷ f.back)));
-      front_len = omega
-          (arith, ap length (bytes-append cut.front f.front), length-append (bytes cut.front) (bytes f.front), cut.front_len, f.front_len);
+      front_len = simp (bytes-append, length-append, cut.front_len, f.front_len) (omega arith);
       surrogate = f.surrogate;
     }
 
@@ -131,14 +121,11 @@ pub ends_in_surrogate : (w f : List ℕ) (p : ℕ) → IsSurrogate p → bytes (
 ends_in_surrogate w f p s e =
     let row = third_row p in
     let whole : w ≡ bytes f ++ row = sym e ∙ (bytes-pushed f p ∙ ap (λ v. bytes f ++ v) (encoding_three p (omega arith) (omega arith))) in
-    let long : length w ≡ length (bytes f) + 3 = ap length whole ∙ length-append (bytes f) row in
-    let at : (k m : ℕ) → length (bytes f) + k ≡ m → get_or w m 0 ≡ get_or row k 0 = λ k m q. cc (get_or-append-add (bytes f) row k 0) in
-    record {
-      three = omega arith;
-      first = at 0 (length w - 3) (omega arith) ∙ omega arith;
-      second = at 1 (length w - 2) (omega arith);
-      third = at 2 (length w - 1) (omega arith);
-    }
+    let at : (k : ℕ) → get_or w (length (bytes f) + k) 0 ≡ get_or row k 0 = λ k. cc (get_or-append-add (bytes f) row k 0) in
+    let first = at 0 in
+    let second = at 1 in
+    let third = at 2 in
+    grind (arith, length-append)
 
 -- the surrogate that ends a string if the third byte from the end is ED and the next at least A0
 pub record LastSurrogate (c w : List ℕ) : Type 0 where
@@ -152,8 +139,7 @@ pub last_surrogate : {w : List ℕ} (h : IsWellFormed w) → 3 ≤ length w → 
     → LastSurrogate h.points w
 last_surrogate {w} h len first second =
     let i = length w - 3 in
-    let next : get_or w (i + 1) 0 ≡ get_or w (length w - 2) 0 = ap (λ k. get_or w k 0) (omega arith) in
-    let at : SurrogateAt w i = record { within = omega arith; first = first; second = omega (arith, next, second) } in
+    let at : SurrogateAt w i = grind (arith) in
     let p = surrogate_in h.points i (subst (λ v. SurrogateAt v i) (sym h.encoded) at) in
     let whole : bytes p.front ++ (encoding p.point ++ bytes p.back) ≡ w = cc (bytes-append p.front (p.point ∷ p.back)) in
     let long = simp length-append at (ap length whole) in
@@ -210,21 +196,12 @@ pub record AroundSurrogate (w : List ℕ) (front : List ℕ) (found : ℕ) (back
 pub around_surrogate : (w front : List ℕ) (p : ℕ) (back : List ℕ) (found : ℕ) → w ≡ bytes (front ++ p ∷ back) → length (bytes front) ≡ found
     → IsSurrogate p → AroundSurrogate w front found back
 around_surrogate w front p back found e n s =
-    let three = length-surrogate p s in
     let whole : w ≡ bytes front ++ (encoding p ++ bytes back) = e ∙ bytes-append front (p ∷ back) in
     let other : w ≡ (bytes front ++ encoding p) ++ bytes back = whole ∙ sym (append_assoc (bytes front) (encoding p) (bytes back)) in
-    record {
-      before = ap (take found) whole ∙ take_at (bytes front) (encoding p ++ bytes back) found n;
-      after = ap (drop (found + 3)) other ∙ drop_at (bytes front ++ encoding p) (bytes back) (found + 3)
-          (omega (arith, n, three, length-append (bytes front) (encoding p)));
-      within = omega (arith, ap length whole, length-append {A = ℕ});
-    }
+    grind (arith, length-surrogate, length-append, take_at, drop_at)
 
-pub record Replaced (c w : List ℕ) (found : ℕ) : Type 0 where
-  pub within : found + 3 ≤ length w
-  pub next : Replacing c (take found w ++ (0xEF ∷ 0xBF ∷ 0xBD ∷ drop (found + 3) w)) (found + 3)
-
-pub replacing_step : (c w : List ℕ) (from found : ℕ) → Replacing c w from → IsLeast (SurrogateAt w) from found → Replaced c w found
+pub replacing_step : (c w : List ℕ) (from found : ℕ) → Replacing c w from → IsLeast (SurrogateAt w) from found
+    → (found + 3 ≤ length w) × Replacing c (take found w ++ (0xEF ∷ 0xBF ∷ 0xBD ∷ drop (found + 3) w)) (found + 3)
 replacing_step c w from found r least =
     let p = surrogate_in (lossy_points r.done ++ r.rest) found (subst (λ v. SurrogateAt v found) r.encoded least.here) in
     let b = shorter_is_prefix (lossy_points r.done) r.rest p.front
@@ -238,16 +215,13 @@ replacing_step c w from found r least =
     let done : lossy_points ((r.done ++ b.more) ++ p.point ∷ []) ≡ p.front ++ 0xFFFD ∷ [] =
     simp (lossy_points-append, lossy_points-scalar b.more plain, ← b.joined, replace_surrogate-surrogate p.point p.surrogate) in
     let sign : encoding 0xFFFD ≡ 0xEF ∷ 0xBF ∷ 0xBD ∷ [] = encoding_three 0xFFFD (lit≤ tt) (lit< tt) in
-    record {
-      within = a.within;
-      next = record {
-        done = (r.done ++ b.more) ++ p.point ∷ [];
-        rest = p.back;
-        joined = r.joined ∙ simp (rest, append_assoc);
-        encoded = rw (a.before, a.after, done, append_assoc p.front (0xFFFD ∷ []) p.back, bytes-append p.front (0xFFFD ∷ p.back), sign);
-        done_len = simp (done, bytes-append, length-append, sign, p.front_len);
-      };
-    }
+    (a.within, record {
+      done = (r.done ++ b.more) ++ p.point ∷ [];
+      rest = p.back;
+      joined = r.joined ∙ simp (rest, append_assoc);
+      encoded = rw (a.before, a.after, done, append_assoc p.front (0xFFFD ∷ []) p.back, bytes-append p.front (0xFFFD ∷ p.back), sign);
+      done_len = simp (done, bytes-append, length-append, sign, p.front_len);
+    })
 
 -- a string divided at its first surrogate: text, the surrogate, and the rest
 pub record SplitAtSurrogate (w : List ℕ) (h : IsWellFormed w) (found : ℕ) : Type 0 where

@@ -5,13 +5,13 @@ use Rattle.wtf8.proofs.Common.{bytes, encoding, IsWellFormed, IsFront, ◌<◌, 
 use Rattle.wtf8.proofs.Common.{take-append-drop, length-drop, Reads, true, false, ◌/◌, ◌%◌, lt-ltb, le-ltb, drop-drop, append-nil, IsLead}
 use Rattle.wtf8.proofs.Common.{units_of, trail_from_bytes, held_trail, after_held_trail, unread_after, length-take-le, take-append-add}
 use Rattle.wtf8.proofs.Common.{drop-append-add, option_to_list, IsSome, StepsUnit, DividesPair, is_continuation}
-use Rattle.wtf8.proofs.Common.{cases_lt, IsCursorOfUnit, UnitCursor, take_all, sum_utf16_len}
+use Rattle.wtf8.proofs.Common.{cases_lt, FirstPointIs, IsCursorOfUnit, UnitCursor, take_all, sum_utf16_len}
 use Rattle.wtf8.proofs.lemmas.codec.Encoding.{encoding_four, bytes-append, bytes-pushed, encoding_cases, one, two, three, four, Begins}
-use Rattle.wtf8.proofs.lemmas.codec.Encoding.{first-encoding, begins_with}
+use Rattle.wtf8.proofs.lemmas.codec.Encoding.{first-encoding, begins_with, BeginsWithPoint-equal_bytes}
 use Rattle.wtf8.proofs.lemmas.codec.Readings.{clean-first, clean-front, clean-back, clean-append, clean-unpaired, unpaired-before_no_trail}
 use Rattle.wtf8.proofs.lemmas.codec.Readings.{meets_by, lead_of, trail_of, units_one, units_two, units-append, units-pushed, first_of}
 use Rattle.wtf8.proofs.lemmas.codec.Readings.{points-nil, Taken-from_first, IsWellFormed-equal_bytes}
-use Rattle.wtf8.proofs.lemmas.strings.Concatenation.{points_meet, last_of, empty, ends}
+use Rattle.wtf8.proofs.lemmas.strings.Concatenation.{points_meet, last_of}
 use Rattle.wtf8.proofs.lemmas.strings.Positions.{CutsUnits, cut_by, PointsAbout, points_about, sum_utf16_len-bytes}
 
 -- The parts of a string before and after its first `n` units.
@@ -98,17 +98,11 @@ pub in_pair_at_cursor : {c : List ℕ} {n : ℕ} {cursor : UnitCursor} → Point
 in_pair_at_cursor {c} {n} {cursor} x inside m = at_back x.cut.back refl
   where
     at_back : (back : List ℕ) → x.cut.back ≡ back → InPair c n cursor
-    at_back [] e =
-        let whole = ap bytes x.cut.joined ∙ (bytes-append x.cut.front x.cut.back ∙ ap (λ b. bytes x.cut.front ++ bytes b) e) in
-        absurd (omega (arith, inside, ap length whole, length-append (bytes x.cut.front) [], x.cut.front_len))
+    at_back [] e = absurd (grind (arith, append-nil, x.cut.joined, x.cut.front_len))
     at_back (p ∷ rest) e =
-        let more = x.holds p rest e in
-        elim (cases_lt p 0x10000) [
-          | inl h ↦ absurd (omega (arith, more, ap length (units_one p h), m, x.not_beyond))
-          | inr h ↦
-              let one_less : cursor.units + 1 ≡ n = omega (arith, more, ap length (units_two p h), m, x.not_beyond) in
-              record { point = p; divided = divided_from_cut x.cut p rest e h one_less; one_less = one_less }
-        ]
+        let large : 0x10000 ≤ p = grind (arith, cases_lt, units_one, x.holds p rest e, x.not_beyond) in
+        let one_less : cursor.units + 1 ≡ n = omega (arith, x.holds p rest e, ap length (units_two p large), m, x.not_beyond) in
+        record { point = p; divided = divided_from_cut x.cut p rest e large one_less; one_less = one_less }
 
 -- what the position of a cursor says: the cut is between code points, or inside the pair that begins there
 pub undivided_at : {w : List ℕ} (h : IsWellFormed w) (n : ℕ) (cursor : UnitCursor) → IsCursorOfUnit w n cursor → cursor.units ≡ n
@@ -134,14 +128,6 @@ lead_kept {w} h {n} {k} {p} d =
           ∙ ap (λ v. v ++ encoding (lead_of p)) (cut_by h d.front (p ∷ d.rest) k d.joined d.front_len).before.encoded;
     }
 
-pub lead_kept_units : {c : List ℕ} {n k p : ℕ} → IsClean c → (d : Divided c n k p) → units (d.front ++ lead_of p ∷ []) ≡ take n (units c)
-lead_kept_units {p} clean d =
-    cc (units-pushed d.front (lead_of p), units_one (lead_of p) (omega (arith, IsCodePoint-divided clean d, d.large)), d.kept)
-
--- at a cut between code points the first `n` units are the units before position `k`
-pub front_at : {w : List ℕ} (h : IsWellFormed w) {n k : ℕ} → Undivided h.points n k → IsFront (units h.points) k (take n (units h.points))
-front_at h x = grind (arith)
-
 -- `Undivided` after `n` units means that no pair is divided there, `Divided` that one is
 pub divides_none : {c : List ℕ} {n k : ℕ} → IsClean c → Undivided c n k → ¬ (DividesPair (units c) n)
 divides_none {c} {n} clean x m =
@@ -165,9 +151,12 @@ divides_whole f r n lead_excluded =
       λ m. meets_by (f ++ m.front) m.rest m.lead m.trail m.is_lead m.is_trail
           (front ∙ (ap (λ x. f ++ x) m.ends ∙ sym (append_assoc f m.front (m.lead ∷ [])))) (back ∙ m.begins),
       λ m. elim (last_of (take n r)) [
-        | empty e ↦
+        | inl e ↦
             absurd (lead_excluded e m.front m.lead (sym (append-nil f) ∙ (ap (λ x. f ++ x) (sym e) ∙ (sym front ∙ m.ends))) m.is_lead)
-        | ends g l e ↦
+        | inr x ↦
+            let g = x.0 in
+            let l = x.1 in
+            let e = x.2 in
             let same =
             (same_from_push (f ++ g) m.front l m.lead (append_assoc f g (l ∷ []) ∙ (ap (λ x. f ++ x) (sym e) ∙ (sym front ∙ m.ends)))).1 in
             meets_by g m.rest m.lead m.trail m.is_lead m.is_trail (e ∙ ap (λ x. g ++ x ∷ []) same) (sym back ∙ m.begins)
@@ -175,13 +164,13 @@ divides_whole f r n lead_excluded =
     )
 
 -- `r`, the units from `begin` on without the trail `half` of a pair divided there, divides the pairs of the whole
-pub divides_after : (u r : List ℕ) (half : Option ℕ) (begin n : ℕ) → begin ≤ length u → option_to_list half ++ r ≡ drop begin u
-    → (IsSome half ↔ DividesPair u begin)
-    → 0 < length (option_to_list half) + n → n ≤ length r → DividesPair r n ↔ DividesPair u (begin + (length (option_to_list half) + n))
-divides_after u r half begin n in_u e d more in_r =
+pub divides_after : (u r : List ℕ) (half : Option ℕ) (begin n : ℕ) {end : ℕ} → begin + (length (option_to_list half) + n) ≡ end
+    → begin ≤ length u → option_to_list half ++ r ≡ drop begin u → (IsSome half ↔ DividesPair u begin)
+    → 0 < length (option_to_list half) + n → n ≤ length r → DividesPair r n ↔ DividesPair u end
+divides_after u r half begin n {end} s in_u e d more in_r =
     let f = take begin u ++ option_to_list half in
     let whole : f ++ r ≡ u = grind (arith, append_assoc, take-append-drop) in
-    let long : length f + n ≡ begin + (length (option_to_list half) + n) = grind (arith, length-append, length-take-le) in
+    let long : length f + n ≡ end = grind (arith, length-append, length-take-le) in
     subst (λ k. DividesPair r n ↔ DividesPair u k) long
     (subst (λ w. DividesPair r n ↔ DividesPair w (length f + n)) whole (divides_whole f r n (no_lead_before half e d more)))
   where
@@ -198,26 +187,20 @@ divides_after u r half begin n in_u e d more in_r =
 pub continuation_range : (b : ℕ) → 0x80 ≤ b → b < 0xC0 → is_continuation b ≡ true
 continuation_range b l h = rw (le-ltb b 0x80 l, lt-ltb b 0xC0 h) refl
 
-pub ascii_no_continuation : (b : ℕ) → b < 0x80 → is_continuation b ≡ false
-ascii_no_continuation b h = rw (lt-ltb b 0x80 h) refl
-
-pub lead_no_continuation : (b : ℕ) → 0xC0 ≤ b → is_continuation b ≡ false
-lead_no_continuation b l = rw (le-ltb b 0x80 (omega arith), le-ltb b 0xC0 l) refl
+pub no_continuation : (b : ℕ) → Begins b → is_continuation b ≡ false
+no_continuation b h = grind (arith, lt-ltb, le-ltb)
 
 -- well-formed bytes do not begin with a continuation byte
 Begins-first_byte : {w : List ℕ} → IsWellFormed w → 0 < length w → Begins (get_or w 0 0)
 Begins-first_byte h n = let b = (first_of h n).0 in subst Begins (sym (ap (λ v. get_or v 0 0) b.encoded)) (first-encoding b.point b.rest)
 
-pub first_no_continuation : {w : List ℕ} → IsWellFormed w → is_continuation (get_or w 0 0) ≡ false
-first_no_continuation {w = []} h = refl
-first_no_continuation {w = a ∷ r} h = elim ((Begins-first_byte h (omega arith)).start) [
-  | inl l ↦ ascii_no_continuation a l
-  | inr g ↦ lead_no_continuation a g
-]
-
 -- bytes that begin with no continuation byte hold no trail
-pub held_trail-none : (w : List ℕ) → is_continuation (get_or w 0 0) ≡ false → (held_trail w ≡ []) × (after_held_trail w ≡ w)
+held_trail-none : (w : List ℕ) → is_continuation (get_or w 0 0) ≡ false → (held_trail w ≡ []) × (after_held_trail w ≡ w)
 held_trail-none w e = grind (arith)
+
+pub none_held : {w : List ℕ} → IsWellFormed w → (held_trail w ≡ []) × (after_held_trail w ≡ w)
+none_held {w = []} h = (refl, refl)
+none_held {w = a ∷ r} h = held_trail-none (a ∷ r) (no_continuation a (Begins-first_byte h (omega arith)))
 
 -- bytes that begin inside a pair have both bytes of the trail
 pub held_trail-two_bytes : (w : List ℕ) → IsWellFormed (after_held_trail w) → 0x80 ≤ get_or w 0 0 → get_or w 0 0 < 0xC0 → 1 < length w
@@ -227,75 +210,71 @@ pub held_trail-some : (w : List ℕ) → 1 < length w → is_continuation (get_o
     → (held_trail w ≡ trail_from_bytes (get_or w 0 0) (get_or w 1 0) ∷ []) × (after_held_trail w ≡ drop 2 w)
 held_trail-some w h e = grind (arith)
 
--- after the first unit of a code point the second, if any, is held
-units-first : (old new points more : List ℕ) (p unit : ℕ) → old ≡ [] → points ≡ p ∷ more → units_of p ≡ unit ∷ new
-    → old ++ units points ≡ unit ∷ (new ++ units more)
-units-first old new points more p unit e f g = rw (e, f) (ap (λ u. u ++ units more) g)
+-- a step to `next`: after the first unit of the code point `p` the second, if any, is held
+steps_first : (v : List ℕ) (at : ℕ) (h : IsWellFormed (after_held_trail (drop at v))) (p unit next : ℕ) → held_trail (drop at v) ≡ []
+    → next ≤ length v → (after : IsWellFormed (after_held_trail (drop next v))) → h.points ≡ p ∷ after.points
+    → units_of p ≡ unit ∷ held_trail (drop next v) → StepsUnit v at h unit next
+steps_first v at h p unit next none within after joined all = record {
+  within = within;
+  after = after;
+  first = rw (none, joined) (ap (λ u. u ++ units after.points) all);
+  left = rw (none, joined) (ap (λ t. record { held = t; points = after.points }) (sym (ap (drop 1) all)));
+}
 
-unread_after-first : (old new points more : List ℕ) (p unit : ℕ) → old ≡ [] → points ≡ p ∷ more → units_of p ≡ unit ∷ new
-    → record { held = new; points = more } ≡ unread_after old points
-unread_after-first old new points more p unit e f g = rw (e, f) (ap (λ t. record { held = t; points = more }) (sym (ap (drop 1) g)))
+-- bytes that begin a code point hold no trail
+pub none_held_at : {w : List ℕ} (v : List ℕ) (at : ℕ) → w ≡ drop at v → Begins (get_or w 0 0)
+    → (held_trail (drop at v) ≡ []) × (after_held_trail (drop at v) ≡ drop at v)
+none_held_at v at same start =
+    held_trail-none (drop at v) (no_continuation (get_or (drop at v) 0 0) (subst (λ x. Begins (get_or x 0 0)) same start))
 
--- a step over a code point of one unit
-pub steps_one : (v : List ℕ) (at : ℕ) (h : IsWellFormed (after_held_trail (drop at v))) (p next : ℕ) → at < length v
-    → is_continuation (get_or (drop at v) 0 0) ≡ false → p < 0x10000
-    → ((b : BeginsWithPoint (drop at v)) → (p ≡ b.point) × (next ≡ at + length (encoding b.point))) → StepsUnit v at h p next
-steps_one v at h p next long e small read =
-    let n = held_trail-none (drop at v) e in
-    let t = Taken-from_first v at (IsWellFormed-equal_bytes h (sym n.1)) p next long read in
-    let m = held_trail-none (drop next v) (first_no_continuation t.rest) in
-    let all : units_of p ≡ p ∷ held_trail (drop next v) = units_one p small ∙ ap (λ k. p ∷ k) (sym m.0) in
-    record {
-      within = t.within;
-      after = IsWellFormed-equal_bytes t.rest m.1;
-      first = units-first _ _ h.points t.rest.points p p n.0 t.joined all;
-      left = unread_after-first _ _ h.points t.rest.points p p n.0 t.joined all;
-    }
+-- a step over a code point of one unit and `n` bytes
+pub steps_one : {w : List ℕ} (v : List ℕ) (at : ℕ) (h : IsWellFormed (after_held_trail (drop at v))) (p n : ℕ) → w ≡ drop at v
+    → at < length v → Begins (get_or w 0 0) → p < 0x10000 → FirstPointIs w p n → StepsUnit v at h p (at + n)
+steps_one v at h p n same long start small read =
+    let none = none_held_at v at same start in
+    let t = Taken-from_first v at (IsWellFormed-equal_bytes h (sym none.1)) p (at + n) long (λ b.
+    let x = read (BeginsWithPoint-equal_bytes b same) in (x.0, omega (arith, x.1))) in
+    let m = none_held t.rest in
+    let all = units_one p small ∙ ap (λ k. p ∷ k) (sym m.0) in
+    steps_first v at h p p (at + n) none.0 t.within (IsWellFormed-equal_bytes t.rest m.1) t.joined all
 
 -- a step over the lead of a supplementary code point
-pub steps_lead : (v : List ℕ) (at : ℕ) (h : IsWellFormed (after_held_trail (drop at v))) (unit next : ℕ) → at < length v
-    → 0xF0 ≤ get_or (drop at v) 0 0 → next ≡ at + 2
-    → ((b : BeginsWithPoint (drop at v)) → unit ≡ lead_of b.point) → StepsUnit v at h unit next
-steps_lead v at h unit next long g two_on read =
-    let n = held_trail-none (drop at v) (lead_no_continuation (get_or (drop at v) 0 0) (omega arith)) in
+pub steps_lead : {w : List ℕ} (v : List ℕ) (at : ℕ) (h : IsWellFormed (after_held_trail (drop at v))) (unit : ℕ) → w ≡ drop at v
+    → at < length v → 0xF0 ≤ get_or w 0 0 → ((b : BeginsWithPoint w) → unit ≡ lead_of b.point) → StepsUnit v at h unit (at + 2)
+steps_lead v at h unit same long g read =
+    let n = none_held_at v at same (record { start = inr (omega arith) }) in
     let f = first_of (IsWellFormed-equal_bytes h (sym n.1)) (omega (arith, length-drop at v)) in
     let b = f.0 in
     let p = b.point in
-    let begin : get_or (drop at v) 0 0 ≡ get_or (encoding p ++ b.rest) 0 0 = ap (λ w. get_or w 0 0) b.encoded in
-    elim (encoding_cases p) [
-      | one l e ↦ absurd (omega (arith, rw e at begin))
-      | two _ l e ↦ absurd (omega (arith, rw e at begin))
-      | three _ l e ↦ absurd (omega (arith, rw e at begin))
-      | four l e ↦
-          let c = 0x80 + p / 64 % 64 in
-          let d = 0x80 + p % 64 in
-          let whole = b.encoded ∙ ap (λ x. x ++ b.rest) e in
-          let rest : drop next v ≡ c ∷ d ∷ b.rest = ap (λ k. drop k v) two_on ∙ (sym (drop-drop 2 at v) ∙ ap (drop 2) whole) in
-          let k = held_trail-some (c ∷ d ∷ b.rest) (omega arith) (continuation_range c (omega arith) (omega arith)) in
-          let trail : trail_from_bytes c d ≡ trail_of p = omega arith in
-          let all : units_of p ≡ unit ∷ held_trail (drop next v) = grind (arith, units_two) in
-          record {
-            within = omega (arith, two_on, ap length whole, length-drop at v);
-            after = IsWellFormed-equal_bytes f.1.rest (ap after_held_trail rest
-                ∙ (k.1 ∙ sym (ap (drop (length (encoding p))) b.encoded ∙ drop_at (encoding p) b.rest (length (encoding p)) refl)));
-            first = units-first _ _ h.points f.1.rest.points p unit n.0 f.1.joined all;
-            left = unread_after-first _ _ h.points f.1.rest.points p unit n.0 f.1.joined all;
-          }
-    ]
+    let lead : unit ≡ lead_of p = read (BeginsWithPoint-equal_bytes b same) in
+    let large : 0x10000 ≤ p = (b.by_lead.four (omega (arith, ap (λ x. get_or x 0 0) same))).4 in
+    let c = 0x80 + p / 64 % 64 in
+    let d = 0x80 + p % 64 in
+    let whole = b.encoded ∙ ap (λ x. x ++ b.rest) (encoding_four p large) in
+    let rest : drop (at + 2) v ≡ c ∷ d ∷ b.rest = sym (drop-drop 2 at v) ∙ ap (drop 2) whole in
+    let k = held_trail-some (c ∷ d ∷ b.rest) (omega arith) (continuation_range c (omega arith) (omega arith)) in
+    let trail : trail_from_bytes c d ≡ trail_of p = omega arith in
+    let after = IsWellFormed-equal_bytes f.1.rest (ap after_held_trail rest
+    ∙ (k.1 ∙ sym (ap (drop (length (encoding p))) b.encoded ∙ drop_at (encoding p) b.rest (length (encoding p)) refl))) in
+    let all : units_of p ≡ unit ∷ held_trail (drop (at + 2) v) = grind (arith, units_two) in
+    steps_first v at h p unit (at + 2) n.0 (omega (arith, ap length whole, length-drop at v)) after f.1.joined all
 
 -- a step over the held trail
-pub steps_trail : (v : List ℕ) (at : ℕ) (h : IsWellFormed (after_held_trail (drop at v))) (next : ℕ) → 0x80 ≤ get_or (drop at v) 0 0
-    → get_or (drop at v) 0 0 < 0xC0 → next ≡ at + 2
-    → StepsUnit v at h (trail_from_bytes (get_or (drop at v) 0 0) (get_or (drop at v) 1 0)) next
-steps_trail v at h next l g two_on =
-    let whole = held_trail-two_bytes (drop at v) h l g in
-    let n = held_trail-some (drop at v) whole (continuation_range (get_or (drop at v) 0 0) l g) in
-    let b = IsWellFormed-equal_bytes h ((ap (λ k. drop k v) two_on ∙ sym (drop-drop 2 at v)) ∙ sym n.1) in
-    let m = held_trail-none (drop next v) (first_no_continuation b) in
+pub steps_trail : {w : List ℕ} (v : List ℕ) (at : ℕ) (h : IsWellFormed (after_held_trail (drop at v))) (unit : ℕ) → w ≡ drop at v
+    → 0x80 ≤ get_or w 0 0 → get_or w 0 0 < 0xC0 → unit ≡ trail_from_bytes (get_or w 0 0) (get_or w 1 0) → StepsUnit v at h unit (at + 2)
+steps_trail v at h unit same l g u =
+    let first = ap (λ x. get_or x 0 0) same in
+    let least : 0x80 ≤ get_or (drop at v) 0 0 = omega (arith, first) in
+    let most : get_or (drop at v) 0 0 < 0xC0 = omega (arith, first) in
+    let whole = held_trail-two_bytes (drop at v) h least most in
+    let n = held_trail-some (drop at v) whole (continuation_range (get_or (drop at v) 0 0) least most) in
+    let b = IsWellFormed-equal_bytes h (sym (drop-drop 2 at v) ∙ sym n.1) in
+    let m = none_held b in
+    let own = u ∙ ap (λ x. trail_from_bytes (get_or x 0 0) (get_or x 1 0)) same in
     record {
-      within = omega (arith, two_on, whole, length-drop at v);
+      within = omega (arith, whole, length-drop at v);
       after = IsWellFormed-equal_bytes b m.1;
-      first = rw (n.0, m.0) refl;
+      first = rw (n.0, m.0, own) refl;
       left = rw (n.0, m.0) refl;
     }
 

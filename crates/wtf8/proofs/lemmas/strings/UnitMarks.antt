@@ -127,31 +127,27 @@ marks_stay_in_front w x u k m n g f l h mark = mark_in_front w x (take n u) (dro
     g) (omega (arith, length-take-le n u h, l)) (subst (λ v. IsMark x v k m) (sym (take-append-drop n u)) mark)
 
 -- the code points between two marks, by bytes and by units
-pub record Between (k l m n : ℕ) : Type 0 where
-  pub more : List ℕ
-  pub positions : l ≡ k + length (bytes more)
-  pub counts : n ≡ m + length (units more)
-
-between_marks : {w u : List ℕ} (f : IsForm w u) {k l m n : ℕ} → IsMark w u k m → IsMark w u l n → k ≤ l → Between k l m n
+between_marks : {w u : List ℕ} (f : IsForm w u) {k l m n : ℕ} → IsMark w u k m → IsMark w u l n → k ≤ l
+    → (more : List ℕ) × (l ≡ k + length (bytes more)) × (n ≡ m + length (units more))
 between_marks f x y h =
     let own = cut_of (well_formed_of f) x in
     let other = cut_of (well_formed_of f) y in
     let prefix = shorter_is_prefix own.front own.back other.front other.back
     (sym own.joined ∙ other.joined) (omega (arith, h, own.front_len, other.front_len)) in
-    record {
-      more = prefix.more;
-      positions = grind (arith, bytes-append, length-append, own.front_len, other.front_len, prefix.joined);
-      counts = grind (arith, units-append, length-append, own.counted, other.counted, prefix.joined);
-    }
+    (
+      prefix.more,
+      grind (arith, bytes-append, length-append, own.front_len, other.front_len, prefix.joined),
+      grind (arith, units-append, length-append, own.counted, other.counted, prefix.joined),
+    )
 
 -- marks have one order by positions and by numbers of units
 pub marks_in_order : MarksAreInOneOrder
 marks_in_order w u k l m n f x y = (
-  λ h. omega (arith, (between_marks f x y h).counts),
+  λ h. omega (arith, (between_marks f x y h).2),
   λ h. elim (cases_lt l k) [
     | inl c ↦
         let b = between_marks f y x (omega (arith, c)) in
-        absurd (omega (arith, h, c, b.positions, b.counts, (lists_have_lengths b.more).units_most))
+        absurd (omega (arith, h, c, b.1, b.2, (lists_have_lengths b.0).units_most))
     | inr c ↦ c
   ],
 )
@@ -208,29 +204,18 @@ divided_are_surrogates u n m =
     let inside : n < length u = omega (arith, ap length m.begins, length-drop n u) in
     let front : length (m.front ++ m.lead ∷ []) ≡ n = sym (ap length m.ends) ∙ length-take-le n u (omega (arith, inside)) in
     let whole : u ≡ (m.front ++ m.lead ∷ []) ++ m.trail ∷ m.rest = grind (arith, take-append-drop) in
-    let before : n - 1 ≡ length m.front = omega (arith, front, length-append m.front (m.lead ∷ [])) in
+    let long = length-append m.front (m.lead ∷ []) in
+    let before : n - 1 ≡ length m.front = omega (arith, front) in
     let lead : get_or u (n - 1) 0 ≡ m.lead = grind (arith, append_assoc, get_or-append_seam) in
-    let trail : get_or u n 0 ≡ m.trail = ap (λ k. get_or u k 0) (sym front)
-    ∙ (ap (λ v. get_or v (length (m.front ++ m.lead ∷ [])) 0) whole ∙ get_or-append_seam (m.front ++ m.lead ∷ []) m.trail m.rest 0) in (
-      omega (arith, front, length-append m.front (m.lead ∷ [])),
-      inside,
-      subst IsLead (sym lead) m.is_lead,
-      subst IsTrail (sym trail) m.is_trail,
-    )
+    let trail : get_or u n 0 ≡ m.trail = grind (arith, get_or-append_seam) in
+    (omega (arith, front), inside, subst IsLead (sym lead) m.is_lead, subst IsTrail (sym trail) m.is_trail)
 
 -- code points with equal numbers of bytes and units are ASCII
 ascii_from_lengths : (c : List ℕ) → length (bytes c) ≡ length (units c) → AreAscii c
 ascii_from_lengths [] e = tt
 ascii_from_lengths (p ∷ c) e =
     let bound = (lists_have_lengths c).units_least in
-    let all_bytes = length-append (encoding p) (bytes c) in
-    let all_units = length-append (units_of p) (units c) in
-    elim (encoding_cases p) [
-      | one l r ↦ (l, ascii_from_lengths c (omega (arith, e, all_bytes, all_units, ap length r, ap length (units_one p (omega arith)))))
-      | two l g r ↦ absurd (omega (arith, e, all_bytes, all_units, bound, ap length r, ap length (units_one p (omega arith))))
-      | three l g r ↦ absurd (omega (arith, e, all_bytes, all_units, bound, ap length r, ap length (units_one p g)))
-      | four l r ↦ absurd (omega (arith, e, all_bytes, all_units, bound, ap length r, ap length (units_two p l)))
-    ]
+    grind (arith, encoding_cases, units_one, units_two, length-append, ascii_from_lengths c)
 
 -- a string with equal numbers of bytes and units is ASCII, and its units are its bytes
 pub ascii_same : {w u : List ℕ} → IsForm w u → length w ≡ length u → AreAscii u × (w ≡ u)
@@ -249,15 +234,11 @@ equal_counts w u k f e h =
     })
 
 -- joining changes no code point before the last
-glue-append_left : (f b d : List ℕ) → 0 < length b → glue (f ++ b) d ≡ f ++ glue b d
+glue-append_left : (f b d : List ℕ) → 0 < length (units b) → glue (f ++ b) d ≡ f ++ glue b d
 glue-append_left [] b d h = refl
 glue-append_left (p ∷ []) [] d h = absurd (omega arith)
 glue-append_left (p ∷ []) (q ∷ b) d h = refl
 glue-append_left (p ∷ q ∷ f) b d h = ap (λ c. p ∷ c) (glue-append_left (q ∷ f) b d h)
-
-nonempty_from_units : (b : List ℕ) → 0 < length (units b) → 0 < length b
-nonempty_from_units [] h = h
-nonempty_from_units (p ∷ b) h = omega arith
 
 pub marks_stay : MarksStay
 marks_stay w x u v k n f g l m =
@@ -265,7 +246,7 @@ marks_stay w x u v k n f g l m =
     let more = one_form v (all_back u v (units_read g.points (u ++ v) g.reads)) in
     let both : IsForm (bytes (glue f.points more.has.points)) (u ++ v) = grind (arith, reads-glue) in
     let units_len = ap length (ap units own.joined ∙ units-append own.front own.back) in
-    let nonempty : 0 < length own.back = grind (arith, nonempty_from_units, length-append) in
+    let nonempty : 0 < length (units own.back) = grind (arith, length-append) in
     let joined : glue f.points more.has.points ≡ own.front ++ glue own.back more.has.points = grind (arith, glue-append_left) in
     subst (λ z. IsMark z (u ++ v) k n) (sym (same_form x (bytes (glue f.points more.has.points)) (u ++ v) g both)) (mark_of both
     (record { front = own.front; back = glue own.back more.has.points; joined = joined; front_len = own.front_len; counted = own.counted }))

@@ -18,19 +18,12 @@ paired {l} {t} e both last first = meets_by last.0 first.0 l t both.0 both.1 (sy
 pub from_well_formed-view-requires : goal.from_well_formed-view-requires
 from_well_formed-view-requires g c = rw c.as_slice.ensures.value c.requires
 
-pub append_completing_pair-requires-clause-three : goal.append_completing_pair-requires-clause-three
-append_completing_pair-requires-clause-three g c =
+pub append_completing_pair-requires : goal.append_completing_pair-requires
+append_completing_pair-requires g c =
     let met = c.in-Some.ensures in
-    let m = paired (view_has_same_points g (goal.at.append_completing_pair-requires-clause-three g c).After-from_well_formed-view) met.pair
-    met.last met.first in
-    (meeting_bytes m c.requires.encoded c.args.other.well_formed.encoded).three
-
-pub append_completing_pair-requires-clause-begins : goal.append_completing_pair-requires-clause-begins
-append_completing_pair-requires-clause-begins g c =
-    let met = c.in-Some.ensures in
-    let m = paired (view_has_same_points g (goal.at.append_completing_pair-requires-clause-begins g c).After-from_well_formed-view) met.pair
-    met.last met.first in
-    let s = meeting_bytes m c.requires.encoded c.args.other.well_formed.encoded in (s.three_after, s.last)
+    let same = view_has_same_points g (goal.at.append_completing_pair-requires g c).After-from_well_formed-view in
+    let s = meeting_bytes (paired same met.pair met.last met.first) c.requires.encoded c.args.other.well_formed.encoded in
+    record { lead = met.pair.0; trail = met.pair.1; three = s.three; begins = (s.three_after, s.last) }
 
 pub returns-in-Some : goal.returns-in-Some
 returns-in-Some g c =

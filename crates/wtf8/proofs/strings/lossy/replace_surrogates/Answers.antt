@@ -6,13 +6,13 @@ pub write_replacement-requires : goal.write_replacement-requires
 write_replacement-requires g c =
     let least = subst (λ w. IsLeast (SurrogateAt w) c.loop-found.from c.in-Some.found) c.deref.ensures.value c.in-Some.ensures in
     (replacing_step c.requires.points c.loop-found.bytes.items c.loop-found.from c.in-Some.found
-    (c.loop-found.invariant c.requires) least).within
+    (c.loop-found.invariant c.requires) least).0
 
 pub loop-found-preserved : goal.loop-found-preserved
 loop-found-preserved g c h =
     let least = subst (λ w. IsLeast (SurrogateAt w) c.loop-found.from c.in-Some.found) c.deref.ensures.value c.in-Some.ensures in
     subst (λ w. Replacing h.points w (c.in-Some.found + 3)) (sym c.write_replacement.ensures)
-    (replacing_step h.points c.loop-found.bytes.items c.loop-found.from c.in-Some.found (c.loop-found.invariant h) least).next
+    (replacing_step h.points c.loop-found.bytes.items c.loop-found.from c.in-Some.found (c.loop-found.invariant h) least).1
 
 pub returns : goal.returns
 returns g c h = replacing_end h.points c.loop-found.bytes.items c.loop-found.from (c.loop-found.invariant h)

@@ -1,7 +1,5 @@
 use Rattle.wtf8.proofs.Common.{arith, get_or, utf16_len, sum_by_more}
 use Rattle.wtf8.proofs.lemmas.lanes.UnitCounts.{utf16_len-ascii, utf16_len-continuation}
-use Rattle.wtf8.proofs.strings.unit_positions.find_unit.Goals.{else-byte-lt128+then-byte-ge192+else-unit-units}
-use Rattle.wtf8.proofs.strings.unit_positions.find_unit.Goals.{then-byte-lt128+else-units-unit, else-byte-lt128+else-byte-ge192}
 use Rattle.wtf8.proofs.strings.unit_positions.find_unit.Goals as goal
 
 pub returns-then-units-unit : goal.returns-then-units-unit
@@ -20,20 +18,5 @@ returns-then-units-unit c =
 
 pub loop-position-preserved : goal.loop-position-preserved
 loop-position-preserved c =
-    let w = c.args.bytes.now in
-    let more = sum_by_more utf16_len w c.loop-position.position 0 c.loop-position-test.true in
-    elim c.if-byte-lt128.branch [
-      | then-byte-lt128+else-units-unit b ↦
-          let one = utf16_len-ascii (get_or w c.loop-position.position 0) b.if-byte-lt128.true in (
-            omega (arith, more, one, c.loop-position.invariant.0, b.units-is),
-            omega (arith, c.loop-position.invariant.1, b.if-units-unit.false, b.units-is),
-          )
-      | else-byte-lt128+then-byte-ge192+else-unit-units b ↦ (
-        omega (arith, more, b.utf16_len_of_byte-more.ensures, c.loop-position.invariant.0, b.units-is),
-        omega (arith, c.loop-position.invariant.1, b.if-unit-units.false, b.units-is),
-      )
-      | else-byte-lt128+else-byte-ge192 b ↦
-          let none =
-          utf16_len-continuation (get_or w c.loop-position.position 0) b.if-byte-lt128.false (omega (arith, b.if-byte-ge192.false)) in
-          (omega (arith, more, none, c.loop-position.invariant.0, b.units-is), omega (arith, c.loop-position.invariant.1, b.units-is))
-    ]
+    let more = sum_by_more utf16_len c.args.bytes.now c.loop-position.position 0 c.loop-position-test.true in
+    grind (arith, utf16_len-ascii, utf16_len-continuation, c.if-byte-lt128.branch, c.loop-position.invariant)

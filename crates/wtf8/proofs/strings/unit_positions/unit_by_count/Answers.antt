@@ -4,7 +4,7 @@ use Rattle.std.proofs.lemmas.Option.{slice_get_past}
 use Rattle.wtf8.proofs.lemmas.codec.Readings.{lists_have_lengths, IsWellFormed-equal_bytes, same_points}
 use Rattle.wtf8.proofs.lemmas.strings.Positions.{cut_by}
 use Rattle.wtf8.proofs.lemmas.strings.UnitCuts.{InPair, Undivided, in_pair_at_cursor, points_about_unit, undivided_at}
-use Rattle.wtf8.proofs.lemmas.strings.UnitCuts.{all_before, trail_in_pair, first_no_continuation, held_trail-none}
+use Rattle.wtf8.proofs.lemmas.strings.UnitCuts.{all_before, trail_in_pair, none_held}
 use Rattle.wtf8.proofs.strings.unit_positions.unit_by_count.Goals.{After-find_unit-cursor}
 use Rattle.wtf8.proofs.strings.unit_positions.unit_by_count.Goals as goal
 
@@ -59,15 +59,14 @@ pub read_unit-requires-clause-after : goal.read_unit-requires-clause-after
 read_unit-requires-clause-after c =
     let x = undivided (goal.at.read_unit-requires-clause-after c).After-find_unit-cursor c.if-cursor-index.false in
     let cut = cut_by c.args.view.well_formed x.front x.back c.find_unit-cursor.result.position x.joined x.front_len in
-    IsWellFormed-equal_bytes cut.after
-    (held_trail-none (drop c.find_unit-cursor.result.position c.args.view.bytes.now) (first_no_continuation cut.after)).1
+    IsWellFormed-equal_bytes cut.after (none_held cut.after).1
 
 pub returns : goal.returns
 returns c =
     let k = c.find_unit-cursor.result.position in
     let x = undivided (goal.at.returns c).After-find_unit-cursor c.if-cursor-index.false in
     let cut = cut_by c.args.view.well_formed x.front x.back k x.joined x.front_len in
-    let none = held_trail-none (drop k c.args.view.bytes.now) (first_no_continuation cut.after) in
+    let none = none_held cut.after in
     let after : IsWellFormed (after_held_trail (drop k c.args.view.bytes.now)) = IsWellFormed-equal_bytes cut.after none.1 in
     let all = ap (λ held. held ++ units after.points) none.0 ∙ ap units (same_points after cut.after none.1) in
     ap (λ u. slice_get u 0) (sym (c.read_unit.ensures after).first ∙ all) ∙ sym x.here

@@ -4,19 +4,13 @@ use Rattle.wtf8.proofs.Common.{false≢true, cases_lt, append-nil, IsForm, EachC
 use Rattle.wtf8.proofs.Common.{none-some, LeavesReserved, Reserve, rules, length-append}
 use Rattle.std.proofs.lemmas.Option.{same_Some, slice_get_read}
 use Rattle.wtf8.specs.Building.{appended_units, reserved_bytes}
-use Rattle.wtf8.proofs.lemmas.strings.StringLaws.{reserved_more}
+use Rattle.wtf8.proofs.lemmas.strings.StringLaws.{reserved_more, runs_add}
 use Rattle.wtf8.proofs.lemmas.strings.Concatenation.{take-cons-drop, take-push}
 use Rattle.wtf8.proofs.lemmas.strings.ExtendedForms.{Found, found_more, beginning_of_form}
-use Rattle.wtf8.proofs.strings.buf.Wtf8Buf.apply_all.Goals.{In_default, then-not-kept, else-not-kept}
+use Rattle.wtf8.proofs.strings.buf.Wtf8Buf.apply_all.Goals.{In_default}
 use Rattle.wtf8.proofs.strings.buf.Wtf8Buf.apply_all.Goals as goal
 
 -- Runs of building calls, call by call, and the units that pushes and extensions append.
-
--- a run with one more call
-run_more : (u : List ℕ) (calls : List Build) (mid : List ℕ) (n : ℕ) (call : Build) (v : List ℕ) (r : ℕ) → Run u calls mid n
-    → Step mid call v r → Run u (calls ++ call ∷ []) v (n + r)
-run_more u [] mid n call v r x s = (v, r, 0, subst (λ m. Step m call v r) x.0 s, (refl, refl), omega (arith, x.1))
-run_more u (c ∷ calls) mid n call v r x s = (x.0, x.1, x.2 + r, x.3, run_more x.0 calls mid x.2 call v r x.4 s, omega (arith, x.5))
 
 -- a call that appends `a`: it doesn't truncate or reserve, and has this outcome only
 record Adds (u : List ℕ) (call : Build) (a : List ℕ) : Type 0 where
@@ -60,10 +54,6 @@ call_among : (calls : List Build) (i : ℕ) (call : Build) → i < length calls 
     → IsNoTruncation call
 call_among calls i call h e all = subst IsNoTruncation (sym e) (All-get_or IsNoTruncation calls i call h all)
 
--- the number of refused truncations after one more call
-refused-one_more : (kept : Bool) (n : ℕ) → kept ≡ false → n + 1 ≡ n + cond kept 0 1
-refused-one_more kept n e = rw e refl
-
 -- of a list that begins with the calls up to the refused one, not each fits
 no_room : (g : _) (c : In_default g) (more : List Build) (v : List ℕ)
     → ¬ (EachCallFits c.args.self.now.units
@@ -80,14 +70,11 @@ loop-done-preserved g c =
     let u = c.args.self.now.units in
     let was = c.loop-done.self.units in
     let now = c.apply.new.self.units in
-    let run = run_more u (take i calls) was c.loop-done.refused call now (cond c.in-Ok.kept 0 1) inv.ran c.in-Ok.ensures.step in
+    let one : Run was (call ∷ []) now (cond c.in-Ok.kept 0 1) = (now, _, 0, c.in-Ok.ensures.step, (refl, refl), omega arith) in
+    let run = runs_add u was now (take i calls) (call ∷ []) c.loop-done.refused (cond c.in-Ok.kept 0 1) inv.ran one in
     let count : (c.if-not-kept.refused ≡ c.loop-done.refused + cond c.in-Ok.kept 0 1) × (c.if-not-kept.refused ≤ i + 1) =
-    elim c.if-not-kept.branch [
-      | then-not-kept w ↦
-          (w.refused-is ∙ refused-one_more c.in-Ok.kept c.loop-done.refused w.if-not-kept.true, omega (arith, w.refused-is, inv.counted))
-      | else-not-kept w ↦
-          (w.refused-is ∙ (rw w.if-not-kept.false (omega arith)), omega (arith, w.refused-is, inv.counted))
-    ] in record {
+    grind (arith, c.if-not-kept.branch, inv.counted) in
+    record {
       ran = subst (λ d. Run u d now c.if-not-kept.refused) (sym more)
           (subst (λ n. Run u (take i calls ++ call ∷ []) now n) (sym count.0) run);
       counted = count.1;
@@ -163,9 +150,3 @@ returns-in_default-clause-stopped g c =
       before = c.loop-done.invariant.ran;
       leaves = c.in_default.ensures.refused;
     }
-
-pub returns-clause-run : goal.returns-clause-run
-returns-clause-run g c = rw (take_all c.loop-done.done c.args.calls.now (omega arith)) at c.loop-done.invariant.ran
-
-pub returns-clause-reserved : goal.returns-clause-reserved
-returns-clause-reserved g c = rw (take_all c.loop-done.done c.args.calls.now (omega arith)) at c.loop-done.invariant.reserved

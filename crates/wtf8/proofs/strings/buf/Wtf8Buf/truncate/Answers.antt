@@ -20,18 +20,14 @@ invariant_of-self-inside g c =
     IsWellFormed-equal_bytes cut.before (items-truncate g (goal.at.invariant_of-self-inside g c).After-truncate) in
     (now, (subst (AreScalarTo prefix.result.len) (sym cut.before_points) (prefix.ensures cut.front cut.splits.front_len front), tt))
 
-pub returns-clause-units : goal.returns-clause-units
-returns-clause-units g c =
+pub returns : goal.returns
+returns g c =
+    let items = items-truncate g (goal.at.returns g c).After-truncate in
     let same = ap (λ (t : UnitString). t.units) c.self.view_is in
     let cut = cut_at c.self.inside.well_formed c.args.new_len (subst (λ u. IsBoundary u c.args.new_len) (sym same) c.requires) in
-    subst (λ u. IsFront u c.args.new_len (units c.self-1.given.0.points)) same (record {
-      front = cut.front;
-      back = cut.back;
-      splits = cut.splits;
-      same_units = ap units (sym (same_points c.self-1.given.0 cut.before
-          (items-truncate g (goal.at.returns-clause-units g c).After-truncate) ∙ cut.before_points));
-    })
-
-pub returns-clause-bytes : goal.returns-clause-bytes
-returns-clause-bytes g c =
-    items-truncate g (goal.at.returns-clause-bytes g c).After-truncate ∙ ap (λ (t : UnitString). take c.args.new_len t.bytes) c.self.view_is
+    let kept = ap units (sym (same_points c.self-1.given.0 cut.before items ∙ cut.before_points)) in
+    record {
+      units = subst (λ u. IsFront u c.args.new_len (units c.self-1.given.0.points)) same
+          (record { front = cut.front; back = cut.back; splits = cut.splits; same_units = kept });
+      bytes = items ∙ ap (λ (t : UnitString). take c.args.new_len t.bytes) c.self.view_is;
+    }

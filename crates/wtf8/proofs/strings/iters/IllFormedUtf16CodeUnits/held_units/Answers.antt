@@ -10,6 +10,5 @@ returns-in-128-to-191-clause-value c =
     let least : 0x80 ≤ get_or (drop s.position s.bytes.now) 0 0 = omega (arith, first, c.in-128-to-191) in
     let most : get_or (drop s.position s.bytes.now) 0 0 < 0xC0 = omega (arith, first, c.in-128-to-191) in
     let two = held_trail-two_bytes (drop s.position s.bytes.now) s.after least most in
-    let held =
-    held_trail-some (drop s.position s.bytes.now) two (continuation_range (get_or (drop s.position s.bytes.now) 0 0) least most) in
+    let held = held_trail-some (drop s.position s.bytes.now) two (continuation_range _ least most) in
     sym (ap (λ u. length u.held) (sym c.self.view_is) ∙ ap length held.0)

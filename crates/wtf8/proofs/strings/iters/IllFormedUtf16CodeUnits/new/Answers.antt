@@ -1,17 +1,13 @@
 use Rattle.wtf8.proofs.Common.{arith}
-use Rattle.wtf8.proofs.lemmas.strings.UnitCuts.{first_no_continuation, held_trail-none}
+use Rattle.wtf8.proofs.lemmas.strings.UnitCuts.{none_held}
 use Rattle.wtf8.proofs.lemmas.codec.Readings.{IsWellFormed-equal_bytes, same_points}
 use Rattle.wtf8.proofs.strings.iters.IllFormedUtf16CodeUnits.new.Goals as goal
 
 pub invariant_of-result : goal.invariant_of-result
 invariant_of-result c =
-    let w = c.args.view.well_formed in
-    let n = held_trail-none c.args.view.bytes.now (first_no_continuation w) in (omega arith, (IsWellFormed-equal_bytes w n.1, tt))
+    let w = c.args.view.well_formed in (omega arith, (IsWellFormed-equal_bytes w (none_held w).1, tt))
 
-pub returns-clause-held : goal.returns-clause-held
-returns-clause-held c = (held_trail-none c.args.view.bytes.now (first_no_continuation c.args.view.well_formed)).0
-
-pub returns-clause-points : goal.returns-clause-points
-returns-clause-points c =
+pub returns : goal.returns
+returns c =
     let w = c.args.view.well_formed in
-    same_points c.result-2-1.given.1.0 w (held_trail-none c.args.view.bytes.now (first_no_continuation w)).1
+    record { held = (none_held w).0; points = same_points c.result-2-1.given.1.0 w (none_held w).1 }

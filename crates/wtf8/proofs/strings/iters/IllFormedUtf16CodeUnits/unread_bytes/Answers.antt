@@ -1,7 +1,5 @@
-use Rattle.wtf8.proofs.Common.{◌≡◌, ℕ, ◌+◌, ◌*◌, inl, inr, List, [], ◌∷◌, length, ap, drop, arith, length-drop, cases_lt, bytes}
+use Rattle.wtf8.proofs.Common.{◌≡◌, ℕ, ◌+◌, ◌*◌, inl, inr, List, [], ◌∷◌, length, ap, drop, arith, length-drop, cases_Bool, bytes}
 use Rattle.wtf8.proofs.Common.{IsWellFormed, held_trail, after_held_trail}
-use Rattle.wtf8.proofs.lemmas.strings.UnitCuts.{continuation_range, ascii_no_continuation, lead_no_continuation, held_trail-none}
-use Rattle.wtf8.proofs.lemmas.strings.UnitCuts.{held_trail-some}
 use Rattle.wtf8.proofs.lemmas.codec.Readings.{lists_have_lengths}
 use Rattle.wtf8.proofs.strings.iters.IllFormedUtf16CodeUnits.unread_bytes.Goals as goal
 
@@ -9,19 +7,7 @@ use Rattle.wtf8.proofs.strings.iters.IllFormedUtf16CodeUnits.unread_bytes.Goals 
 length-held : (w : List ℕ) (h : IsWellFormed (after_held_trail w)) → length w ≡ 2 * length (held_trail w) + length (bytes h.points)
 length-held [] h = omega (arith, ap length h.encoded)
 length-held (a ∷ []) h = omega (arith, ap length h.encoded)
-length-held (a ∷ b ∷ w) h = elim (cases_lt a 0x80) [
-  | inl l ↦
-      let n = held_trail-none (a ∷ b ∷ w) (ascii_no_continuation a l) in
-      omega (arith, ap length n.0, ap length n.1, ap length h.encoded)
-  | inr l ↦ elim (cases_lt a 0xC0) [
-    | inl g ↦
-        let n = held_trail-some (a ∷ b ∷ w) (omega arith) (continuation_range a l g) in
-        omega (arith, ap length n.0, ap length n.1, ap length h.encoded)
-    | inr g ↦
-        let n = held_trail-none (a ∷ b ∷ w) (lead_no_continuation a g) in
-        omega (arith, ap length n.0, ap length n.1, ap length h.encoded)
-  ]
-]
+length-held (a ∷ b ∷ w) h = grind (arith, cases_Bool, ap length h.encoded)
 
 pub overflow_sub-result-2 : goal.overflow_sub-result-2
 overflow_sub-result-2 c =

@@ -6,8 +6,8 @@ use Rattle.wtf8.proofs.strings.iters.Wtf8CodePointsIterator.next.Goals as goal
 pub returns-then-self-clause-steps : goal.returns-then-self-clause-steps
 returns-then-self-clause-steps c =
     let s = c.self.inside in
-    let none = points-nil s.well_formed (omega (arith, length-drop s.position s.bytes.now, c.if-self.true)) in
-    (sym c.self.view_is ∙ none, sym c.self.view_is ∙ none)
+    let none = sym c.self.view_is ∙ points-nil s.well_formed (omega (arith, length-drop s.position s.bytes.now, c.if-self.true)) in
+    (none, none)
 
 pub read-after-requires-clause-front : goal.read-after-requires-clause-front
 read-after-requires-clause-front c =

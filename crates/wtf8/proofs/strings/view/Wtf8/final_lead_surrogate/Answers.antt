@@ -9,15 +9,15 @@ pub surrogate_after_ed-requires-clause-third : goal.surrogate_after_ed-requires-
 surrogate_after_ed-requires-clause-third c =
     let n = (last_surrogate c.args.self.now.well_formed (omega arith) (omega arith) (omega arith)).ends in omega arith
 
-pub returns-in-237-clause-lead : goal.returns-in-237-clause-lead
-returns-in-237-clause-lead c =
+pub returns-in-237 : goal.returns-in-237
+returns-in-237 c =
     let p = last_surrogate c.args.self.now.well_formed (omega arith) (omega arith) (omega arith) in
-    let n = p.ends in (omega (arith, p.surrogate), omega (arith, p.surrogate))
-
-pub returns-in-237-clause-last : goal.returns-in-237-clause-last
-returns-in-237-clause-last c =
-    let p = last_surrogate c.args.self.now.well_formed (omega arith) (omega arith) (omega arith) in
-    let n = p.ends in (p.front, p.joined ∙ ap (λ q. p.front ++ q ∷ []) (omega (arith, p.surrogate)))
+    let n = p.ends in
+    record {
+      lead = (omega (arith, p.surrogate), omega (arith, p.surrogate));
+      last = (p.front, p.joined ∙ ap (λ q. p.front ++ q ∷ []) (omega (arith, p.surrogate)));
+      none = tt;
+    }
 
 pub returns-in_default-clause-none : goal.returns-in_default-clause-none
 returns-in_default-clause-none c f l h e = let n = ends_in_lead c.args.self.now.well_formed f l h e in omega arith

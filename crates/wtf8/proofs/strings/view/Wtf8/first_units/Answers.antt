@@ -3,43 +3,27 @@ use Rattle.wtf8.proofs.lemmas.strings.Positions.{points_before}
 use Rattle.wtf8.proofs.lemmas.strings.UnitCuts.{divides_none, divides_some, in_pair_at, pair_at_cut, undivided_at}
 use Rattle.wtf8.proofs.strings.view.Wtf8.first_units.Goals as goal
 
-pub returns-then-cut-n-clause-units : goal.returns-then-cut-n-clause-units
-returns-then-cut-n-clause-units c =
+pub returns-then-cut-n : goal.returns-then-cut-n
+returns-then-cut-n c =
     let h = c.args.self.well_formed in
     let x = undivided_at h c.args.n c.in-Some.cut c.in-Some.ensures.some c.if-cut-n.true in
     let front = points_before h c.slice_to-front.result.well_formed x.front x.back _ x.joined x.front_len c.slice_to-front.ensures.bytes in
-    append-nil (units c.slice_to-front.result.well_formed.points) ∙ (ap units front ∙ sym x.kept)
+    record {
+      units = append-nil (units c.slice_to-front.result.well_formed.points) ∙ (ap units front ∙ sym x.kept);
+      lead = (λ s. absurd (false≢true s), λ m. absurd (divides_none h.clean x m));
+    }
 
-pub returns-then-cut-n-clause-lead : goal.returns-then-cut-n-clause-lead
-returns-then-cut-n-clause-lead c =
-    let h = c.args.self.well_formed in
-    let x = undivided_at h c.args.n c.in-Some.cut c.in-Some.ensures.some c.if-cut-n.true in
-    (λ s. absurd (false≢true s), λ m. absurd (divides_none h.clean x m))
-
-pub read_lead-requires-clause-front : goal.read_lead-requires-clause-front
-read_lead-requires-clause-front c =
+pub read_lead-requires : goal.read_lead-requires
+read_lead-requires c =
     let h = c.args.self.well_formed in
     let x = in_pair_at h c.args.n c.in-Some.cut c.in-Some.ensures.some c.in-Some.ensures.divided c.if-cut-n.false in
-    (pair_at_cut h x.divided c.split_at.ensures.back).0
+    let pair = pair_at_cut h x.divided c.split_at.ensures.back in record { front = pair.0; least = pair.2 }
 
-pub read_lead-requires-clause-least : goal.read_lead-requires-clause-least
-read_lead-requires-clause-least c =
+pub returns : goal.returns
+returns c =
     let h = c.args.self.well_formed in
-    let x = in_pair_at h c.args.n c.in-Some.cut c.in-Some.ensures.some c.in-Some.ensures.divided c.if-cut-n.false in
-    (pair_at_cut h x.divided c.split_at.ensures.back).2
-
-pub returns-clause-units : goal.returns-clause-units
-returns-clause-units c =
-    let h = c.args.self.well_formed in
-    let x = in_pair_at h c.args.n c.in-Some.cut c.in-Some.ensures.some c.in-Some.ensures.divided c.if-cut-n.false in
-    let d = x.divided in
+    let d = (in_pair_at h c.args.n c.in-Some.cut c.in-Some.ensures.some c.in-Some.ensures.divided c.if-cut-n.false).divided in
     let pair = pair_at_cut h d c.split_at.ensures.back in
     let front =
     points_before h c.slice_to-front.result.well_formed d.front (_ ∷ d.rest) _ d.joined d.front_len c.slice_to-front.ensures.bytes in
-    rw (front, c.read_lead.ensures pair.0, pair.1) (sym d.kept)
-
-pub returns-clause-lead : goal.returns-clause-lead
-returns-clause-lead c =
-    let h = c.args.self.well_formed in
-    let x = in_pair_at h c.args.n c.in-Some.cut c.in-Some.ensures.some c.in-Some.ensures.divided c.if-cut-n.false in
-    (λ s. divides_some h.clean x.divided, λ m. refl)
+    record { units = rw (front, c.read_lead.ensures pair.0, pair.1) (sym d.kept); lead = (λ s. divides_some h.clean d, λ m. refl) }

@@ -11,13 +11,15 @@ trail_by_lead h t r i e = (begins_with t (bytes r) _ (omega arith) (sym h.encode
 pub surrogate_after_ed-requires-clause-third : goal.surrogate_after_ed-requires-clause-third
 surrogate_after_ed-requires-clause-third c = let s = (first_of c.args.self.well_formed (omega arith)).0.by_lead in omega arith
 
-pub returns-in-237-clause-trail : goal.returns-in-237-clause-trail
-returns-in-237-clause-trail c = let s = (first_of c.args.self.well_formed (omega arith)).0.by_lead in (omega arith, omega arith)
-
-pub returns-in-237-clause-first : goal.returns-in-237-clause-first
-returns-in-237-clause-first c =
+pub returns-in-237 : goal.returns-in-237
+returns-in-237 c =
     let f = first_of c.args.self.well_formed (omega arith) in
-    let s = f.0.by_lead in (f.1.rest.points, f.1.joined ∙ ap (λ q. q ∷ f.1.rest.points) (omega arith))
+    let s = f.0.by_lead in
+    record {
+      trail = (omega arith, omega arith);
+      first = (f.1.rest.points, f.1.joined ∙ ap (λ q. q ∷ f.1.rest.points) (omega arith));
+      none = tt;
+    }
 
 pub returns-in_default-clause-none : goal.returns-in_default-clause-none
 returns-in_default-clause-none c t r i e = let s = trail_by_lead c.args.self.well_formed t r i e in grind arith

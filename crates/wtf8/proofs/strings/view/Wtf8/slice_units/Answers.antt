@@ -41,32 +41,24 @@ units_from_begin c = omega (
 pub first_units-lead-requires : goal.first_units-lead-requires
 first_units-lead-requires c = omega (arith, units_from_begin c, c.requires.within)
 
-pub returns-clause-units : goal.returns-clause-units
-returns-clause-units c =
-    let before = (goal.at.returns-clause-units c).After-from in
-    let u = view_units c.args.self.now in
-    let half = option_to_list c.units_after-trail.result.0 in
-    let rest = view_units c.units_after-trail.result.1 in
-    let n = c.args.end - c.args.begin - c.from.result in
-    let count : length half + n ≡ c.args.end - c.args.begin =
-    omega (arith, trail_before_end before, half_len before) in
-    let whole : c.args.begin + (c.args.end - c.args.begin) ≡ c.args.end = omega (arith, c.requires.order) in
-    ap (λ v. half ++ v) c.first_units-lead.ensures.units
-    ∙ (sym (take-append-add half rest n) ∙ (ap (take (length half + n)) c.units_after-trail.ensures.units
-    ∙ (ap (λ k. take k (drop c.args.begin u)) count
-    ∙ (sym (drop-take c.args.begin (c.args.end - c.args.begin) u) ∙ ap (λ k. drop c.args.begin (take k u)) whole))))
-
-pub returns-clause-lead : goal.returns-clause-lead
-returns-clause-lead c less =
-    let before = (goal.at.returns-clause-lead c).After-from in
+pub returns : goal.returns
+returns c =
+    let before = (goal.at.returns c).After-from in
     let u = view_units c.args.self.now in
     let half = c.units_after-trail.result.0 in
+    let held = option_to_list half in
     let rest = view_units c.units_after-trail.result.1 in
     let n = c.args.end - c.args.begin - c.from.result in
-    let same = divides_after u rest half c.args.begin n (omega (arith, c.requires.within, less)) c.units_after-trail.ensures.units
-    c.units_after-trail.ensures.trail (omega (arith, less, half_len before))
-    (omega (arith, units_from_begin before, c.requires.within)) in
-    let end : c.args.begin + (length (option_to_list half) + n) ≡ c.args.end =
-    omega (arith, less, half_len before, (len_of_half half).1) in
+    let end : c.args.begin + (length held + n) ≡ c.args.end = omega (arith, trail_before_end before, half_len before, c.requires.order) in
     let own = c.first_units-lead.ensures.lead in
-    (λ s. subst (DividesPair u) end (same.0 (own.0 s)), λ m. own.1 (same.1 (subst (DividesPair u) (sym end) m)))
+    record {
+      units = ap (λ v. held ++ v) c.first_units-lead.ensures.units
+          ∙ (sym (take-append-add held rest n) ∙ (ap (take (length held + n)) c.units_after-trail.ensures.units
+          ∙ (sym (drop-take c.args.begin (length held + n) u) ∙ ap (λ k. drop c.args.begin (take k u)) end)));
+      trail = λ _. c.units_after-trail.ensures.trail;
+      lead = λ less.
+          let same = divides_after u rest half c.args.begin n end (omega (arith, c.requires.within, less)) c.units_after-trail.ensures.units
+          c.units_after-trail.ensures.trail
+          (omega (arith, less, half_len before)) (omega (arith, units_from_begin before, c.requires.within)) in
+          (λ s. same.0 (own.0 s), λ m. own.1 (same.1 m));
+    }

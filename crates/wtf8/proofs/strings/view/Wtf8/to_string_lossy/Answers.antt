@@ -22,5 +22,4 @@ returns-in-Some-clause-len g c = ap length c.in-Some.ensures.bytes
 pub returns-clause-len : goal.returns-clause-len
 returns-clause-len g c =
     let h = c.args.self.now.well_formed in
-    ap (λ v. length v.items) c.from_utf8_unchecked.ensures.value ∙ (ap length (c.replace_surrogates.ensures
-    (IsWellFormed-equal_bytes h c.in_ok-bytes.ensures.items)) ∙ (length-lossy_points h.points ∙ ap length h.encoded))
+    ap length (returns-clause-text g c) ∙ (length-lossy_points h.points ∙ ap length h.encoded)

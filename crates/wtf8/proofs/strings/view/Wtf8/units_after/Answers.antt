@@ -3,17 +3,12 @@ use Rattle.wtf8.proofs.lemmas.strings.Positions.{boundary_of, points_after}
 use Rattle.wtf8.proofs.lemmas.strings.UnitCuts.{divides_none, divides_some, in_pair_at, trail_in_pair, undivided_at}
 use Rattle.wtf8.proofs.strings.view.Wtf8.units_after.Goals as goal
 
-pub returns-then-cut-n-clause-units : goal.returns-then-cut-n-clause-units
-returns-then-cut-n-clause-units c =
+pub returns-then-cut-n : goal.returns-then-cut-n
+returns-then-cut-n c =
     let h = c.args.self.well_formed in
     let x = undivided_at h c.args.n c.in-Some.cut c.in-Some.ensures.some c.if-cut-n.true in
-    ap units (points_after h c.slice_from.result.well_formed x.front x.back _ x.joined x.front_len c.slice_from.ensures.bytes) ∙ sym x.after
-
-pub returns-then-cut-n-clause-trail : goal.returns-then-cut-n-clause-trail
-returns-then-cut-n-clause-trail c =
-    let h = c.args.self.well_formed in
-    let x = undivided_at h c.args.n c.in-Some.cut c.in-Some.ensures.some c.if-cut-n.true in
-    (λ s. absurd (false≢true s), λ m. absurd (divides_none h.clean x m))
+    let back = points_after h c.slice_from.result.well_formed x.front x.back _ x.joined x.front_len c.slice_from.ensures.bytes in
+    record { units = ap units back ∙ sym x.after; trail = (λ s. absurd (false≢true s), λ m. absurd (divides_none h.clean x m)) }
 
 pub slice_from-requires-2 : goal.slice_from-requires-2
 slice_from-requires-2 c =
@@ -21,17 +16,14 @@ slice_from-requires-2 c =
     let x = in_pair_at h c.args.n c.in-Some.cut c.in-Some.ensures.some c.in-Some.ensures.divided c.if-cut-n.false in
     let d = x.divided in boundary_of h (d.front ++ x.point ∷ []) d.rest _ d.pushed d.pushed_len
 
-pub returns-clause-units : goal.returns-clause-units
-returns-clause-units c =
+pub returns : goal.returns
+returns c =
     let h = c.args.self.well_formed in
     let x = in_pair_at h c.args.n c.in-Some.cut c.in-Some.ensures.some c.in-Some.ensures.divided c.if-cut-n.false in
     let d = x.divided in
     let rest = points_after h c.slice_from-2.result.well_formed (d.front ++ x.point ∷ []) d.rest _ d.pushed d.pushed_len
     c.slice_from-2.ensures.bytes in
-    rw (c.read_trail-trail.ensures, trail_in_pair h d c.split_at.ensures.back, rest) (sym d.after)
-
-pub returns-clause-trail : goal.returns-clause-trail
-returns-clause-trail c =
-    let h = c.args.self.well_formed in
-    let x = in_pair_at h c.args.n c.in-Some.cut c.in-Some.ensures.some c.in-Some.ensures.divided c.if-cut-n.false in
-    (λ s. divides_some h.clean x.divided, λ m. refl)
+    record {
+      units = rw (c.read_trail-trail.ensures, trail_in_pair h d c.split_at.ensures.back, rest) (sym d.after);
+      trail = (λ s. divides_some h.clean d, λ m. refl);
+    }
