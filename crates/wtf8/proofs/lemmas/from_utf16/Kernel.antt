@@ -253,7 +253,7 @@ second_bytes_fit P h (y ∷ b) [] = tt
 second_bytes_fit P h (y ∷ b) (x ∷ u) = (h _ (grind (arith, nat_tests)), second_bytes_fit P h b u)
 
 pub IsByteCount-byte_count : (n : ℕ) → IsByteCount (byte_count n)
-IsByteCount-byte_count n = (omega arith, grind (arith, nat_tests))
+IsByteCount-byte_count n = (grind (arith, nat_tests), grind (arith, nat_tests))
 
 abbrev narrowed : List ℕ → List ℕ
 narrowed = map (λ x. x)

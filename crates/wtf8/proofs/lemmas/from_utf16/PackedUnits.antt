@@ -161,7 +161,7 @@ packed_units-read w kept {bytes} {u} {at} {known} {more} k x within fits taken u
     let here : get_or eight 7 0 ≡ get_or u (at + 7) 0 = get_or-take 8 (drop at u) 7 0 (omega arith) ∙ get_or-drop at u 7 0 in
     let whole : length eight ≡ 8 = length-chunk at 8 u within in
     let next : drop (at + 7) u ≡ get_or u (at + 7) 0 ∷ drop (at + 7 + 1) u = drop_more u (at + 7) 0 (omega (arith, within)) in
-    let end : at + 8 ≡ suc (at + 7) = omega arith in
+    let end : at + 8 ≡ at + 7 + 1 = omega arith in
     let divides : ¬ (DividesPair u (at + k)) = elim taken [
       | inl t ↦ rw (t.0, end) (undivided-after_no_lead u (at + 7) (omega (arith, within)) (rw here at t.1))
       | inr t ↦ rw (t.0, next) (unpaired-before_no_trail _ _ (λ l. omega (arith, here, t.1.1, l.0)))

@@ -87,7 +87,7 @@ front_read {w = w} {new = new} {u = u} {low = low} {at = at} {known = known} k n
     divides : (k : ℕ) → k ≤ n → AreAscii (take k (take n (drop at u))) → ¬ (DividesPair u (at + k))
     divides zero few own = let here : at ≡ at + 0 = omega arith in subst (λ k. ¬ (DividesPair u k)) here x.divides_no_pair
     divides (suc j) few own =
-        let here : suc (at + j) ≡ at + suc j = omega arith in
+        let here : at + j + 1 ≡ at + suc j = omega arith in
         let low = Each1-get_or (λ n. n < 0x80) (take (suc j) (take n (drop at u))) j 0 (omega (arith, few, length-chunk at n u within,
         length-take (suc j) (take n (drop at u)))) own in
         let unit = get_or-take (suc j) (take n (drop at u)) j 0 (omega arith) ∙ get_or-take n (drop at u) j 0 (omega (arith, few))

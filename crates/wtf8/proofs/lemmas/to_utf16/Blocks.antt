@@ -64,9 +64,9 @@ units_then_rest {P} n f rows (suc c) (suc k) at w b r h e long same le each =
     }
 
 -- bytes are their own lead bytes and units at width 1
-one_byte_run : (w : List ℕ) → (w ≡ map_run 1 (λ w. get_or w 0 0) (length w) w) × (w ≡ map_run 1 unit_of_one (length w) w)
-one_byte_run [] = (refl, refl)
-one_byte_run (b ∷ w) = let rest = one_byte_run w in (ap (λ v. b ∷ v) rest.0, ap (λ v. b ∷ v) rest.1)
+one_byte_run : (w : List ℕ) → w ≡ map_run 1 lead_byte (length w) w
+one_byte_run [] = refl
+one_byte_run (b ∷ w) = ap (λ v. b ∷ v) (one_byte_run w)
 
 -- the first `count` lanes of a decoded block are the next units if their lead bytes satisfy `P`
 pub begins_with_run : {P : ℕ → Type 0} (n c m : ℕ) (f : List ℕ → ℕ) → DecodesRun n P f
@@ -84,8 +84,8 @@ pub begins_with_ascii : (n : ℕ) (w : List ℕ) (count : ℕ) (block : List ℕ
 begins_with_ascii n w count block long le e =
     let fits : length (take n w) ≡ n = omega (arith, long, length-take n w) in
     let own = one_byte_run (take n w) in
-    begins_with_run 1 (length (take n w)) n unit_of_one DecodesRun-one_byte w count (take n w) block (omega (arith, fits)) long
-    (omega (arith, le, fits)) own.0 (e ∙ own.1)
+    begins_with_run 1 (length (take n w)) n lead_byte DecodesRun-one_byte w count (take n w) block (omega (arith, fits)) long
+    (omega (arith, le, fits)) own (e ∙ own)
 
 -- a code point `p` that was decoded from `n` bytes gives the next units
 pub record ReadUnits (w : List ℕ) (p n : ℕ) : Type 0 where
