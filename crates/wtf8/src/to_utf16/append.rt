@@ -13,9 +13,7 @@ use crate::codec::surrogates::{FIRST_LEAD, FIRST_SUPPLEMENTARY, FIRST_TRAIL, SUR
 use crate::lanes::VECTOR;
 use crate::lanes::ascii::is_ascii_overlapping;
 use crate::strings::view::Wtf8;
-use crate::to_utf16::blocks::{
-    EncodedLength, OneByte, ThreeBytes, TwoBytes, is_lead_byte, widen_bytes,
-};
+use crate::to_utf16::blocks::{EncodedLength, OneByte, ThreeBytes, TwoBytes, is_lead_byte, widen};
 use crate::vec::copies::push_block;
 use std::alloc::{AllocError, Allocator};
 use std::simd::prelude::*;
@@ -48,7 +46,7 @@ fn store_units<const N: usize>(units: &mut [u16], at: usize, block: [u16; N])
 
 /// Appends the units of an ASCII string of `N` to `2 * N` bytes by its first and its last `N` bytes, which may overlap.
 #[inline(always)]
-fn append_ascii_overlapping<const N: usize, B: Allocator>(
+fn append_ascii<const N: usize, B: Allocator>(
     units: &mut Vec<u16, B>,
     view: Wtf8<'_>,
 ) -> Result<(), AllocError>
@@ -61,12 +59,9 @@ fn append_ascii_overlapping<const N: usize, B: Allocator>(
     units.reserve(bytes.len())?;
     let last = bytes.len() - N;
     let end = units.len() + last;
-    push_block(units, widen_bytes(Simd::<u8, N>::from_slice(bytes)));
+    push_block(units, widen(Simd::<u8, N>::from_slice(bytes)));
     units.truncate(end);
-    push_block(
-        units,
-        widen_bytes(Simd::<u8, N>::from_slice(&bytes[last..])),
-    );
+    push_block(units, widen(Simd::<u8, N>::from_slice(&bytes[last..])));
     Ok(())
 }
 
@@ -125,10 +120,9 @@ fn write_units<'a, const N: usize>(
     ensures bytes { result.view.bytes.now ≡ drop width left.entry.view.bytes.now }
 {
     store_units(units, left.at, block);
-    Undecoded {
-        view: left.view.skip_bytes(width),
-        at: left.at + count,
-    }
+    let view = left.view.skip_bytes(width);
+    let at = left.at + count;
+    Undecoded { view, at }
 }
 
 /// Decodes the code points of a kind at the front of one block, and returns whether they fill it. Does nothing and
@@ -180,11 +174,10 @@ fn decode_run<
     let mut rest = left;
     loop {
         let (after, is_whole) = decode_block::<N, WIDTH, BYTES, K>(units, rest);
-        rest = if is_whole {
-            after
-        } else {
-            decode_point(units, after)
-        };
+        rest = after;
+        if !is_whole {
+            rest = decode_point(units, after);
+        }
         let bytes = rest.view.bytes;
         if bytes.len() < BYTES || bytes.is_empty() || !is_lead_byte(bytes[0], WIDTH) {
             return rest;
@@ -252,10 +245,7 @@ fn decode_all(units: &mut [u16], from: usize, view: Wtf8<'_>) -> usize
 /// Appends the units of a string of fewer than `SCRATCH_UNITS` bytes, by way of a buffer on the stack: cheaper for these
 /// than to count the units first. Not inlined, since a caller would pay for the buffer at each entry.
 #[inline(never)]
-fn append_through_scratch<B: Allocator>(
-    units: &mut Vec<u16, B>,
-    view: Wtf8<'_>,
-) -> Result<(), AllocError>
+fn append_short<B: Allocator>(units: &mut Vec<u16, B>, view: Wtf8<'_>) -> Result<(), AllocError>
     requires { length view.bytes.now < SCRATCH_UNITS }
     ensures { BecomesOrKeeps units.old (units.old.items ++ view_units view.entry) units.new result }
 {
@@ -289,19 +279,11 @@ impl<'a> Wtf8<'a> {
         ensures capacity { vec_capacity units.old ≤ vec_capacity units.new }
     {
         match self.len() {
-            1 if is_ascii_overlapping::<1>(self.bytes) => append_ascii_overlapping::<1, B>(
-                units, *self,
-            ),
-            2..=3 if is_ascii_overlapping::<2>(self.bytes) => append_ascii_overlapping::<2, B>(
-                units, *self,
-            ),
-            4..=7 if is_ascii_overlapping::<4>(self.bytes) => append_ascii_overlapping::<4, B>(
-                units, *self,
-            ),
-            8..=15 if is_ascii_overlapping::<8>(self.bytes) => append_ascii_overlapping::<8, B>(
-                units, *self,
-            ),
-            0..SCRATCH_UNITS => append_through_scratch(units, *self),
+            1 if is_ascii_overlapping::<1>(self.bytes) => append_ascii::<1, B>(units, *self),
+            2..=3 if is_ascii_overlapping::<2>(self.bytes) => append_ascii::<2, B>(units, *self),
+            4..=7 if is_ascii_overlapping::<4>(self.bytes) => append_ascii::<4, B>(units, *self),
+            8..=15 if is_ascii_overlapping::<8>(self.bytes) => append_ascii::<8, B>(units, *self),
+            0..SCRATCH_UNITS => append_short(units, *self),
             _ => append_counted(units, *self),
         }
     }
