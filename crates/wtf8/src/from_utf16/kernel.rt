@@ -19,7 +19,7 @@
 // for units 4-7. A row is a shuffle that packs the bytes to be written: 4, and one more for each set bit of its index.
 #![tactic(auto, using(crate::proofs::lemmas::lanes::AsciiFronts::by_all))]
 
-ghost use Rattle.std.specs.Prelude.{◌≡◌, ◌⊎◌, ℕ, List, Bool, ◌&&◌, ◌+◌, ◌-◌, ◌*◌, ◌%◌, ◌/◌, ◌^◌, ◌<◌, ◌≤◌, ◌++◌, length, map, take, drop, slice_index_or, IfOk, IsTrue, nat_lt, if◌then◌else◌};
+ghost use Rattle.std.specs.Prelude.{◌≡◌, ◌⊎◌, ℕ, List, Bool, ◌&&◌, ◌+◌, ◌-◌, ◌*◌, ◌%◌, ◌/◌, ◌^◌, ◌<◌, ◌≤◌, ◌++◌, length, map, take, slice_index_or, IfOk, IsTrue, nat_lt, if◌then◌else◌};
 ghost use lib.Lanes.{Each1};
 ghost use Rattle.wtf8.specs.Unicode.{IsLead, IsUnit};
 ghost use Rattle.wtf8.specs.private.ConvertedPrefix.{AreScalarUnits, IsReadTo};
@@ -77,24 +77,6 @@ struct LaterBytes {
     seconds: u16x8,
     lasts: u16x8,
     three_byte_flags: u16x8,
-    is_utf8: bool,
-}
-
-/// What `pack_four` is given for eight units: the first, second and last bytes of units 0 to 3 in lanes 0 to 11 of
-/// `front`, those of units 4 to 7 likewise in `back`, and the indexes of their rows, bits 0 to 7 and bits 8 to 15.
-#[derive(Clone, Copy)]
-struct Candidates {
-    front: u8x16,
-    back: u8x16,
-    rows: u64,
-}
-
-/// What a block was: the number of its units that are encoded, the index after their bytes, and whether none of them is
-/// a lone surrogate.
-#[derive(Clone, Copy)]
-struct Block {
-    units: usize,
-    end: usize,
     is_utf8: bool,
 }
 
@@ -199,27 +181,6 @@ fn later_bytes(units: u16x8) -> LaterBytes
     }
 }
 
-/// The three candidate bytes of each of eight units, and the indexes of the rows that pack them.
-#[inline(always)]
-fn candidate_bytes(units: u16x8, later: LaterBytes) -> Candidates
-    requires { AreLaterBytes (tagged_block units) later.seconds later.lasts later.three_byte_flags }
-    ensures front { take 12 result.front ≡ byte_lanes 0 (take 4 (tagged_block units)) }
-    ensures back { take 12 result.back ≡ byte_lanes (slice_index_or (tagged_block units) 3 0) (drop 4 (tagged_block units)) }
-    ensures lengths { result.rows ≡ units_table_index (take 4 (tagged_block units)) + 256 * units_table_index (drop 4 (tagged_block units)) }
-{
-    let front: u8x16 = first_bytes(units).shuffle(later.seconds.cast::<u8>(), INTERLEAVE_HALVES);
-    let last = later.lasts.cast::<u8>();
-    let back: u8x16 = last.shuffle(last, APPEND_SWAPPED_HALVES);
-    let above_one = flags_from(units, 0x80).cast::<u8>();
-    let three = later.three_byte_flags.cast::<u8>();
-    let lengths: u8x16 = above_one.shuffle(three, INTERLEAVE_HALVES);
-    Candidates {
-        front: front.shuffle(back, LOW_HALVES),
-        back: front.shuffle(back, HIGH_HALVES),
-        rows: lengths.simd_ge(u8x16::splat(0x80)).to_bitmask(),
-    }
-}
-
 /// Packs the bytes of four units at index `len` of a block, by row `number`. Returns the index after them.
 #[inline(always)]
 fn pack_four(lanes: u8x16, number: usize, block: &mut [u8], len: usize) -> usize
@@ -234,7 +195,8 @@ fn pack_four(lanes: u8x16, number: usize, block: &mut [u8], len: usize) -> usize
     len + shuffle_table::packed_len(number)
 }
 
-/// Packs the bytes of eight units at index `len` of a block. Returns the index after them.
+/// Packs the bytes of eight units at index `len` of a block, by the rows whose indexes are bits 0 to 7 and bits 8 to 15
+/// of the mask. Returns the index after them.
 #[inline(always)]
 fn pack_eight(units: u16x8, later: LaterBytes, block: &mut [u8], len: usize) -> usize
     requires room { len + MIN_SPARE ≤ length block.old }
@@ -242,46 +204,40 @@ fn pack_eight(units: u16x8, later: LaterBytes, block: &mut [u8], len: usize) -> 
     ensures order { (len ≤ result) × (result ≤ len + 24) }
     ensures bytes { take result block.new ≡ take len block.old ++ packed_units 0 (tagged_block units) }
 {
-    let candidates = candidate_bytes(units, later);
-    let rows = candidates.rows as usize;
-    let middle = pack_four(candidates.front, rows % 256, block, len);
-    pack_four(candidates.back, rows / 256, block, middle)
+    let front: u8x16 = first_bytes(units).shuffle(later.seconds.cast::<u8>(), INTERLEAVE_HALVES);
+    let last = later.lasts.cast::<u8>();
+    let back: u8x16 = last.shuffle(last, APPEND_SWAPPED_HALVES);
+    let above_one = flags_from(units, 0x80).cast::<u8>();
+    let three = later.three_byte_flags.cast::<u8>();
+    let lengths: u8x16 = above_one.shuffle(three, INTERLEAVE_HALVES);
+    let rows = lengths.simd_ge(u8x16::splat(0x80)).to_bitmask() as usize;
+    let middle = pack_four(front.shuffle(back, LOW_HALVES), rows % 256, block, len);
+    pack_four(front.shuffle(back, HIGH_HALVES), rows / 256, block, middle)
 }
 
-/// Encodes eight units at index `len` of a block, or seven if the last one is a lead. Units without a surrogate take
-/// the cheaper path. A third path, for lone surrogates without a pair, made letters dearer by 6% and pairs by 8%: all
-/// paths share registers and constants.
+/// Encodes eight units at index `len` of a block, or seven if the last one is a lead. Returns their number, the index
+/// after their bytes, and whether none of them is a lone surrogate. Units without a surrogate take the cheaper path. A
+/// third path, for lone surrogates without a pair, made letters dearer by 6% and pairs by 8%: all paths share registers
+/// and constants.
 #[inline(always)]
-fn write_block(units: u16x8, block: &mut [u8], len: usize) -> Block
+fn write_block(units: u16x8, block: &mut [u8], len: usize) -> (usize, usize, bool)
     requires room { len + MIN_SPARE ≤ length block.old }
-    ensures taken { ((result.units ≡ 8) × ¬ (IsLead (slice_index_or units 7 0))) ⊎ ((result.units ≡ 7) × IsLead (slice_index_or units 7 0)) }
-    ensures within { result.end ≤ len + MAX_BLOCK_BYTES }
-    ensures bytes { take result.end block.new ≡ take len block.old ++ packed_units 0 (take result.units (tagged_block units)) }
-    ensures scalar { IsTrue result.is_utf8 → Each1 IsUnit (tagged_block units) }
+    ensures taken { ((result.0 ≡ 8) × ¬ (IsLead (slice_index_or units 7 0))) ⊎ ((result.0 ≡ 7) × IsLead (slice_index_or units 7 0)) }
+    ensures within { result.1 ≤ len + MAX_BLOCK_BYTES }
+    ensures bytes { take result.1 block.new ≡ take len block.old ++ packed_units 0 (take result.0 (tagged_block units)) }
+    ensures scalar { IsTrue result.2 → Each1 IsUnit (tagged_block units) }
 {
     if are_scalar(units) {
         let later = scalar_later_bytes(units);
-        return Block {
-            units: BLOCK_UNITS,
-            end: pack_eight(units, later, block, len),
-            is_utf8: true,
-        };
+        return (BLOCK_UNITS, pack_eight(units, later, block, len), true);
     }
     let later = later_bytes(units);
     let end = pack_eight(units, later, block, len);
     let is_utf8 = later.is_utf8;
     if units.to_array()[BLOCK_UNITS - 1] / SURROGATES_PER_HALF == LEAD_KIND {
-        return Block {
-            units: BLOCK_UNITS - 1,
-            end: end - 2,
-            is_utf8,
-        };
+        return (BLOCK_UNITS - 1, end - 2, is_utf8);
     }
-    Block {
-        units: BLOCK_UNITS,
-        end,
-        is_utf8,
-    }
+    (BLOCK_UNITS, end, is_utf8)
 }
 
 /// Encodes units from index `at` on into a scratch buffer, eight at a time: the number of blocks that has units and room
@@ -295,16 +251,15 @@ fn write_blocks(v: &[u16], at: usize, scratch: &mut [u8]) -> (usize, Progress)
     ensures within { result.0 ≤ length scratch.new }
     ensures read { (w : List ℕ) (known : Bool) → IsReadTo w v.now at known → IsReadTo (w ++ take result.0 scratch.new) v.now result.1.at (known && result.1.is_utf8) }
 {
-    let blocks = ((v.len() - at) / BLOCK_UNITS).min(
-        (scratch.len() - MIN_SPARE) / MAX_BLOCK_BYTES + 1,
-    );
+    let room = (scratch.len() - MIN_SPARE) / MAX_BLOCK_BYTES + 1;
+    let blocks = ((v.len() - at) / BLOCK_UNITS).min(room);
     let mut to = Progress { at, is_utf8: true };
     let mut len = 0;
     for _ in 0..blocks {
-        let block = write_block(u16x8::from_slice(&v[to.at..]), scratch, len);
-        len = block.end;
-        to.at += block.units;
-        to.is_utf8 &= block.is_utf8;
+        let (units, end, is_utf8) = write_block(u16x8::from_slice(&v[to.at..]), scratch, len);
+        len = end;
+        to.at += units;
+        to.is_utf8 &= is_utf8;
     }
     (len, to)
 }
@@ -330,10 +285,8 @@ pub(crate) fn append_blocks<const SCRATCH: usize, A: Allocator>(
     loop {
         let (len, to) = write_blocks(v, read.at, scratch);
         bytes.extend_from_slice(&scratch[..len])?;
-        read = Progress {
-            at: to.at,
-            is_utf8: read.is_utf8 & to.is_utf8,
-        };
+        read.at = to.at;
+        read.is_utf8 &= to.is_utf8;
         if v.len() - read.at < BLOCK_UNITS || v[read.at] < 0x80 {
             return Ok(read);
         }

@@ -61,17 +61,13 @@ fn append_point<A: Allocator>(
     if unit < 0x800 {
         // Letters of most alphabets: never a surrogate, and at most two bytes.
         encoding::append(bytes, decode::point_of_unit(unit))?;
-        return Ok(Progress {
-            at: from.at + 1,
-            is_utf8: from.is_utf8,
-        });
+        let (at, is_utf8) = (from.at + 1, from.is_utf8);
+        return Ok(Progress { at, is_utf8 });
     }
     let (code_point, at, is_scalar) = decode::read_point(v, from.at);
     encoding::append(bytes, code_point)?;
-    Ok(Progress {
-        at,
-        is_utf8: from.is_utf8 & is_scalar,
-    })
+    let is_utf8 = from.is_utf8 & is_scalar;
+    Ok(Progress { at, is_utf8 })
 }
 
 /// Appends the ASCII run at the front of the `N` units at index `from.at`, and the code point after it if the run is
@@ -92,10 +88,8 @@ fn append_ascii_run<const N: usize, A: Allocator>(
     let count = ascii_run_len(block);
     let end = bytes.len() + count;
     bytes.extend_from_slice(&block.to_array())?;
-    let to = Progress {
-        at: from.at + count,
-        is_utf8: from.is_utf8,
-    };
+    let mut to = from;
+    to.at += count;
     if count == N {
         return Ok(to);
     }
@@ -156,10 +150,8 @@ fn append_steps<A: Allocator>(bytes: &mut Vec<u8, A>, v: &[u16]) -> Result<Progr
     ensures read { IfOk result (λ to. IsReadTo bytes.new.items v.now to.at to.is_utf8) }
     ensures empty { v.now ≡ [] → IsOk result }
 {
-    let mut read = Progress {
-        at: 0,
-        is_utf8: true,
-    };
+    let (at, is_utf8) = (0, true);
+    let mut read = Progress { at, is_utf8 };
     while LONG_LIST <= v.len() - read.at {
         read = append_next::<ASCII_BLOCK, LONG_SCRATCH_BYTES, A>(bytes, v, read)?;
     }
