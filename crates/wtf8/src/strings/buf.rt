@@ -421,19 +421,12 @@ impl<A: Allocator> Wtf8Buf<A> {
         ensures text { string_bytes result ≡ bytes (lossy_points self.form.points) }
         ensures len { length (string_bytes result) ≡ length self.bytes }
     {
-        unsafe { String::from_utf8_unchecked(self.into_lossy_bytes()) }
-    }
-
-    /// Returns the bytes with each surrogate replaced by U+FFFD. Does not search if the string is known to hold none.
-    fn into_lossy_bytes(self) -> Vec<u8, A>
-        ensures { result.items ≡ bytes (lossy_points self.form.points) }
-    {
         let is_utf8 = self.is_utf8();
         let Wtf8Buf { mut bytes, .. } = self;
         if !is_utf8 {
             replace_surrogates(&mut bytes);
         }
-        bytes
+        unsafe { String::from_utf8_unchecked(bytes) }
     }
 
     /// Whether the UTF-8 prefix is the whole string. If it is not, the rest may hold no surrogate either.

@@ -42,10 +42,8 @@ impl<'a> Wtf8CodePoints<'a> {
     pub(crate) fn new(view: Wtf8<'a>) -> Wtf8CodePoints<'a>
         ensures { result ≡ view_points view.entry }
     {
-        Wtf8CodePoints {
-            bytes: view.bytes,
-            position: 0,
-        }
+        let bytes = view.bytes;
+        Wtf8CodePoints { bytes, position: 0 }
     }
 
     /// The code points that are left, as a view of the string's bytes. It borrows them for `'a`, so it may outlive the
@@ -94,10 +92,8 @@ impl<'a> Clone for Wtf8CodePoints<'a> {
     ghost is_infallible = { λ _. ⊤ };
 
     fn clone(&self) -> Result<Wtf8CodePoints<'a>, AllocError> {
-        Ok(Wtf8CodePoints {
-            bytes: self.bytes,
-            position: self.position,
-        })
+        let (bytes, position) = (self.bytes, self.position);
+        Ok(Wtf8CodePoints { bytes, position })
     }
 }
 
@@ -123,17 +119,14 @@ pub(crate) fn read_unit(bytes: &[u8], position: &mut usize) -> u16
             return encoding::read_two(rest) as u16;
         }
         if first < 0xF0 {
-            let unit = encoding::read_three(rest) as u16;
             *position = start + 3;
-            return unit;
+            return encoding::read_three(rest) as u16;
         }
-        let lead = encoding::read_lead(rest);
         *position = start + 2;
-        return lead;
+        return encoding::read_lead(rest);
     }
-    let trail = encoding::read_trail(rest);
     *position = start + 2;
-    trail
+    encoding::read_trail(rest)
 }
 
 /// An iterator over the 16-bit code units of a string, in order: the units that it was made of, paired or not. After
@@ -163,10 +156,8 @@ impl<'a> IllFormedUtf16CodeUnits<'a> {
         ensures held { result.held ≡ [] }
         ensures points { result.points ≡ view_points view.entry }
     {
-        IllFormedUtf16CodeUnits {
-            bytes: view.bytes,
-            position: 0,
-        }
+        let bytes = view.bytes;
+        IllFormedUtf16CodeUnits { bytes, position: 0 }
     }
 
     /// The units that are left, as a view of the string's bytes, or `None` while the trail of a pair is held back. The
@@ -209,11 +200,8 @@ impl<'a> IllFormedUtf16CodeUnits<'a> {
         ensures value { result ≡ length self.now.held }
         ensures at_most_one { result ≤ 1 }
     {
-        if self.position == self.bytes.len() {
-            return 0;
-        }
-        match self.bytes[self.position] {
-            0x80..=0xBF => 1,
+        match self.bytes.get(self.position) {
+            Some(0x80..=0xBF) => 1,
             _ => 0,
         }
     }
@@ -255,9 +243,7 @@ impl<'a> Clone for IllFormedUtf16CodeUnits<'a> {
     ghost is_infallible = { λ _. ⊤ };
 
     fn clone(&self) -> Result<IllFormedUtf16CodeUnits<'a>, AllocError> {
-        Ok(IllFormedUtf16CodeUnits {
-            bytes: self.bytes,
-            position: self.position,
-        })
+        let (bytes, position) = (self.bytes, self.position);
+        Ok(IllFormedUtf16CodeUnits { bytes, position })
     }
 }

@@ -34,11 +34,8 @@ impl<'a> Wtf8<'a> {
         ensures lead { begin < end → (IsSome result.lead ↔ DividesPair (view_units self.now) end) }
     {
         if begin == end {
-            return UnitSlice {
-                trail: None,
-                whole: Wtf8::from_str(""),
-                lead: None,
-            };
+            let (trail, whole, lead) = (None, Wtf8::from_str(""), None);
+            return UnitSlice { trail, whole, lead };
         }
         let (trail, rest) = self.units_after(begin);
         let (whole, lead) = rest.first_units(end - begin - usize::from(trail.is_some()));

@@ -36,9 +36,8 @@ impl Utf8Prefix {
         ensures order { result.len ≤ self.len }
         ensures within { result.len ≤ len }
     {
-        Utf8Prefix {
-            len: self.len.min(len),
-        }
+        let len = self.len.min(len);
+        Utf8Prefix { len }
     }
 
     /// The prefix after `other` is appended to `len` bytes: unchanged if `other` is empty, else at most these bytes,

@@ -14,4 +14,4 @@ returns-clause-held c = (held_trail-none c.args.view.bytes.now (first_no_continu
 pub returns-clause-points : goal.returns-clause-points
 returns-clause-points c =
     let w = c.args.view.well_formed in
-    same_points c.result-2-1.given.1.0 w (held_trail-none c.args.view.bytes.now (first_no_continuation w)).1
+    same_points c.result-1.given.1.0 w (held_trail-none c.args.view.bytes.now (first_no_continuation w)).1

@@ -9,5 +9,5 @@ pub returns : goal.returns
 returns c =
     let s = c.self.inside in
     record {
-      cases = ap (held_with (held_trail (drop s.position s.bytes.now))) (same_points c.result-2-1.given.1.0 s.after refl) ∙ c.self.view_is;
+      cases = ap (held_with (held_trail (drop s.position s.bytes.now))) (same_points c.result-1.given.1.0 s.after refl) ∙ c.self.view_is;
     }

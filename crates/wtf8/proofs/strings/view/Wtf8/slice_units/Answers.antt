@@ -11,7 +11,7 @@ use Rattle.wtf8.proofs.strings.view.Wtf8.slice_units.Goals as goal
 pub returns-then-begin-end-clause-units : goal.returns-then-begin-end-clause-units
 returns-then-begin-end-clause-units c =
     let u = units c.args.self.now.well_formed.points in
-    ap (λ d. units d ++ []) (points-nil c.from_str.result.well_formed (ap length c.from_str.ensures.bytes))
+    ap (λ d. units d ++ []) (points-nil c.from_str-whole.result.well_formed (ap length c.from_str-whole.ensures.bytes))
     ∙ sym (drop_all c.args.begin (take c.args.end u) (omega (arith, length-take c.args.end u, c.if-begin-end.true)))
 
 -- a half is one unit, and none is nothing
