@@ -147,9 +147,8 @@ fn scalar_later_bytes(units: u16x8) -> LaterBytes
 }
 
 /// The later bytes of any eight units. The second and last bytes of a pair's lead are the first two of the pair's four
-/// bytes, those of its trail the other two, of which the first also holds bits of the lead. All other units, lone
-/// surrogates too, have the bytes that scalar values have. A lead in the last lane is taken for that of a pair: it is
-/// left to the next block.
+/// bytes, those of its trail the other two, the first with bits of the lead too. All other units, lone surrogates too,
+/// have the bytes of scalar values. A lead in the last lane counts as a pair's: the next block encodes it.
 #[inline(always)]
 fn later_bytes(units: u16x8) -> LaterBytes
     ensures bytes { AreLaterBytes (tagged_block units) result.seconds result.lasts result.three_byte_flags }
@@ -195,8 +194,7 @@ fn pack_four(lanes: u8x16, number: usize, block: &mut [u8], len: usize) -> usize
     len + shuffle_table::packed_len(number)
 }
 
-/// Packs the bytes of eight units at index `len` of a block, by the rows whose indexes are bits 0 to 7 and bits 8 to 15
-/// of the mask. Returns the index after them.
+/// Packs the bytes of eight units at index `len` of a block. Returns the index after them.
 #[inline(always)]
 fn pack_eight(units: u16x8, later: LaterBytes, block: &mut [u8], len: usize) -> usize
     requires room { len + MIN_SPARE ≤ length block.old }
@@ -216,9 +214,8 @@ fn pack_eight(units: u16x8, later: LaterBytes, block: &mut [u8], len: usize) -> 
 }
 
 /// Encodes eight units at index `len` of a block, or seven if the last one is a lead. Returns their number, the index
-/// after their bytes, and whether none of them is a lone surrogate. Units without a surrogate take the cheaper path. A
-/// third path, for lone surrogates without a pair, made letters dearer by 6% and pairs by 8%: all paths share registers
-/// and constants.
+/// after their bytes, and whether no surrogate is lone. Units without surrogates take a cheaper path. A third path, for
+/// lone surrogates without a pair, made letters dearer by 6%, pairs by 8%: all paths share registers and constants.
 #[inline(always)]
 fn write_block(units: u16x8, block: &mut [u8], len: usize) -> (usize, usize, bool)
     requires room { len + MIN_SPARE ≤ length block.old }
@@ -240,9 +237,8 @@ fn write_block(units: u16x8, block: &mut [u8], len: usize) -> (usize, usize, boo
     (BLOCK_UNITS, end, is_utf8)
 }
 
-/// Encodes units from index `at` on into a scratch buffer, eight at a time: the number of blocks that has units and room
-/// whatever the units are, so that neither is compared in each turn. Returns the number of bytes, and how far units are
-/// encoded.
+/// Encodes units from index `at` on into a scratch buffer: the number of blocks of eight that has units and room
+/// whatever the units are, so that no turn compares either. Returns the number of bytes, and how far units are encoded.
 #[inline(always)]
 fn write_blocks(v: &[u16], at: usize, scratch: &mut [u8]) -> (usize, Progress)
     requires units { at + BLOCK_UNITS ≤ length v.now }

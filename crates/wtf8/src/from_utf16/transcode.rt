@@ -1,6 +1,5 @@
-// Encodes a list of code units in steps. What a step encodes depends on the next units: an ASCII run of up to 32, 16 or
-// 8 units and the code point after it, blocks of `kernel`, or one code point. `decode_utf16` decodes the last units,
-// fewer than 8.
+// Encodes code units in steps, by what the next units are: an ASCII run of up to 32, 16 or 8 units and the code point
+// after it, blocks of `kernel`, or one code point. `decode_utf16` decodes the last units, fewer than 8.
 ghost use Rattle.std.specs.Prelude.{◌≡◌, [], true, ◌+◌, ◌^◌, ◌<◌, ◌≤◌, length, map, min, IfOk, IsOk};
 ghost use Rattle.wtf8.specs.private.ConvertedPrefix.{IsKnownForm, IsReadTo};
 
@@ -88,8 +87,10 @@ fn append_ascii_run<const N: usize, A: Allocator>(
     let count = ascii_run_len(block);
     let end = bytes.len() + count;
     bytes.extend_from_slice(&block.to_array())?;
-    let mut to = from;
-    to.at += count;
+    let to = Progress {
+        at: from.at + count,
+        is_utf8: from.is_utf8,
+    };
     if count == N {
         return Ok(to);
     }

@@ -437,8 +437,7 @@ impl<A: Allocator> Wtf8Buf<A> {
         self.bytes.len() <= self.utf8_prefix.len
     }
 
-    /// Returns the byte position of the first surrogate. Searches after the UTF-8 prefix, and not at all if the whole
-    /// string is known to hold none.
+    /// Searches after the UTF-8 prefix, and not at all if the whole string is known to hold no surrogate.
     fn first_surrogate(&self) -> Option<usize>
         ensures { IsFirst (SurrogateAt self.now.bytes) 0 result }
     {

@@ -119,14 +119,17 @@ pub(crate) fn read_unit(bytes: &[u8], position: &mut usize) -> u16
             return encoding::read_two(rest) as u16;
         }
         if first < 0xF0 {
+            let unit = encoding::read_three(rest) as u16;
             *position = start + 3;
-            return encoding::read_three(rest) as u16;
+            return unit;
         }
+        let lead = encoding::read_lead(rest);
         *position = start + 2;
-        return encoding::read_lead(rest);
+        return lead;
     }
+    let trail = encoding::read_trail(rest);
     *position = start + 2;
-    encoding::read_trail(rest)
+    trail
 }
 
 /// An iterator over the 16-bit code units of a string, in order: the units that it was made of, paired or not. After

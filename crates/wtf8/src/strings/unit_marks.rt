@@ -77,8 +77,7 @@ impl<'a> Wtf8<'a> {
         UnitMark { position, units }
     }
 
-    /// Returns the last code point boundary at or before `position`: at most three bytes before it, since a code point
-    /// has at most three continuation bytes.
+    /// Goes back at most three bytes, since a code point has at most three continuation bytes.
     fn boundary_before(&self, position: usize) -> usize
         requires { position ≤ length self.now.bytes.now }
         ensures boundary { IsBoundary (view_units self.now) result }

@@ -40,8 +40,7 @@ impl Utf8Prefix {
         Utf8Prefix { len }
     }
 
-    /// The prefix after `other` is appended to `len` bytes: unchanged if `other` is empty, else at most these bytes,
-    /// since `other` is not searched.
+    /// Unchanged if `other` is empty, else at most the `len` bytes before it, since it is not searched.
     #[inline(always)]
     pub(crate) fn after_push(self, len: usize, other: Wtf8<'_>) -> Utf8Prefix
         ensures order { result.len ≤ self.len }

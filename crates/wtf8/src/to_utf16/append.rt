@@ -22,8 +22,7 @@ use std::simd::prelude::*;
 /// that their units need not be counted before memory is requested.
 const SCRATCH_UNITS: usize = 4 * VECTOR;
 
-/// While at least this many bytes are left, a block of any kind can be loaded, so that the length is compared once for
-/// all kinds.
+/// From this many bytes on a block of any kind can be loaded, so that the length is compared once for all kinds.
 const LONGEST_LOAD: usize = 2 * VECTOR;
 
 /// The part of a view that is not decoded yet, and the index at which its first unit will be written.
@@ -102,8 +101,7 @@ fn decode_point<'a>(units: &mut [u16], left: Undecoded<'a>) -> Undecoded<'a>
     }
 }
 
-/// Writes `block` and advances by `width` bytes and their `count` units; the units of `block` after these are
-/// overwritten later or never read.
+/// The units of `block` after the first `count` are overwritten later or never read.
 #[inline(always)]
 fn write_units<'a, const N: usize>(
     units: &mut [u16],
@@ -120,9 +118,10 @@ fn write_units<'a, const N: usize>(
     ensures bytes { result.view.bytes.now ≡ drop width left.entry.view.bytes.now }
 {
     store_units(units, left.at, block);
-    let view = left.view.skip_bytes(width);
-    let at = left.at + count;
-    Undecoded { view, at }
+    Undecoded {
+        view: left.view.skip_bytes(width),
+        at: left.at + count,
+    }
 }
 
 /// Decodes the code points of a kind at the front of one block, and returns whether they fill it. Does nothing and
@@ -202,8 +201,7 @@ fn decode_next<'a>(units: &mut [u16], left: Undecoded<'a>) -> Undecoded<'a>
     }
 }
 
-/// Decodes as `decode_next` if fewer than `LONGEST_LOAD` bytes are left: too few for blocks of ASCII of 32 bytes and for blocks
-/// of three-byte code points.
+/// `decode_next` for fewer than `LONGEST_LOAD` bytes, too few for 32 ASCII bytes or a block of three-byte code points.
 #[inline(always)]
 fn decode_next_of_tail<'a>(units: &mut [u16], left: Undecoded<'a>) -> Undecoded<'a>
     requires room { left.at + length (view_units left.view) ≤ length units.old }
@@ -223,8 +221,7 @@ fn decode_next_of_tail<'a>(units: &mut [u16], left: Undecoded<'a>) -> Undecoded<
     }
 }
 
-/// Writes the units of a view from index `from` on, and returns the index after them. Not inlined, so that both of its
-/// callers share the one loop.
+/// Writes the units from index `from` on. Not inlined, so that both of its callers share the one loop.
 #[inline(never)]
 fn decode_all(units: &mut [u16], from: usize, view: Wtf8<'_>) -> usize
     requires room { from + length (view_units view) ≤ length units.old }

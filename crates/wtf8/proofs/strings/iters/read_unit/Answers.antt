@@ -61,26 +61,26 @@ pub returns-then-first-lt224 : goal.returns-then-first-lt224
 returns-then-first-lt224 c h = steps_over_two_or_three_bytes c.args.bytes.now c.args.position.now h c.read_two.result 2
     c.split_at.ensures.back c.requires.inside c.if-first-ge192.true c.read_two.ensures.one_unit c.read_two.ensures.read
 
-pub read_three-requires-clause-front : goal.read_three-requires-clause-front
-read_three-requires-clause-front c =
+pub read_three-unit-requires-clause-front : goal.read_three-unit-requires-clause-front
+read_three-unit-requires-clause-front c =
     begins_with_point c.args.bytes.now c.args.position.now c.requires.after c.split_at.ensures.back c.requires.inside c.if-first-ge192.true
 
 pub returns-then-first-lt240 : goal.returns-then-first-lt240
-returns-then-first-lt240 c h = steps_over_two_or_three_bytes c.args.bytes.now c.args.position.now h c.read_three.result 3
-    c.split_at.ensures.back c.requires.inside c.if-first-ge192.true c.read_three.ensures.one_unit c.read_three.ensures.read
+returns-then-first-lt240 c h = steps_over_two_or_three_bytes c.args.bytes.now c.args.position.now h c.read_three-unit.result 3
+    c.split_at.ensures.back c.requires.inside c.if-first-ge192.true c.read_three-unit.ensures.one_unit c.read_three-unit.ensures.read
 
-pub read_lead-requires-clause-front : goal.read_lead-requires-clause-front
-read_lead-requires-clause-front c =
+pub read_lead-lead-requires-clause-front : goal.read_lead-lead-requires-clause-front
+read_lead-lead-requires-clause-front c =
     begins_with_point c.args.bytes.now c.args.position.now c.requires.after c.split_at.ensures.back c.requires.inside c.if-first-ge192.true
 
 pub returns-then-first-ge192 : goal.returns-then-first-ge192
-returns-then-first-ge192 c h = steps_over_four_bytes c.args.bytes.now c.args.position.now h c.read_lead.result c.split_at.ensures.back
-    c.requires.inside (omega (arith, c.if-first-lt240.false)) c.read_lead.ensures
+returns-then-first-ge192 c h = steps_over_four_bytes c.args.bytes.now c.args.position.now h c.read_lead-lead.result c.split_at.ensures.back
+    c.requires.inside (omega (arith, c.if-first-lt240.false)) c.read_lead-lead.ensures
 
-pub read_trail-requires : goal.read_trail-requires
-read_trail-requires c = trail_has_two_bytes c.args.bytes.now c.args.position.now c.requires.after c.split_at.ensures.back
+pub read_trail-trail-requires : goal.read_trail-trail-requires
+read_trail-trail-requires c = trail_has_two_bytes c.args.bytes.now c.args.position.now c.requires.after c.split_at.ensures.back
     (omega (arith, c.if-first-lt128.false)) (omega (arith, c.if-first-ge192.false))
 
 pub returns : goal.returns
-returns c h = trail_bytes c.args.bytes.now c.args.position.now h c.read_trail.result c.split_at.ensures.back
-    (omega (arith, c.if-first-lt128.false)) (omega (arith, c.if-first-ge192.false)) c.read_trail.ensures
+returns c h = trail_bytes c.args.bytes.now c.args.position.now h c.read_trail-trail.result c.split_at.ensures.back
+    (omega (arith, c.if-first-lt128.false)) (omega (arith, c.if-first-ge192.false)) c.read_trail-trail.ensures
