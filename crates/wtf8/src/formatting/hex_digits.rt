@@ -20,9 +20,7 @@ const DIGITS: [u8; VECTOR] = *b"0123456789ABCDEF";
 const INTERLEAVE_FRONT: [usize; VECTOR] = [0, 16, 1, 17, 2, 18, 3, 19, 4, 20, 5, 21, 6, 22, 7, 23];
 
 /// Interleaves lanes 4 to 11 of the high digits and of the low digits.
-const INTERLEAVE_MIDDLE: [usize; VECTOR] = [
-    4, 20, 5, 21, 6, 22, 7, 23, 8, 24, 9, 25, 10, 26, 11, 27,
-];
+const INTERLEAVE_MID: [usize; VECTOR] = [4, 20, 5, 21, 6, 22, 7, 23, 8, 24, 9, 25, 10, 26, 11, 27];
 
 /// Interleaves lanes 8 to 15 of the high digits and of the low digits.
 const INTERLEAVE_BACK: [usize; VECTOR] = [
@@ -32,8 +30,8 @@ const INTERLEAVE_BACK: [usize; VECTOR] = [
 /// Bytes 0 to 15 of the spaced text, from the digits that `INTERLEAVE_FRONT` interleaves; 16 is a space.
 const SPACED_FRONT: [usize; VECTOR] = [16, 0, 1, 16, 2, 3, 16, 4, 5, 16, 6, 7, 16, 8, 9, 16];
 
-/// Bytes 16 to 31 of the spaced text, from the digits that `INTERLEAVE_MIDDLE` interleaves; 16 is a space.
-const SPACED_MIDDLE: [usize; VECTOR] = [2, 3, 16, 4, 5, 16, 6, 7, 16, 8, 9, 16, 10, 11, 16, 12];
+/// Bytes 16 to 31 of the spaced text, from the digits that `INTERLEAVE_MID` interleaves; 16 is a space.
+const SPACED_MID: [usize; VECTOR] = [2, 3, 16, 4, 5, 16, 6, 7, 16, 8, 9, 16, 10, 11, 16, 12];
 
 /// Bytes 32 to 47 of the spaced text, from the digits that `INTERLEAVE_BACK` interleaves; 16 is a space.
 const SPACED_BACK: [usize; VECTOR] = [5, 16, 6, 7, 16, 8, 9, 16, 10, 11, 16, 12, 13, 16, 14, 15];
@@ -65,12 +63,12 @@ fn spaced_block(bytes: u8x16) -> [u8; SPACED_LEN]
     let low = upper_digits(bytes & u8x16::splat(15));
     let spaces = u8x16::splat(b' ');
     let front: u8x16 = high.shuffle(low, INTERLEAVE_FRONT);
-    let middle: u8x16 = high.shuffle(low, INTERLEAVE_MIDDLE);
+    let middle: u8x16 = high.shuffle(low, INTERLEAVE_MID);
     let back: u8x16 = high.shuffle(low, INTERLEAVE_BACK);
     let mut text = [0; SPACED_LEN];
     front.shuffle(spaces, SPACED_FRONT).copy_to_slice(&mut text);
     middle
-        .shuffle(spaces, SPACED_MIDDLE)
+        .shuffle(spaces, SPACED_MID)
         .copy_to_slice(&mut text[VECTOR..]);
     back.shuffle(spaces, SPACED_BACK)
         .copy_to_slice(&mut text[2 * VECTOR..]);

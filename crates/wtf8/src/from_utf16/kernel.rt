@@ -19,7 +19,7 @@
 // for units 4-7. A row is a shuffle that packs the bytes to be written: 4, and one more for each set bit of its index.
 #![tactic(auto, using(crate::proofs::lemmas::lanes::AsciiFronts::by_all))]
 
-ghost use Rattle.std.specs.Prelude.{◌≡◌, ◌⊎◌, ℕ, List, Bool, ◌&&◌, ◌+◌, ◌-◌, ◌*◌, ◌%◌, ◌/◌, ◌^◌, ◌<◌, ◌≤◌, ◌++◌, length, map, take, drop, slice_index_or, IfOk, IsTrue, nat_lt, if◌then◌else◌};
+ghost use Rattle.std.specs.Prelude.{◌≡◌, ◌⊎◌, ℕ, List, Bool, ◌&&◌, ◌+◌, ◌-◌, ◌*◌, ◌%◌, ◌/◌, ◌^◌, ◌<◌, ◌≤◌, ◌++◌, length, map, take, slice_index_or, IfOk, IsTrue, nat_lt, if◌then◌else◌};
 ghost use lib.Lanes.{Each1};
 ghost use Rattle.wtf8.specs.Unicode.{IsLead, IsUnit};
 ghost use Rattle.wtf8.specs.private.Prefixes.{AreScalarUnits, IsReadTo};
@@ -78,15 +78,6 @@ struct LaterBytes {
     lasts: u16x8,
     three_byte_flags: u16x8,
     is_utf8: bool,
-}
-
-/// What `pack_four` is given for eight units: the first, second and last bytes of units 0 to 3 in lanes 0 to 11 of
-/// `front`, those of units 4 to 7 likewise in `back`, and the indexes of their rows, bits 0 to 7 and bits 8 to 15.
-#[derive(Clone, Copy)]
-struct Candidates {
-    front: u8x16,
-    back: u8x16,
-    rows: u64,
 }
 
 /// What a block was: the number of its units that are encoded, the index after their bytes, and whether none of them is
@@ -165,9 +156,8 @@ fn scalar_later_bytes(units: u16x8) -> LaterBytes
 }
 
 /// The later bytes of any eight units. The second and last bytes of a pair's lead are the first two of the pair's four
-/// bytes, those of its trail the other two, of which the first also holds bits of the lead. All other units, lone
-/// surrogates too, have the bytes that scalar values have. A lead in the last lane is taken for that of a pair: it is
-/// left to the next block.
+/// bytes, those of its trail the other two, the first with bits of the lead too. All other units, lone surrogates too,
+/// have the bytes of scalar values. A lead in the last lane counts as a pair's: the next block encodes it.
 #[inline(always)]
 fn later_bytes(units: u16x8) -> LaterBytes
     ensures bytes { AreLaterBytes (tagged_block units) result.seconds result.lasts result.three_byte_flags }
@@ -199,27 +189,6 @@ fn later_bytes(units: u16x8) -> LaterBytes
     }
 }
 
-/// The three candidate bytes of each of eight units, and the indexes of the rows that pack them.
-#[inline(always)]
-fn candidate_bytes(units: u16x8, later: LaterBytes) -> Candidates
-    requires { AreLaterBytes (tagged_block units) later.seconds later.lasts later.three_byte_flags }
-    ensures front { take 12 result.front ≡ byte_lanes 0 (take 4 (tagged_block units)) }
-    ensures back { take 12 result.back ≡ byte_lanes (slice_index_or (tagged_block units) 3 0) (drop 4 (tagged_block units)) }
-    ensures lengths { result.rows ≡ units_table_index (take 4 (tagged_block units)) + 256 * units_table_index (drop 4 (tagged_block units)) }
-{
-    let front: u8x16 = first_bytes(units).shuffle(later.seconds.cast::<u8>(), INTERLEAVE_HALVES);
-    let last = later.lasts.cast::<u8>();
-    let back: u8x16 = last.shuffle(last, APPEND_SWAPPED_HALVES);
-    let above_one = flags_from(units, 0x80).cast::<u8>();
-    let three = later.three_byte_flags.cast::<u8>();
-    let lengths: u8x16 = above_one.shuffle(three, INTERLEAVE_HALVES);
-    Candidates {
-        front: front.shuffle(back, LOW_HALVES),
-        back: front.shuffle(back, HIGH_HALVES),
-        rows: lengths.simd_ge(u8x16::splat(0x80)).to_bitmask(),
-    }
-}
-
 /// Packs the bytes of four units at index `len` of a block, by row `number`. Returns the index after them.
 #[inline(always)]
 fn pack_four(lanes: u8x16, number: usize, block: &mut [u8], len: usize) -> usize
@@ -242,10 +211,15 @@ fn pack_eight(units: u16x8, later: LaterBytes, block: &mut [u8], len: usize) -> 
     ensures order { (len ≤ result) × (result ≤ len + 24) }
     ensures bytes { take result block.new ≡ take len block.old ++ packed_units 0 (tagged_block units) }
 {
-    let candidates = candidate_bytes(units, later);
-    let rows = candidates.rows as usize;
-    let middle = pack_four(candidates.front, rows % 256, block, len);
-    pack_four(candidates.back, rows / 256, block, middle)
+    let front: u8x16 = first_bytes(units).shuffle(later.seconds.cast::<u8>(), INTERLEAVE_HALVES);
+    let last = later.lasts.cast::<u8>();
+    let back: u8x16 = last.shuffle(last, APPEND_SWAPPED_HALVES);
+    let above_one = flags_from(units, 0x80).cast::<u8>();
+    let three = later.three_byte_flags.cast::<u8>();
+    let lengths: u8x16 = above_one.shuffle(three, INTERLEAVE_HALVES);
+    let rows = lengths.simd_ge(u8x16::splat(0x80)).to_bitmask() as usize;
+    let middle = pack_four(front.shuffle(back, LOW_HALVES), rows % 256, block, len);
+    pack_four(front.shuffle(back, HIGH_HALVES), rows / 256, block, middle)
 }
 
 /// Encodes eight units at index `len` of a block, or seven if the last one is a lead. Units without a surrogate take
@@ -284,9 +258,8 @@ fn write_block(units: u16x8, block: &mut [u8], len: usize) -> Block
     }
 }
 
-/// Encodes units from index `at` on into a scratch buffer, eight at a time: the number of blocks that has units and room
-/// whatever the units are, so that neither is compared in each turn. Returns the number of bytes, and how far units are
-/// encoded.
+/// Encodes units from index `at` on into a scratch buffer: the number of blocks of eight that has units and room
+/// whatever the units are, so that no turn compares either. Returns the number of bytes, and how far units are encoded.
 #[inline(always)]
 fn write_blocks(v: &[u16], at: usize, scratch: &mut [u8]) -> (usize, Progress)
     requires units { at + BLOCK_UNITS ≤ length v.now }
@@ -295,9 +268,8 @@ fn write_blocks(v: &[u16], at: usize, scratch: &mut [u8]) -> (usize, Progress)
     ensures within { result.0 ≤ length scratch.new }
     ensures read { (w : List ℕ) (known : Bool) → IsReadTo w v.now at known → IsReadTo (w ++ take result.0 scratch.new) v.now result.1.at (known && result.1.is_utf8) }
 {
-    let blocks = ((v.len() - at) / BLOCK_UNITS).min(
-        (scratch.len() - MIN_SPARE) / MAX_BLOCK_BYTES + 1,
-    );
+    let room = (scratch.len() - MIN_SPARE) / MAX_BLOCK_BYTES + 1;
+    let blocks = ((v.len() - at) / BLOCK_UNITS).min(room);
     let mut to = Progress { at, is_utf8: true };
     let mut len = 0;
     for _ in 0..blocks {
@@ -330,10 +302,8 @@ pub(crate) fn append_blocks<const SCRATCH: usize, A: Allocator>(
     loop {
         let (len, to) = write_blocks(v, read.at, scratch);
         bytes.extend_from_slice(&scratch[..len])?;
-        read = Progress {
-            at: to.at,
-            is_utf8: read.is_utf8 & to.is_utf8,
-        };
+        read.at = to.at;
+        read.is_utf8 &= to.is_utf8;
         if v.len() - read.at < BLOCK_UNITS || v[read.at] < 0x80 {
             return Ok(read);
         }

@@ -1,6 +1,5 @@
-// Encodes a list of code units in steps. What a step encodes depends on the next units: an ASCII run of up to 32, 16 or
-// 8 units and the code point after it, blocks of `kernel`, or one code point. `decode_utf16` decodes the last units,
-// fewer than 8.
+// Encodes code units in steps, by what the next units are: an ASCII run of up to 32, 16 or 8 units and the code point
+// after it, blocks of `kernel`, or one code point. `decode_utf16` decodes the last units, fewer than 8.
 ghost use Rattle.std.specs.Prelude.{◌≡◌, [], true, ◌+◌, ◌^◌, ◌<◌, ◌≤◌, length, map, min, IfOk, IsOk};
 ghost use Rattle.wtf8.specs.private.Prefixes.{IsKnownForm, IsReadTo};
 
@@ -61,17 +60,14 @@ fn append_point<A: Allocator>(
     if unit < 0x800 {
         // Letters of most alphabets: never a surrogate, and at most two bytes.
         encoding::append(bytes, decode::point_of_unit(unit))?;
-        return Ok(Progress {
-            at: from.at + 1,
-            is_utf8: from.is_utf8,
-        });
+        let mut to = from;
+        to.at += 1;
+        return Ok(to);
     }
     let (code_point, at, is_scalar) = decode::read_point(v, from.at);
     encoding::append(bytes, code_point)?;
-    Ok(Progress {
-        at,
-        is_utf8: from.is_utf8 & is_scalar,
-    })
+    let is_utf8 = from.is_utf8 & is_scalar;
+    Ok(Progress { at, is_utf8 })
 }
 
 /// Appends the ASCII run at the front of the `N` units at index `from.at`, and the code point after it if the run is
@@ -156,10 +152,8 @@ fn append_steps<A: Allocator>(bytes: &mut Vec<u8, A>, v: &[u16]) -> Result<Progr
     ensures read { IfOk result (λ to. IsReadTo bytes.new.items v.now to.at to.is_utf8) }
     ensures empty { v.now ≡ [] → IsOk result }
 {
-    let mut read = Progress {
-        at: 0,
-        is_utf8: true,
-    };
+    let at = 0;
+    let mut read = Progress { at, is_utf8: true };
     while LONG_LIST <= v.len() - read.at {
         read = append_next::<ASCII_BLOCK, LONG_SCRATCH_BYTES, A>(bytes, v, read)?;
     }

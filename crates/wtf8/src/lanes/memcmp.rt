@@ -100,8 +100,7 @@ fn eq_up_to_block(own: &[u8], others: &[u8]) -> bool
     eq_overlapping::<32>(own, others)
 }
 
-/// Whether two slices of equal length, more than `BLOCK` bytes, are equal. Not inlined, so that short slices are compared
-/// without its saved registers.
+/// Not inlined, so that short slices are compared without its saved registers.
 #[inline(never)]
 fn eq_over_block(own: &[u8], others: &[u8]) -> bool
     requires many { BLOCK < length own.now }
@@ -128,8 +127,7 @@ pub(crate) fn cmp(own: &[u8], others: &[u8]) -> Ordering
     cmp_long(own, others, end)
 }
 
-/// The order of two slices that both have more than `TWO_VECTORS` bytes; `end` is the length of the shorter one. Not
-/// inlined, so that short slices are compared without its saved registers.
+/// Not inlined, so that short slices are compared without its saved registers.
 #[inline(never)]
 fn cmp_long(own: &[u8], others: &[u8], end: usize) -> Ordering
     requires long { TWO_VECTORS < end }

@@ -15,10 +15,8 @@ fn surrogate_in_block(bytes: &[u8], at: usize) -> Option<usize>
     let seconds = u8x32::from_slice(&bytes[at + 1..]);
     // The first two bytes of a surrogate.
     let begin = firsts.simd_eq(Simd::splat(0xED)) & seconds.simd_ge(Simd::splat(0xA0));
-    match first_set_lane(begin.to_bitmask()) {
-        Some(lane) => Some(at + lane),
-        None => None,
-    }
+    let lane = first_set_lane(begin.to_bitmask())?;
+    Some(at + lane)
 }
 
 /// The index of the first surrogate that begins at `from` or after it. The bytes need not be well-formed.

@@ -416,19 +416,12 @@ impl<A: Allocator> Wtf8Buf<A> {
         ensures text { string_bytes result ≡ bytes (lossy_points self.form.points) }
         ensures len { length (string_bytes result) ≡ length self.bytes }
     {
-        unsafe { String::from_utf8_unchecked(self.into_lossy_bytes()) }
-    }
-
-    /// Returns the bytes with each surrogate replaced by U+FFFD. Does not search if the string is known to hold none.
-    fn into_lossy_bytes(self) -> Vec<u8, A>
-        ensures { result.items ≡ bytes (lossy_points self.form.points) }
-    {
         let is_utf8 = self.is_utf8();
         let Wtf8Buf { mut bytes, .. } = self;
         if !is_utf8 {
             replace_surrogates(&mut bytes);
         }
-        bytes
+        unsafe { String::from_utf8_unchecked(bytes) }
     }
 
     /// Whether the UTF-8 prefix is the whole string. If it is not, the rest may hold no surrogate either.
@@ -439,8 +432,7 @@ impl<A: Allocator> Wtf8Buf<A> {
         self.bytes.len() <= self.utf8_prefix.len
     }
 
-    /// Returns the byte position of the first surrogate. Searches after the UTF-8 prefix, and not at all if the whole
-    /// string is known to hold none.
+    /// Searches after the UTF-8 prefix, and not at all if the whole string is known to hold no surrogate.
     fn first_surrogate(&self) -> Option<usize>
         ensures { IsFirst (SurrogateAt self.now.bytes) 0 result }
     {

@@ -44,8 +44,7 @@ impl<A: Allocator> Wtf8Buf<A> {
         Ok(string)
     }
 
-    /// Appends the code points of a slice, as `extend` does. Never refused if they fit: each adds at least one byte, so
-    /// the reservation of a byte for each fits too.
+    /// Never refused if the points fit: each adds at least one byte, so the reservation of a byte for each fits too.
     pub(crate) fn extend_from_points(&mut self, points: &[CodePoint]) -> Result<(), AllocError>
         ensures ok { OnOk result (AppendsPoints self.old points.now self.new) }
         ensures err { OnErr result ((n : ℕ) × AppendsPoints self.old (take n points.now) self.new) }

@@ -86,8 +86,7 @@ pub(crate) fn push_surrogate<A: Allocator>(
     }
 }
 
-/// Appends a code point; a trail surrogate completes a lead at the end. A surrogate cuts the UTF-8 prefix to at
-/// most the old length.
+/// A trail completes a lead at the end. A surrogate cuts the UTF-8 prefix to at most the old length.
 #[inline(always)]
 pub(crate) fn push<A: Allocator>(
     bytes: &mut Vec<u8, A>,
@@ -162,10 +161,7 @@ fn append_completing_pair<A: Allocator>(
 
 /// Appends a view to a string that may hold surrogates: a lead at the end and a trail at its front become one code point.
 #[inline(always)]
-fn append_completing<A: Allocator>(
-    bytes: &mut Vec<u8, A>,
-    other: Wtf8<'_>,
-) -> Result<(), AllocError>
+fn append_joining<A: Allocator>(bytes: &mut Vec<u8, A>, other: Wtf8<'_>) -> Result<(), AllocError>
     requires { IsWellFormed bytes.old.items }
     ensures { ExtendsFormOrKeeps bytes.old (view_units other.entry) bytes.new result }
 {
@@ -196,7 +192,7 @@ pub(crate) fn push_wtf8<A: Allocator>(
         // A string without surrogates has no lead at its end.
         append_bytes(bytes, other.bytes)
     } else {
-        append_completing(bytes, other)
+        append_joining(bytes, other)
     }
 }
 

@@ -42,10 +42,8 @@ impl<'a> Wtf8CodePoints<'a> {
     pub(crate) fn new(view: Wtf8<'a>) -> Wtf8CodePoints<'a>
         ensures { result ≡ view_points view.entry }
     {
-        Wtf8CodePoints {
-            bytes: view.bytes,
-            position: 0,
-        }
+        let bytes = view.bytes;
+        Wtf8CodePoints { bytes, position: 0 }
     }
 
     /// The code points that are left, as a view of the string's bytes. It borrows them for `'a`, so it may outlive the
@@ -163,10 +161,8 @@ impl<'a> IllFormedUtf16CodeUnits<'a> {
         ensures held { result.held ≡ [] }
         ensures points { result.points ≡ view_points view.entry }
     {
-        IllFormedUtf16CodeUnits {
-            bytes: view.bytes,
-            position: 0,
-        }
+        let bytes = view.bytes;
+        IllFormedUtf16CodeUnits { bytes, position: 0 }
     }
 
     /// The units that are left, as a view of the string's bytes, or `None` while the trail of a pair is held back. The
@@ -209,11 +205,8 @@ impl<'a> IllFormedUtf16CodeUnits<'a> {
         ensures value { result ≡ length self.now.held }
         ensures at_most_one { result ≤ 1 }
     {
-        if self.position == self.bytes.len() {
-            return 0;
-        }
-        match self.bytes[self.position] {
-            0x80..=0xBF => 1,
+        match self.bytes.get(self.position) {
+            Some(0x80..=0xBF) => 1,
             _ => 0,
         }
     }

@@ -56,8 +56,7 @@ fn utf16_len_of_block<const N: usize>(bytes: Simd<u8, N>) -> usize
     usize::from(utf16_len_of_each(bytes).strict_reduce_sum())
 }
 
-/// Returns the number of units of the code points that begin in the `SUMMED_BLOCKS` blocks from `position` on, by one
-/// horizontal sum.
+/// Counts the units of the code points that begin in `SUMMED_BLOCKS` blocks from `position` on, by one horizontal sum.
 #[inline(always)]
 fn utf16_len_of_blocks(bytes: &[u8], position: usize) -> usize
     requires { position + SUMMED_BLOCKS * BLOCK ≤ length bytes.now }
@@ -71,8 +70,7 @@ fn utf16_len_of_blocks(bytes: &[u8], position: usize) -> usize
     usize::from(lanes.cast::<u16>().strict_reduce_sum())
 }
 
-/// Moves `from` past the next `N` bytes, or returns `None` if fewer are left or the code point that holds the unit
-/// begins in them.
+/// Moves `from` past `N` bytes, or returns `None` if fewer are left or the unit's code point begins in them.
 #[inline(always)]
 #[tactic(auto, using(crate::proofs::lemmas::strings::Positions::sum_utf16_len_take_add))]
 pub(crate) fn skip_block<const N: usize>(
@@ -136,8 +134,7 @@ fn count_units(bytes: &[u8]) -> usize
     count_units_from(bytes, cursor)
 }
 
-/// Counts groups of `SUMMED_BLOCKS` blocks, then blocks of `HALF_BLOCK` bytes. Not inlined, so that the short path
-/// stays small.
+/// Counts by `SUMMED_BLOCKS` blocks, then by `HALF_BLOCK` bytes. Not inlined, so that the short path stays small.
 #[inline(never)]
 fn skip_all_blocks(bytes: &[u8]) -> UnitCursor
     requires { sum_utf16_len bytes.now < 2 ^ 64 }

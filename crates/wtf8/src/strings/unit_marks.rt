@@ -55,10 +55,9 @@ impl<'a> Wtf8<'a> {
             return from;
         };
         prove!(self.len() <= usize::MAX);
-        UnitMark {
-            position: from.position + cut.position,
-            units: from.units + cut.units,
-        }
+        let position = from.position + cut.position;
+        let units = from.units + cut.units;
+        UnitMark { position, units }
     }
 
     /// The mark at the last code point boundary at or before the byte `position`, which must be at most the length.
@@ -73,17 +72,14 @@ impl<'a> Wtf8<'a> {
         ensures exact { IsBoundary (view_units self.now) position → result.position ≡ position }
         ensures after { (from.position ≤ result.position) × (from.units ≤ result.units) }
     {
-        let end = self.boundary_before(position);
-        let units = self.slice(from.position, end).unit_len();
+        let position = self.boundary_before(position);
+        let more = self.slice(from.position, position).unit_len();
         prove!(self.len() <= usize::MAX);
-        UnitMark {
-            position: end,
-            units: from.units + units,
-        }
+        let units = from.units + more;
+        UnitMark { position, units }
     }
 
-    /// Returns the last code point boundary at or before `position`: at most three bytes before it, since a code point
-    /// has at most three continuation bytes.
+    /// Goes back at most three bytes, since a code point has at most three continuation bytes.
     fn boundary_before(&self, position: usize) -> usize
         requires { position ≤ length self.now.bytes.now }
         ensures boundary { IsBoundary (view_units self.now) result }

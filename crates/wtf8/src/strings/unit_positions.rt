@@ -91,8 +91,7 @@ fn skip_ascii<const N: usize>(bytes: &[u8], unit: usize, from: UnitCursor) -> Op
     })
 }
 
-/// Finds the code point that holds unit `unit` (counted from 0), byte by byte after `skip_blocks`; the end if there is
-/// none.
+/// Finds the code point that holds unit `unit`, counted from 0, or the end: byte by byte after `skip_blocks`.
 fn find_unit(bytes: &[u8], unit: usize) -> UnitCursor
     ensures { IsCursorOfUnit bytes.now unit result }
 {
@@ -119,9 +118,8 @@ fn find_unit(bytes: &[u8], unit: usize) -> UnitCursor
     }
 }
 
-/// Finds where the first `n` units of a string end, or returns `None` if it has fewer. If they end inside a surrogate
-/// pair, the cursor is before the pair, with one unit less. Counts nothing if `n` exceeds the length in bytes, which is
-/// at least the number of units.
+/// Where the first `n` units end, or `None` if there are fewer. If they end inside a surrogate pair, the cursor is
+/// before it, one unit less. Counts nothing if `n` exceeds the length in bytes, which is at least the number of units.
 #[inline(always)]
 pub(crate) fn find_cut(view: Wtf8<'_>, n: usize) -> Option<UnitCursor>
     ensures some { IfSome result (λ cut. IsCursorOfUnit view.entry.bytes.now n cut) }

@@ -36,13 +36,11 @@ impl Utf8Prefix {
         ensures order { result.len ≤ self.len }
         ensures within { result.len ≤ len }
     {
-        Utf8Prefix {
-            len: self.len.min(len),
-        }
+        let len = self.len.min(len);
+        Utf8Prefix { len }
     }
 
-    /// The prefix after `other` is appended to `len` bytes: unchanged if `other` is empty, else at most these bytes,
-    /// since `other` is not searched.
+    /// The prefix after a push to `len` bytes: at most these, since `other` is not searched, or as before if it is empty.
     #[inline(always)]
     pub(crate) fn after_push(self, len: usize, other: Wtf8<'_>) -> Utf8Prefix
         ensures order { result.len ≤ self.len }

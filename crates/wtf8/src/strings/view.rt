@@ -10,7 +10,7 @@ ghost use Rattle.wtf8.specs.Unicode.{IsLead, IsTrail};
 ghost use Rattle.wtf8.specs.Units.{unread_units};
 
 use crate::codec::code_point::CodePoint;
-use crate::codec::encoding;
+use crate::codec::encoding::{self, surrogate_after_ed};
 use crate::lanes::search;
 use crate::strings::iters::{IllFormedUtf16CodeUnits, Wtf8CodePoints};
 use crate::strings::lossy::replace_surrogates;
@@ -250,9 +250,7 @@ impl<'a> Wtf8<'a> {
         ensures none { IfNone result ((f : List ℕ) (l : ℕ) → IsLead l → view_points self.now ≡ f ++ l ∷ [] → ⊥) }
     {
         match self.bytes {
-            [.., 0xED, second @ 0xA0..=0xAF, third] => Some(encoding::surrogate_after_ed(
-                *second, *third,
-            )),
+            [.., 0xED, second @ 0xA0..=0xAF, third] => Some(surrogate_after_ed(*second, *third)),
             _ => None,
         }
     }
@@ -264,9 +262,7 @@ impl<'a> Wtf8<'a> {
         ensures none { IfNone result ((t : ℕ) (r : List ℕ) → IsTrail t → view_points self.entry ≡ t ∷ r → ⊥) }
     {
         match self.bytes {
-            [0xED, second @ 0xB0..=0xBF, third, ..] => Some(encoding::surrogate_after_ed(
-                *second, *third,
-            )),
+            [0xED, second @ 0xB0..=0xBF, third, ..] => Some(surrogate_after_ed(*second, *third)),
             _ => None,
         }
     }

@@ -12,9 +12,7 @@ use crate::codec::surrogates::{FIRST_LEAD, FIRST_SUPPLEMENTARY, FIRST_TRAIL, SUR
 use crate::lanes::VECTOR;
 use crate::lanes::ascii::is_ascii_overlapping;
 use crate::strings::view::Wtf8;
-use crate::to_utf16::blocks::{
-    EncodedLength, OneByte, ThreeBytes, TwoBytes, is_lead_byte, widen_bytes,
-};
+use crate::to_utf16::blocks::{EncodedLength, OneByte, ThreeBytes, TwoBytes, is_lead_byte, widen};
 use crate::vec::copies::push_block;
 use std::alloc::{AllocError, Allocator};
 use std::simd::prelude::*;
@@ -23,8 +21,7 @@ use std::simd::prelude::*;
 /// that their units need not be counted before memory is requested.
 const SCRATCH_UNITS: usize = 4 * VECTOR;
 
-/// While at least this many bytes are left, a block of any kind can be loaded, so that the length is compared once for
-/// all kinds.
+/// From this many bytes on a block of any kind can be loaded, so that the length is compared once for all kinds.
 const LONGEST_LOAD: usize = 2 * VECTOR;
 
 /// The part of a view that is not decoded yet, and the index at which its first unit will be written.
@@ -47,7 +44,7 @@ fn store_units<const N: usize>(units: &mut [u16], at: usize, block: [u16; N])
 
 /// Appends the units of an ASCII string of `N` to `2 * N` bytes by its first and its last `N` bytes, which may overlap.
 #[inline(always)]
-fn append_ascii_overlapping<const N: usize, B: Allocator>(
+fn append_ascii<const N: usize, B: Allocator>(
     units: &mut Vec<u16, B>,
     view: Wtf8<'_>,
 ) -> Result<(), AllocError>
@@ -60,12 +57,9 @@ fn append_ascii_overlapping<const N: usize, B: Allocator>(
     units.reserve(bytes.len())?;
     let last = bytes.len() - N;
     let end = units.len() + last;
-    push_block(units, widen_bytes(Simd::<u8, N>::from_slice(bytes)));
+    push_block(units, widen(Simd::<u8, N>::from_slice(bytes)));
     units.truncate(end);
-    push_block(
-        units,
-        widen_bytes(Simd::<u8, N>::from_slice(&bytes[last..])),
-    );
+    push_block(units, widen(Simd::<u8, N>::from_slice(&bytes[last..])));
     Ok(())
 }
 
@@ -106,8 +100,7 @@ fn decode_point<'a>(units: &mut [u16], left: Undecoded<'a>) -> Undecoded<'a>
     }
 }
 
-/// Writes `block` and advances by `width` bytes and their `count` units; the units of `block` after these are
-/// overwritten later or never read.
+/// The units of `block` after the first `count` are overwritten later or never read.
 #[inline(always)]
 fn write_units<'a, const N: usize>(
     units: &mut [u16],
@@ -179,11 +172,10 @@ fn decode_run<
     let mut rest = left;
     loop {
         let (after, is_whole) = decode_block::<N, WIDTH, BYTES, K>(units, rest);
-        rest = if is_whole {
-            after
-        } else {
-            decode_point(units, after)
-        };
+        rest = after;
+        if !is_whole {
+            rest = decode_point(units, after);
+        }
         let bytes = rest.view.bytes;
         if bytes.len() < BYTES || bytes.is_empty() || !is_lead_byte(bytes[0], WIDTH) {
             return rest;
@@ -208,8 +200,7 @@ fn decode_next<'a>(units: &mut [u16], left: Undecoded<'a>) -> Undecoded<'a>
     }
 }
 
-/// Decodes as `decode_next` if fewer than `LONGEST_LOAD` bytes are left: too few for blocks of ASCII of 32 bytes and for blocks
-/// of three-byte code points.
+/// `decode_next` for fewer than `LONGEST_LOAD` bytes, too few for 32 ASCII bytes or a block of three-byte code points.
 #[inline(always)]
 fn decode_next_of_tail<'a>(units: &mut [u16], left: Undecoded<'a>) -> Undecoded<'a>
     requires room { left.at + length (view_units left.view) ≤ length units.old }
@@ -229,8 +220,7 @@ fn decode_next_of_tail<'a>(units: &mut [u16], left: Undecoded<'a>) -> Undecoded<
     }
 }
 
-/// Writes the units of a view from index `from` on, and returns the index after them. Not inlined, so that both of its
-/// callers share the one loop.
+/// Writes the units from index `from` on. Not inlined, so that both of its callers share the one loop.
 #[inline(never)]
 fn decode_all(units: &mut [u16], from: usize, view: Wtf8<'_>) -> usize
     requires room { from + length (view_units view) ≤ length units.old }
@@ -251,10 +241,7 @@ fn decode_all(units: &mut [u16], from: usize, view: Wtf8<'_>) -> usize
 /// Appends the units of a string of fewer than `SCRATCH_UNITS` bytes, by way of a buffer on the stack: cheaper for these
 /// than to count the units first. Not inlined, since a caller would pay for the buffer at each entry.
 #[inline(never)]
-fn append_through_scratch<B: Allocator>(
-    units: &mut Vec<u16, B>,
-    view: Wtf8<'_>,
-) -> Result<(), AllocError>
+fn append_short<B: Allocator>(units: &mut Vec<u16, B>, view: Wtf8<'_>) -> Result<(), AllocError>
     requires { length view.bytes.now < SCRATCH_UNITS }
     ensures { BecomesOrKeeps units.old (units.old.items ++ view_units view.entry) units.new result }
 {
@@ -288,19 +275,11 @@ impl<'a> Wtf8<'a> {
         ensures capacity { vec_capacity units.old ≤ vec_capacity units.new }
     {
         match self.len() {
-            1 if is_ascii_overlapping::<1>(self.bytes) => append_ascii_overlapping::<1, B>(
-                units, *self,
-            ),
-            2..=3 if is_ascii_overlapping::<2>(self.bytes) => append_ascii_overlapping::<2, B>(
-                units, *self,
-            ),
-            4..=7 if is_ascii_overlapping::<4>(self.bytes) => append_ascii_overlapping::<4, B>(
-                units, *self,
-            ),
-            8..=15 if is_ascii_overlapping::<8>(self.bytes) => append_ascii_overlapping::<8, B>(
-                units, *self,
-            ),
-            0..SCRATCH_UNITS => append_through_scratch(units, *self),
+            1 if is_ascii_overlapping::<1>(self.bytes) => append_ascii::<1, B>(units, *self),
+            2..=3 if is_ascii_overlapping::<2>(self.bytes) => append_ascii::<2, B>(units, *self),
+            4..=7 if is_ascii_overlapping::<4>(self.bytes) => append_ascii::<4, B>(units, *self),
+            8..=15 if is_ascii_overlapping::<8>(self.bytes) => append_ascii::<8, B>(units, *self),
+            0..SCRATCH_UNITS => append_short(units, *self),
             _ => append_counted(units, *self),
         }
     }

@@ -49,7 +49,7 @@ pub(crate) fn is_lead_byte(byte: u8, width: usize) -> bool {
 }
 
 #[inline(always)]
-pub(crate) fn widen_bytes<const N: usize>(block: Simd<u8, N>) -> [u16; N]
+pub(crate) fn widen<const N: usize>(block: Simd<u8, N>) -> [u16; N]
     requires lanes { N ≤ u64.BITS }
     ensures { result ≡ block.entry }
 {
@@ -106,7 +106,7 @@ impl EncodedLength<16, 1, 16> for OneByte {
     #[inline(always)]
     fn read(bytes: &[u8]) -> ([u16; 16], usize) {
         let block = u8x16::from_slice(bytes);
-        (widen_bytes(block), count_leading_with_prefix(block, 128, 0))
+        (widen(block), count_leading_with_prefix(block, 128, 0))
     }
 }
 
@@ -114,7 +114,7 @@ impl EncodedLength<32, 1, 32> for OneByte {
     #[inline(always)]
     fn read(bytes: &[u8]) -> ([u16; 32], usize) {
         let block = u8x32::from_slice(bytes);
-        (widen_bytes(block), count_leading_with_prefix(block, 128, 0))
+        (widen(block), count_leading_with_prefix(block, 128, 0))
     }
 }
 

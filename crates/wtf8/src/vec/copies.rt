@@ -63,15 +63,12 @@ fn push_overlapping<const N: usize, A: Allocator>(bytes: &mut Vec<u8, A>, other:
 }
 
 #[inline(always)]
-pub(crate) fn push_block<T: Copy, const N: usize, A: Allocator>(
-    items: &mut Vec<T, A>,
-    block: [T; N],
-)
-    requires { length items.old.items + N ≤ vec_capacity items.old }
-    ensures items { items.new.items ≡ items.old.items ++ block }
-    ensures capacity { vec_capacity items.new ≡ vec_capacity items.old }
+pub(crate) fn push_block<T: Copy, const N: usize, A: Allocator>(list: &mut Vec<T, A>, block: [T; N])
+    requires { length list.old.items + N ≤ vec_capacity list.old }
+    ensures items { list.new.items ≡ list.old.items ++ block }
+    ensures capacity { vec_capacity list.new ≡ vec_capacity list.old }
 {
     for at in 0..N {
-        items.push_reserved(block[at]);
+        list.push_reserved(block[at]);
     }
 }

@@ -258,6 +258,17 @@ IsByteCount-byte_count n = (grind (arith, nat_tests), grind (arith, nat_tests))
 abbrev narrowed : List ℕ → List ℕ
 narrowed = map (λ x. x)
 
+abbrev picked_lanes : List ℕ → List ℕ → List ℕ → List ℕ → List ℕ → List ℕ
+picked_lanes f s l js ks = pick_l 0 (f ++ narrowed s) js ++ pick_l 0 (narrowed l ++ narrowed l) ks
+
+pub front_lanes : (u f s l : List ℕ) → length u ≡ 8 → f ≡ map first_byte u → s ≡ zip2 second_byte (0 ∷ u) u → l ≡ map last_byte u
+    → picked_lanes f s l (0 ∷ 1 ∷ 2 ∷ 3 ∷ 8 ∷ 9 ∷ 10 ∷ 11 ∷ []) (0 ∷ 1 ∷ 2 ∷ 3 ∷ []) ≡ byte_lanes 0 (take 4 u)
+front_lanes u f s l long x y z = grind (arith, of_eight)
+
+pub back_lanes : (u f s l : List ℕ) → length u ≡ 8 → f ≡ map first_byte u → s ≡ zip2 second_byte (0 ∷ u) u → l ≡ map last_byte u
+    → picked_lanes f s l (4 ∷ 5 ∷ 6 ∷ 7 ∷ 12 ∷ 13 ∷ 14 ∷ 15 ∷ []) (4 ∷ 5 ∷ 6 ∷ 7 ∷ []) ≡ byte_lanes (get_or u 3 0) (drop 4 u)
+back_lanes u f s l long x y z = grind (arith, of_eight)
+
 abbrev flag_is_set : ℕ → Bool
 flag_is_set y = top 7 (cond (leb 128 y) 255 0)
 
@@ -271,7 +282,7 @@ flag_from-byte_count n = grind (arith, nat_tests, cases_lt)
 three_byte_flag-byte_count : (n : ℕ) → cond (flag_is_set (three_byte_flag n)) 1 0 ≡ byte_count n / 3
 three_byte_flag-byte_count n = grind (arith, nat_tests, cases_lt)
 
-pub mask_l-table_indexes : (u m n : List ℕ) → length u ≡ 8 → m ≡ map (flag_from 0x80) u → n ≡ map three_byte_flag u
+mask_l-table_indexes : (u m n : List ℕ) → length u ≡ 8 → m ≡ map (flag_from 0x80) u → n ≡ map three_byte_flag u
     → mask_l (flags_set m n) % 2 ^ 64 ≡ units_table_index (take 4 u) + 256 * units_table_index (drop 4 u)
 mask_l-table_indexes u m n long x y = mask_l-mod (flags_set m n) 64 (omega arith) ∙ rw (x, y) (of_eight (λ u. mask_l
     (flags_set (map (flag_from 0x80) u) (map three_byte_flag u)) ≡ units_table_index (take 4 u) + 256 * units_table_index (drop 4 u)) u long
@@ -283,8 +294,14 @@ mask_l-table_indexes u m n long x y = mask_l-mod (flags_set m n) 64 (omega arith
     three : (k : ℕ) → cond (flag_is_set (three_byte_flag (get_or u k 0))) 1 0 ≡ byte_count (get_or u k 0) / 3
     three k = three_byte_flag-byte_count (get_or u k 0)
 
-pub multi_byte_flag-tagged : (x t : ℕ) → IsTag x t → flag_from 0x80 x ≡ flag_from 0x80 t
+multi_byte_flag-tagged : (x t : ℕ) → IsTag x t → flag_from 0x80 x ≡ flag_from 0x80 t
 multi_byte_flag-tagged x t k = grind (arith, le-ltb)
+
+-- the mask of eight units holds the index of the row of the first four, and above it that of the others
+pub block-table_indexes : (u m n : List ℕ) → length u ≡ 8 → m ≡ map (flag_from 0x80) u → n ≡ map three_byte_flag (tagged_block u)
+    → mask_l (flags_set m n) % 2 ^ 64 ≡ units_table_index (take 4 (tagged_block u)) + 256 * units_table_index (drop 4 (tagged_block u))
+block-table_indexes u m n long x = mask_l-table_indexes (tagged_block u) m n (length-tagged_block u long)
+    (x ∙ map-tagged (flag_from 0x80) multi_byte_flag-tagged 0 u 0xDC00)
 
 pub units_table_index_bound : (u : List ℕ) → units_table_index u < 256
 units_table_index_bound u = grind (arith, IsByteCount-byte_count)

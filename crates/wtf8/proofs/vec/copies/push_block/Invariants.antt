@@ -4,6 +4,6 @@ use Rattle.wtf8.proofs.vec.copies.push_block.Given as goal
 -- the first `at` items of the block are appended, and the capacity is unchanged
 abbrev pub invariant-loop-at : goal.invariant-loop-at
 invariant-loop-at g l = record {
-  items : l.items.items ≡ l.initial.items.items ++ take l.at l.block;
-  capacity : vec_capacity l.items ≡ vec_capacity l.initial.items;
+  items : l.list.items ≡ l.initial.list.items ++ take l.at l.block;
+  capacity : vec_capacity l.list ≡ vec_capacity l.initial.list;
 }

@@ -10,4 +10,4 @@ invariant_of-result c =
 pub returns : goal.returns
 returns c =
     let w = c.args.view.well_formed in
-    record { held = (none_held w).0; points = same_points c.result-2-1.given.1.0 w (none_held w).1 }
+    record { held = (none_held w).0; points = same_points c.result-1.given.1.0 w (none_held w).1 }

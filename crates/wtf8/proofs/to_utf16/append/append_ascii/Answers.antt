@@ -1,7 +1,7 @@
 use Rattle.wtf8.proofs.Common.{◌++◌, ◌∙◌, ap, sym, arith, length, rules, common_steps}
 use Rattle.wtf8.proofs.lemmas.lanes.Copies.{ends_appended}
 use Rattle.wtf8.proofs.lemmas.codec.Scalars.{view_units-ascii}
-use Rattle.wtf8.proofs.to_utf16.append.append_ascii_overlapping.Goals as goal
+use Rattle.wtf8.proofs.to_utf16.append.append_ascii.Goals as goal
 
 pub returns-in_err-reserve : goal.returns-in_err-reserve
 returns-in_err-reserve g c =
@@ -16,8 +16,8 @@ returns g c =
     let whole = c.push_block-2.ensures.items ∙ (rw (
       c.truncate.ensures.items,
       c.push_block.ensures.items,
-      c.widen_bytes.ensures,
-      c.widen_bytes-2.ensures,
+      c.widen.ensures,
+      c.widen-2.ensures,
       c.len.ensures,
       c.reserve.ensures.items,
     ) all

@@ -2,8 +2,8 @@ use Rattle.wtf8.proofs.Common.{◌≡◌, ◌∙◌, ◌++◌, ◌∷◌, [], Li
 use Rattle.wtf8.proofs.lemmas.strings.Concatenation.{meeting_bytes}
 use Rattle.wtf8.proofs.lemmas.strings.ExtendedForms.{ExtendsForm-meeting_pair, ExtendsForm-append}
 use Rattle.wtf8.proofs.lemmas.codec.Readings.{meets_by, MeetsAsPair-equal_lists, same_points}
-use Rattle.wtf8.proofs.strings.concat.append_completing.Goals.{After-from_well_formed-view}
-use Rattle.wtf8.proofs.strings.concat.append_completing.Goals as goal
+use Rattle.wtf8.proofs.strings.concat.append_joining.Goals.{After-from_well_formed-view}
+use Rattle.wtf8.proofs.strings.concat.append_joining.Goals as goal
 
 -- the view of the bytes has their code points, and so the same pair at the seam
 view_has_same_points : (g : _) (c : After-from_well_formed-view g)
