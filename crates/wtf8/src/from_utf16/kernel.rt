@@ -217,9 +217,11 @@ fn pack_eight(units: u16x8, later: LaterBytes, block: &mut [u8], len: usize) -> 
     let above_one = flags_from(units, 0x80).cast::<u8>();
     let three = later.three_byte_flags.cast::<u8>();
     let lengths: u8x16 = above_one.shuffle(three, INTERLEAVE_HALVES);
+    let low: u8x16 = front.shuffle(back, LOW_HALVES);
+    let high: u8x16 = front.shuffle(back, HIGH_HALVES);
     let rows = lengths.simd_ge(u8x16::splat(0x80)).to_bitmask() as usize;
-    let middle = pack_four(front.shuffle(back, LOW_HALVES), rows % 256, block, len);
-    pack_four(front.shuffle(back, HIGH_HALVES), rows / 256, block, middle)
+    let middle = pack_four(low, rows % 256, block, len);
+    pack_four(high, rows / 256, block, middle)
 }
 
 /// Encodes eight units at index `len` of a block, or seven if the last one is a lead. Units without a surrogate take

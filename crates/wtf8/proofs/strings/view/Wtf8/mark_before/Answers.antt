@@ -5,7 +5,7 @@ use Rattle.wtf8.proofs.strings.view.Wtf8.mark_before.Goals as goal
 
 pub slice-requires-clause-order : goal.slice-requires-clause-order
 slice-requires-clause-order c =
-    c.boundary_before-position.ensures.last c.args.from.position (boundary_of_mark c.args.self.now.well_formed c.requires.mark) c.requires.order
+    c.boundary_before-position.ensures.last _ (boundary_of_mark c.args.self.now.well_formed c.requires.mark) c.requires.order
 
 pub slice-requires-clause-begin_boundary : goal.slice-requires-clause-begin_boundary
 slice-requires-clause-begin_boundary c = boundary_of_mark c.args.self.now.well_formed c.requires.mark
@@ -16,6 +16,6 @@ returns-clause-mark c = subst (IsMark c.args.self.now.bytes.now (view_units c.ar
 
 pub returns-clause-after : goal.returns-clause-after
 returns-clause-after c = (
-  c.boundary_before-position.ensures.last c.args.from.position (boundary_of_mark c.args.self.now.well_formed c.requires.mark) c.requires.order,
+  c.boundary_before-position.ensures.last _ (boundary_of_mark c.args.self.now.well_formed c.requires.mark) c.requires.order,
   omega arith,
 )
