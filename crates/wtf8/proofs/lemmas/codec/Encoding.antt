@@ -1,5 +1,5 @@
 -- The bytes of code points, and what the first bytes determine.
-use Rattle.wtf8.proofs.Common.{◌≡◌, ℕ, zero, suc, ◌+◌, ◌/◌, ◌%◌, ◌<◌, ◌≤◌, ◌⊎◌, List, [], ◌∷◌, ◌++◌, length, get_or, refl, sym}
+use Rattle.wtf8.proofs.Common.{◌≡◌, ℕ, suc, ◌+◌, ◌/◌, ◌%◌, ◌<◌, ◌≤◌, ◌⊎◌, List, [], ◌∷◌, ◌++◌, length, get_or, refl, sym}
 use Rattle.wtf8.proofs.Common.{ap, ◌∙◌, arith, lt-ltb, length-append, le-ltb, cases_lt, append-nil, flat_map-append, IsSurrogate, bytes}
 use Rattle.wtf8.proofs.Common.{encoding_is_encode, subst, IsCodePoint, encoding, BeginsWithPoint, encode_same, FirstPointByLead}
 use Rattle.std.proofs.Math.Nat.{div-div-eq-div-mul}

@@ -3,7 +3,7 @@ use Rattle.wtf8.proofs.Common.{◌≡◌, ℕ, ◌⊎◌, inl, inr, List, [], �
 use Rattle.wtf8.proofs.Common.{length-append, le-leb, cases_Bool, false≢true, same_from_push, IsLead, IsTrail, MeetsAsPair, ◌+◌, ◌-◌, ◌*◌}
 use Rattle.wtf8.proofs.Common.{◌/◌, ◌%◌, ◌<◌, ◌≤◌, lt-ltb, le-ltb, cases_lt, append-nil, flat_map-append, units, pair, encoding, bytes}
 use Rattle.wtf8.proofs.Common.{IsCodePoint, IsClean, drop_at, bytes-injective, Reads, IsWellFormed, IsForm, BeginsWithPoint, length-drop}
-use Rattle.wtf8.proofs.Common.{drop-drop, nat_tests, cond, common_steps}
+use Rattle.wtf8.proofs.Common.{drop-drop, nat_tests, common_steps}
 use Rattle.wtf8.specs.Concatenation.{is_pair}
 use Rattle.wtf8.specs.PositionLaws.{ListsHaveLengths}
 use Rattle.wtf8.specs.Unicode.{units_of}
@@ -153,8 +153,18 @@ pub same_reading : (c d : List ℕ) → IsClean c → IsClean d → units c ≡ 
 same_reading [] [] x y e = refl
 same_reading [] (q ∷ d) x y e = absurd (omega (arith, ap length e, (lists_have_lengths (q ∷ d)).points))
 same_reading (p ∷ c) [] x y e = absurd (omega (arith, ap length e, (lists_have_lengths (p ∷ c)).points))
-same_reading (p ∷ c) (q ∷ d) x y e = grind (arith, cases_lt, cons-equal_parts, units-cons_one, units-cons_two, clean-first, clean-rest,
-    no_trail_after_lead p c, no_trail_after_lead q d, same_reading c d)
+same_reading (p ∷ c) (q ∷ d) x y e = grind (
+  arith,
+  cases_lt,
+  cons-equal_parts,
+  units-cons_one,
+  units-cons_two,
+  clean-first,
+  clean-rest,
+  no_trail_after_lead p c,
+  no_trail_after_lead q d,
+  same_reading c d,
+)
 
 pub reads_same : {c d u : List ℕ} → Reads c u → Reads d u → c ≡ d
 reads_same {c} {d} x y = same_reading c d x.clean y.clean (x.same_units ∙ sym y.same_units)

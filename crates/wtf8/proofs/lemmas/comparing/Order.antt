@@ -1,7 +1,7 @@
 -- The orders of code points, bytes and units, and how the first difference of two strings decides them.
-use Rattle.wtf8.proofs.Common.{◌≡◌, ℕ, ◌<◌, inl, inr, List, [], ◌∷◌, ◌++◌, refl, sym, ap, ◌∙◌, arith, subst, Ordering, Less, Equal, Greater}
+use Rattle.wtf8.proofs.Common.{◌≡◌, ℕ, ◌<◌, inl, inr, List, [], ◌∷◌, ◌++◌, refl, sym, ap, ◌∙◌, arith, subst, Ordering, Less}
 use Rattle.wtf8.proofs.Common.{nat_cmp, MatchOrdering, slice_cmp, cases_lt, Before, cases_order, ◌↔◌, encoding, bytes, Bool, IsTrue, nat_eq}
-use Rattle.wtf8.proofs.Common.{pointwise, bytes_decides, units, Reads, IsWellFormed, bytes-injective, ◌≢◌, zero, suc, drop, get_or}
+use Rattle.wtf8.proofs.Common.{pointwise, bytes_decides, units, Reads, IsWellFormed, bytes-injective, ◌≢◌, zero, suc, drop}
 use Rattle.wtf8.proofs.Common.{units_of, IsMismatch, SupplementaryBegins, true, false, ◌⊎◌, length, take, length-append, append_assoc}
 use Rattle.wtf8.proofs.Common.{false≢true, take-append-drop, slice_get, option_cmp, true≢false, common_steps}
 use Rattle.wtf8.proofs.lemmas.lanes.ListOrder.{cmp_less, cmp_greater, slice_cmp-less, slice_cmp-greater, cmp-append_left, mismatch-cons}
@@ -9,7 +9,7 @@ use Rattle.wtf8.proofs.lemmas.lanes.ListOrder.{order_at_mismatch}
 use Rattle.std.proofs.lemmas.Cmp.{nat_cmp_total, tied_itself}
 use Rattle.std.specs.Bool.{beq}
 use Rattle.std.specs.Ordering.{is_ge, is_gt, is_le, is_lt}
-use Rattle.wtf8.proofs.lemmas.codec.Encoding.{encoding_cases, one, two, three, four, encoding_same, length-encoding_bounds}
+use Rattle.wtf8.proofs.lemmas.codec.Encoding.{encoding_cases, encoding_same, length-encoding_bounds}
 use Rattle.wtf8.proofs.lemmas.codec.Readings.{same_reading, units-cons_one, units-cons_two, units-append}
 use Rattle.wtf8.proofs.lemmas.strings.Positions.{cut_at, boundary_from_byte, points_after}
 

@@ -60,7 +60,8 @@ pub highs_below : (bytes : List ℕ) → length bytes ≡ 16 → Each1 (Fits w8)
 highs_below bytes p h = subst (Each1 (λ v. v < 16)) (sym (high_digits-map bytes p)) (map-div_16_below bytes h)
 
 pub lows_below : (bytes : List ℕ) → length bytes ≡ 16 → Each1 (λ v. v < 16) (low_digits bytes)
-lows_below bytes p = subst (Each1 (λ v. v < 16)) (sym (low_digits-map bytes p)) (Each1-map_all (λ v. v < 16) (λ b. b % 16) (λ b. omega arith) bytes)
+lows_below bytes p =
+    subst (Each1 (λ v. v < 16)) (sym (low_digits-map bytes p)) (Each1-map_all (λ v. v < 16) (λ b. b % 16) (λ b. omega arith) bytes)
 
 -- the interleaved digits of the halves are the spaced text of 16 bytes
 pub block_text : (bytes first second : List ℕ) → length bytes ≡ 16 → first ≡ map digit (high_digits bytes)

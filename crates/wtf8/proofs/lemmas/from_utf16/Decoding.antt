@@ -1,10 +1,11 @@
 -- The items of a decoder are a reading of its iterator's units.
 use Rattle.wtf8.proofs.Common.{◌≡◌, ◌+◌, ◌-◌, ◌<◌, length, take, drop, get_or, append-nil, Reads, inl, inr, ℕ, List, [], ◌∷◌, ◌++◌, Option}
 use Rattle.wtf8.proofs.Common.{None, Some, Result, Ok, Err, refl, sym, ap, ◌∙◌, subst, arith, Drains, peekable_steps, peekable_peeked}
-use Rattle.wtf8.proofs.Common.{point_of_item, map, decode_steps, ReadsAll, IsClean, IsCodePoint, IsLead, IsTrail, IsReadTo}
+use Rattle.wtf8.proofs.Common.{point_of_item, map, decode_steps, ReadsAll, IsClean, IsCodePoint, IsLead, IsTrail, IsReadTo, same_from_push}
 use Rattle.wtf8.proofs.Common.{IsSurrogate, MatchResult, units, pair, MatchOption, IfSome, Bool, IsTrue, ◌≢◌, AreScalar, IsKnownForm, bytes}
-use Rattle.wtf8.proofs.Common.{encoding, map-append, take-append-drop, ◌≤◌, cases_lt, lt-ltb, le-ltb, append_assoc, length-append}
-use Rattle.wtf8.proofs.Common.{length-drop, take_all, DividesPair, MeetsAsPair, copied_steps, iter_steps, iter_rest, common_steps, same_from_push, get_or-drop}
+use Rattle.wtf8.proofs.Common.{encoding, map-append, take-append-drop, ◌≤◌, append_assoc, length-append}
+use Rattle.wtf8.proofs.Common.{length-drop, take_all, DividesPair, copied_steps, iter_steps, iter_rest, common_steps}
+use Rattle.wtf8.proofs.Common.{get_or-drop}
 use Rattle.std.proofs.lemmas.List.{drop_more, nil_from_length}
 use Rattle.std.specs.Iterator.{Yields}
 use Rattle.std.specs.Iterator.Adapters.{peekable_source, PeekedOrNext, PeeksNext, copied_source}
@@ -19,7 +20,7 @@ use Rattle.wtf8.specs.private.Decoding.{DecodesItem}
 use Rattle.wtf8.specs.declared.from_utf16.decode.DecodeUtf16.{DecodeUtf16}
 use Rattle.wtf8.proofs.lemmas.codec.Encoding.{bytes-append}
 use Rattle.wtf8.proofs.lemmas.from_utf16.Transcode.{IsKnownForm-append, undivided-after_no_lead}
-use Rattle.wtf8.proofs.lemmas.codec.Readings.{lengths_of_one, units_one, units_pair, unpaired-nil_right, unpaired-before_no_trail}
+use Rattle.wtf8.proofs.lemmas.codec.Readings.{lengths_of_one, units_one, units_pair}
 
 module _ {S A : Type 0} (steps : S → Option A → S → Type 0) where
   -- if each call from `t` is also a call from `s`, draining `t` is draining `s`
@@ -178,8 +179,14 @@ no_item v at items s k t x none rest y item nothing = from items y
     begun : (q : Result ℕ ℕ) (m : DecodeUtf16 (Copied (Iter ℕ))) → ¬ (DecodesItem steps s.units q m.units)
     begun q m i =
         let got = slice_left-yields (units_of (point_of_item q)) s.units i.after none i.taken in
-        omega (arith, (lengths_of_one (point_of_item q)).0, ap length (sym got.0 ∙ whole), ap length nothing, length-drop at v,
-        length-append (units_of (point_of_item q)) (slice_left i.after))
+        omega (
+          arith,
+          (lengths_of_one (point_of_item q)).0,
+          ap length (sym got.0 ∙ whole),
+          ap length nothing,
+          length-drop at v,
+          length-append (units_of (point_of_item q)) (slice_left i.after),
+        )
 
     from : (items : List (Result ℕ ℕ)) → ¬ (Yields (decode_steps steps) s items k)
     from [] y = begun x t (subst (λ k. DecodesItem steps k.units x t.units) (sym y) item)

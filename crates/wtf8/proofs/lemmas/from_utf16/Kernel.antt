@@ -2,16 +2,15 @@
 use Rattle.wtf8.proofs.Common.{◌≡◌, ℕ, suc, ◌+◌, ◌-◌, ◌*◌, ◌/◌, ◌%◌, ◌^◌, ◌<◌, ◌≤◌, List, [], ◌∷◌, ◌++◌, length, take, drop, get_or, map}
 use Rattle.wtf8.proofs.Common.{replicate, zip2, Each1, cond, ltb, leb, eqb, top, Bool, false, length-append, false≢true, refl, sym}
 use Rattle.wtf8.proofs.Common.{ap, ◌∙◌, arith, lt-ltb, le-ltb, subst, cases_lt, cases_Bool, inl, inr, Fits, append-nil, append_assoc}
-use Rattle.wtf8.proofs.Common.{map-append, rules, ◌&&◌, mask_l-mod, eq-eqb, pick_l_whole, IsSurrogate, sel_l, mask_l, w8, w16, bit_and}
+use Rattle.wtf8.proofs.Common.{map-append, ◌&&◌, mask_l-mod, eq-eqb, pick_l_whole, IsSurrogate, sel_l, mask_l, w8, w16, bit_and}
 use Rattle.wtf8.proofs.Common.{bit_or, nat_tests, swz_l, IsLead, IsUnit, length-take-le, take-take, AreScalarUnits}
-use lib.Lanes.{pick_l, number_l}
+use lib.Lanes.{pick_l}
 use Rattle.std.specs.Prelude.{nat_lt, if◌then◌else◌, bit_xor}
 use Rattle.std.proofs.lemmas.List.{take-map, drop-map, get_or-take}
 use Rattle.std.proofs.lemmas.Simd.{get_or-swz_l_below}
 use Rattle.wtf8.specs.private.PackedUnits.{first_byte, scalar_second_byte, second_byte, scalar_last_byte, last_byte}
 use Rattle.wtf8.specs.private.PackedUnits.{three_byte_bit, byte_count, byte_lanes, units_table_index, source_lanes}
 use Rattle.wtf8.specs.private.PackedUnits.{IsByteCount, packed_unit, packed_units, tagged, tagged_units, tagged_block, AreLaterBytes}
-use Rattle.wtf8.proofs.lemmas.lanes.AsciiFronts.{Each1-map_all}
 use Rattle.wtf8.proofs.lemmas.from_utf16.PackedUnits.{packed_unit-lead, IsTag, IsTag-tagged, tagged-scalar, tagged-lead_before_trail}
 use Rattle.std.proofs.Math.Seq.{take-append_seam}
 
@@ -190,7 +189,8 @@ later_lanes own lasts m u l x y z = rw (x, y, z) (of_eight (λ u. AreLaterBytes 
           (((0x80 + b % 4 * 16 % 65536) % 65536 + x / 64 % 16) % 65536) (scalar_second_byte x))) second_byte second_byte-lane;
       last = by (λ l t b x. cond (top 15 l) ((0x80 + (x % 1024 + 64) % 65536 / 4 % 64) % 65536) (scalar_last_byte x)) (λ d t. last_byte t)
           (λ b d x t k. last_byte-lane x t);
-      long = by (λ l t b x. cond (top 15 (bit_or l t)) 0 (flag_from 0x800 x)) (λ d t. three_byte_flag t) (λ b d x t k. three_byte_flag-lane x t);
+      long = by (λ l t b x. cond (top 15 (bit_or l t)) 0 (flag_from 0x800 x)) (λ d t. three_byte_flag t)
+          (λ b d x t k. three_byte_flag-lane x t);
     }))
   where
     by : (f : ℕ → ℕ → ℕ → ℕ → ℕ) (g : ℕ → ℕ → ℕ)
@@ -211,9 +211,9 @@ units-from_mask b [] a f e = tt
 units-from_mask b (x ∷ u) a f e = elim (cases_Bool (top 15 (lone_lane (both_kinds x 54 n 55) (both_kinds x 55 b 54) b x))) [
   | inl t ↦ absurd (omega (arith, rw t at e))
   | inr o ↦ (
-      unit-from_lane b x (tagged b x n) f.0.fits (IsTag-tagged b x n) (rw (both_kinds-lead b x n, both_kinds-trail b x n) at o),
-      units-from_mask x u a f.1 (omega (arith, rw o at e)),
-    )
+    unit-from_lane b x (tagged b x n) f.0.fits (IsTag-tagged b x n) (rw (both_kinds-lead b x n, both_kinds-trail b x n) at o),
+    units-from_mask x u a f.1 (omega (arith, rw o at e)),
+  )
 ]
   where
     n : ℕ
@@ -286,7 +286,25 @@ mask_l-table_indexes : (u m n : List ℕ) → length u ≡ 8 → m ≡ map (flag
     → mask_l (flags_set m n) % 2 ^ 64 ≡ units_table_index (take 4 u) + 256 * units_table_index (drop 4 u)
 mask_l-table_indexes u m n long x y = mask_l-mod (flags_set m n) 64 (omega arith) ∙ rw (x, y) (of_eight (λ u. mask_l
     (flags_set (map (flag_from 0x80) u) (map three_byte_flag u)) ≡ units_table_index (take 4 u) + 256 * units_table_index (drop 4 u)) u long
-    (omega (arith, one 0, one 1, one 2, one 3, one 4, one 5, one 6, one 7, three 0, three 1, three 2, three 3, three 4, three 5, three 6, three 7)))
+    (omega (
+      arith,
+      one 0,
+      one 1,
+      one 2,
+      one 3,
+      one 4,
+      one 5,
+      one 6,
+      one 7,
+      three 0,
+      three 1,
+      three 2,
+      three 3,
+      three 4,
+      three 5,
+      three 6,
+      three 7,
+    )))
   where
     one : (k : ℕ) → cond (flag_is_set (flag_from 0x80 (get_or u k 0))) 1 0 ≡ byte_count (get_or u k 0) / 2
     one k = flag_from-byte_count (get_or u k 0)

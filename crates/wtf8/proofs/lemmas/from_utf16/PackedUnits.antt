@@ -1,16 +1,16 @@
 -- Blocks of units of any kinds: their tags, and the piece of bytes that each unit contributes.
 use Rattle.wtf8.proofs.Common.{◌≡◌, ℕ, zero, suc, ◌+◌, ◌-◌, ◌/◌, ◌%◌, ◌<◌, ◌≤◌, List, [], ◌∷◌, ◌++◌, length, take, get_or, refl, sym}
-use Rattle.wtf8.proofs.Common.{ap, ◌∙◌, arith, lt-ltb, le-ltb, subst, cases_lt, inl, inr, true, drop, append-nil, append_assoc}
-use Rattle.wtf8.proofs.Common.{IsSurrogate, encoding, IsKnownForm, Fits, Each1, Bool, IsTrue, ◌&&◌, MeetsAsPair, DividesPair}
-use Rattle.wtf8.proofs.Common.{length-chunk, take_all, w16, take-append-add, length-take-le, take-take, Each1-from_get_or, get_or-drop, same_from_push, units_of}
-use Rattle.wtf8.proofs.Common.{length-take, ◌⊎◌, IsUnit, IsLead, IsTrail, pair}
+use Rattle.wtf8.proofs.Common.{ap, ◌∙◌, arith, lt-ltb, le-ltb, subst, cases_lt, inl, inr, true, drop, append-nil, append_assoc, units_of}
+use Rattle.wtf8.proofs.Common.{IsSurrogate, encoding, IsKnownForm, Fits, Each1, Bool, IsTrue, ◌&&◌, DividesPair}
+use Rattle.wtf8.proofs.Common.{length-chunk, take_all, w16, take-append-add, length-take-le, take-take, get_or-drop}
+use Rattle.wtf8.proofs.Common.{◌⊎◌, IsUnit, IsLead, IsTrail, pair, same_from_push}
 use Rattle.std.proofs.lemmas.List.{take-append-le, get_or-take, drop_more}
 use Rattle.std.proofs.lemmas.Grind.{get_or_default_zero}
 use Rattle.std.proofs.lemmas.Simd.{chunk-fits}
 use Rattle.wtf8.specs.private.Prefixes.{IsReadTo}
 use Rattle.wtf8.specs.private.PackedUnits.{packed_unit, packed_units, tagged, tagged_units, tagged_block}
 use Rattle.wtf8.proofs.lemmas.codec.Encoding.{encoding_one, encoding_two, encoding_three, encoding_four, third_row}
-use Rattle.wtf8.proofs.lemmas.codec.Readings.{unpaired-after_no_lead, unpaired-before_no_trail, unpaired-nil_right, units_one, units_pair}
+use Rattle.wtf8.proofs.lemmas.codec.Readings.{unpaired-after_no_lead, unpaired-before_no_trail, units_one, units_pair}
 use Rattle.wtf8.proofs.lemmas.from_utf16.Transcode.{IsKnownForm-append, IsKnownForm-nil, IsReadTo-append, undivided-after_no_lead}
 
 -- The tag of a unit.
@@ -168,8 +168,8 @@ packed_units-read w kept {bytes} {u} {at} {known} {more} k x within fits taken u
     ] in
     let last : ¬ (IsLead (get_or (0 ∷ own) (length own) 0) × IsTrail after) = grind (arith, take_all, get_or_default_zero) in
     let tags = take-tagged_units k 0 eight 0xDC00 in
-    let form = packed_units-form 0 own after more (Each1-take (Fits w16) k eight (chunk-fits w16 at 8 u fits)) (λ l. omega (arith, l.0.0)) last
-    (λ t. subst (Each1 IsUnit) tags (Each1-take IsUnit k (tagged_block eight) (units t))) in
+    let form = packed_units-form 0 own after more (Each1-take (Fits w16) k eight (chunk-fits w16 at 8 u fits)) (λ l. omega (arith, l.0.0))
+    last (λ t. subst (Each1 IsUnit) tags (Each1-take IsUnit k (tagged_block eight) (units t))) in
     let count : k ≡ at + k - at = omega arith in
     let same : own ≡ take (at + k - at) (drop at u) = take-take k 8 (drop at u) few ∙ ap (λ k. take k (drop at u)) count in
     IsReadTo-append x (omega arith) (omega (arith, few, within)) divides

@@ -1,6 +1,6 @@
 -- Blocks of units: their masks, their form, and the string after they are appended.
 use Rattle.wtf8.proofs.Common.{◌≡◌, ℕ, zero, suc, ◌-◌, ◌%◌, ◌^◌, ◌<◌, ◌≤◌, eqb, Bool, true, false, cond, ◌&&◌, List, [], ◌∷◌, map, length}
-use Rattle.wtf8.proofs.Common.{replicate, Fits, refl, sym, ap, ◌∙◌, arith, inl, inr, and_parts, cases_Bool, Each1, zip2, mask_l, top}
+use Rattle.wtf8.proofs.Common.{replicate, Fits, refl, sym, ap, ◌∙◌, arith, and_parts, cases_Bool, Each1, zip2, mask_l, top}
 use Rattle.wtf8.proofs.Common.{AreAscii, IsSurrogate, ◌+◌, ◌/◌, ◌++◌, IsTrue, take, drop, get_or, subst, take-append-drop, common_steps}
 use Rattle.wtf8.proofs.Common.{length-chunk, MeetsAsPair, IsKnownForm, DividesPair, w16, get_or-drop, length-take, take-add, AreScalarUnits}
 use Rattle.wtf8.proofs.Common.{take-append-add, min, length-map, take-take, zip2_splat, IsLead, IsReadTo}
@@ -88,8 +88,13 @@ front_read {w = w} {new = new} {u = u} {low = low} {at = at} {known = known} k n
     divides zero few own = let here : at ≡ at + 0 = omega arith in subst (λ k. ¬ (DividesPair u k)) here x.divides_no_pair
     divides (suc j) few own =
         let here : at + j + 1 ≡ at + suc j = omega arith in
-        let low = Each1-get_or (λ n. n < 0x80) (take (suc j) (take n (drop at u))) j 0 (omega (arith, few, length-chunk at n u within,
-        length-take (suc j) (take n (drop at u)))) own in
+        let low = Each1-get_or (λ n. n < 0x80) (take (suc j) (take n (drop at u))) j 0 (omega (
+          arith,
+          few,
+          length-chunk at n u within,
+          length-take (suc j) (take n (drop at u)),
+        )) own in
         let unit = get_or-take (suc j) (take n (drop at u)) j 0 (omega arith) ∙ get_or-take n (drop at u) j 0 (omega (arith, few))
         ∙ get_or-drop at u j 0 in
-        subst (λ k. ¬ (DividesPair u k)) here (undivided-after_no_lead u (at + j) (omega (arith, few, within)) (λ l. omega (arith, low, unit, l.0)))
+        subst (λ k. ¬ (DividesPair u k)) here
+        (undivided-after_no_lead u (at + j) (omega (arith, few, within)) (λ l. omega (arith, low, unit, l.0)))

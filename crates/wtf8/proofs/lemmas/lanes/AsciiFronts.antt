@@ -1,6 +1,6 @@
 -- ASCII lanes of a block.
 use Rattle.wtf8.proofs.Common.{◌≡◌, ℕ, zero, suc, ◌+◌, ◌-◌, ◌%◌, ◌^◌, ◌<◌, ◌≤◌, leb, le-leb, cond, List, [], ◌∷◌, map, length, take, get_or}
-use Rattle.wtf8.proofs.Common.{replicate, refl, sym, ap, ltb, lt-ltb, le-ltb, cases_lt, inl, inr, ◌∙◌, arith, subst, false, Each1, Option}
+use Rattle.wtf8.proofs.Common.{replicate, refl, ap, ltb, lt-ltb, le-ltb, cases_lt, inl, inr, ◌∙◌, arith, subst, false, Each1, Option}
 use Rattle.wtf8.proofs.Common.{None, Some, tops_compared, zip2, mask_l, top, AreAscii, length-take, NoneIn, Each2, IsTrue, eqb, eqb-true}
 use Rattle.wtf8.proofs.Common.{take_all, chunk, length-chunk, get_or-chunk, length-map, sel_l, unwrap_or, min, Each1-from_get_or, IsFirstIn}
 use Rattle.wtf8.proofs.Common.{IsFirstSet, IsSet}

@@ -1,6 +1,6 @@
 -- The order of lists of numbers: item by item, by the items at the first mismatch, and by lengths where there is none.
 use Rattle.wtf8.proofs.Common.{◌≡◌, ℕ, zero, suc, ◌<◌, inl, inr, List, [], ◌∷◌, ◌++◌, ◌∙◌, refl, sym, ap, arith, length, get_or, min}
-use Rattle.wtf8.proofs.Common.{cases_order, Less, Greater, nat_cmp, ordering_then, ordering_reverse, slice_cmp, option_cmp, nat_tests}
+use Rattle.wtf8.proofs.Common.{cases_order, Less, Greater, nat_cmp, ordering_reverse, slice_cmp, option_cmp, nat_tests}
 use Rattle.wtf8.proofs.Common.{Before, IsMismatch, DifferAt, NoneIn, IsLeast, slice_get, slice_get-get_or}
 use Rattle.std.proofs.lemmas.Cmp.{nat_cmp_total, nat_list_cmp_total, tied_itself}
 use Rattle.wtf8.proofs.lemmas.lanes.Mismatch.{take-before_mismatch}

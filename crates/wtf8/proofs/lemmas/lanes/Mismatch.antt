@@ -4,7 +4,6 @@ use Rattle.wtf8.proofs.Common.{ap, subst, arith, List, [], ◌∷◌, ◌∙◌,
 use Rattle.wtf8.proofs.Common.{eq-eqb, eqb-true, length-chunk, get_or-chunk, get_or-zip2, length-zip2, tops_compared, mask_l, w8, None}
 use Rattle.wtf8.proofs.Common.{Some, Option, ◌%◌, ◌^◌, pointwise, bytes_decides, chunk, zip2, top, IsLeast, NoneIn, not-true, MatchOption}
 use Rattle.wtf8.proofs.Common.{DifferAt, DecidesNone, IsFirstSet, IsSet, false_from_ne_true}
-use Rattle.std.proofs.lemmas.Bool.Decides.{same_from_decides}
 use Rattle.wtf8.proofs.lemmas.lanes.Masks.{first_at_offset, lowest_set, none_set}
 
 abbrev is_unequal : ℕ → ℕ → Bool

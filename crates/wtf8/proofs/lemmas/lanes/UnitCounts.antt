@@ -1,7 +1,7 @@
 -- Units counted in lanes: the sum of a block's lanes.
 use Rattle.wtf8.proofs.Common.{false, replicate, nat_tests, sum_utf16_len, sum_by-cons, Each2-of, fold-sum, sum_bound, sum_fits, length-map}
 use Rattle.wtf8.proofs.Common.{zero, Bool, true, cond, length, arith, lt-ltb, le-ltb, sel_l, bit_or, Each1, sum-zip2, Each2, fold_l, sum_l}
-use Rattle.wtf8.proofs.Common.{◌≡◌, ℕ, suc, ◌+◌, ◌<◌, ◌≤◌, ltb, leb, List, [], ◌∷◌, map, w8, sym, ap, ◌∙◌, zip2, top, ◌||◌, Fits, refl, w16}
+use Rattle.wtf8.proofs.Common.{◌≡◌, ℕ, suc, ◌+◌, ◌<◌, ◌≤◌, ltb, leb, List, [], ◌∷◌, map, w8, sym, ap, ◌∙◌, zip2, top, Fits, refl, w16}
 use lib.Lanes.{Steps}
 use Rattle.wtf8.specs.private.UnitsInBytes.{utf16_len}
 use Rattle.wtf8.proofs.lemmas.lanes.AsciiFronts.{Each1-map_all}

@@ -139,8 +139,13 @@ encoding_utf8 p s = refl
 
 -- the lemmas that state a law word for word, and so prove it
 pub ruleset encoding_laws = (encoding_utf8, encoding_one, encoding_same, none_begins_another, units_one, units_pair, lists_have_lengths)
+
 pub ruleset byte_laws = (before_bytes, cmp-bytes, order_of, equal_buffers_compare, equal_views_compare, bytes-injective)
+
 pub ruleset form_laws = (one_reading, units_read, equal_views, parted_by_ascii, reads-glue, form_paired, form_append-unpaired)
+
 pub ruleset glue_laws = (glue_meeting, glue-unpaired, glue_assoc, glue-nil, run_once, runs_add, scalars_stay, characters_come_back)
+
 pub ruleset view_laws = (view_reads, one_view_reading, view_characters, lossy_characters, divided_are_surrogates)
+
 pub ruleset laws = (encoding_laws, byte_laws, form_laws, glue_laws, view_laws)

@@ -2,7 +2,7 @@
 use Rattle.wtf8.proofs.Common.{◌≡◌, ℕ, inl, inr, ◌⊎◌, List, [], ◌∷◌, ◌++◌, refl, sym, ap, ◌∙◌, subst, arith, append_assoc, cases_Bool}
 use Rattle.wtf8.proofs.Common.{append-nil, IsLead, IsTrail, units, units_of, pair, IsClean, Reads, MeetsAsPair, is_pair, glue, ◌+◌, ◌-◌}
 use Rattle.wtf8.proofs.Common.{◌≤◌, length, take, drop, length-append, cases_lt, take_at, drop_at, same_from_push, bytes, encoding, IsForm}
-use Rattle.wtf8.proofs.Common.{length-drop, All, All-nil, All-cons, All-head, All-tail, All-same, IsUnit, IsCodePoint, ◌%◌, ◌<◌, get_or}
+use Rattle.wtf8.proofs.Common.{length-drop, All, All-nil, All-cons, All-head, All-tail, All-same, IsUnit, ◌%◌, ◌<◌, get_or}
 use Rattle.wtf8.proofs.Common.{take-append-drop, length-take-le, form_of}
 use Rattle.std.proofs.lemmas.List.{drop_more, take_more}
 use Rattle.std.proofs.lemmas.List.Elements.{All-append}

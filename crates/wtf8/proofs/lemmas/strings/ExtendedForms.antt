@@ -1,12 +1,12 @@
 -- The effect of appending calls: the contents, the UTF-8 prefix and the capacity.
-use Rattle.wtf8.proofs.Common.{form_of, well_formed_of}
+use Rattle.wtf8.proofs.Common.{form_of, well_formed_of, AreScalarTo}
 use Rattle.wtf8.proofs.Common.{◌≡◌, ◌+◌, ◌-◌, ◌≤◌, List, [], ◌∷◌, ℕ, ◌++◌, length, take, drop, Result, Ok, Err, OnOk, OnErr, refl, ap, ◌∙◌}
 use Rattle.wtf8.proofs.Common.{sym, subst, arith, append-nil, drop_all, units, units_of, pair, IsLead, IsTrail, IsCodePoint, UnitString}
 use Rattle.wtf8.proofs.Common.{KeepsContents, MeetsAsPair, encoding, IsWellFormed, IsForm, ExtendsForm, ExtendsFormOrKeeps, inl, inr, true}
 use Rattle.wtf8.proofs.Common.{chars, IsUtf8, scalars-chars, and_parts, scalar, scalars, IsSurrogate, IsClean, bytes_are_encodes, AreScalar}
 use Rattle.wtf8.proofs.Common.{append_assoc, length-append, All, take_at, drop_at, All-drop, All-same, Step, EachCallFits, Build, number}
 use Rattle.wtf8.proofs.Common.{numbers, glue, IsUnit, bytes, ◌<◌, cases_lt, append_cancel_left, SurrogateAt, on_ok_weaker, vec_capacity}
-use Rattle.wtf8.proofs.Common.{length-map, All-take, encodes-chars, on_err_weaker, IsOk, HasRoomFor, FitWithin, CallFits, CodePoint, AreScalarTo}
+use Rattle.wtf8.proofs.Common.{length-map, All-take, encodes-chars, on_err_weaker, IsOk, HasRoomFor, FitWithin, CallFits, CodePoint}
 use lib.Utf8.{scalar_cases}
 use Rattle.std.specs.declared.vec.Vec.{Vec}
 use Rattle.wtf8.proofs.lemmas.codec.Encoding.{length-surrogate, length-encoding_bounds, length-bytes_append, encoding_four}

@@ -1,8 +1,8 @@
 -- The laws of positions, of lengths and of ASCII bytes.
-use Rattle.wtf8.proofs.Common.{well_formed_of}
+use Rattle.wtf8.proofs.Common.{well_formed_of, suc}
 use Rattle.wtf8.proofs.Common.{List, append_assoc, length-append, append-nil, append_cancel_left, IsBoundary, All-cons, All-drop, slice_get}
 use Rattle.wtf8.proofs.Common.{ℕ, length, subst, arith, units, bytes, IsForm, get_or, drop_at, All-head, All-nil, encoding, IsFront, IsBack}
-use Rattle.wtf8.proofs.Common.{cases_lt, [], ◌++◌, refl, ap, ◌∙◌, sym, Reads, ◌≡◌, ◌≢◌, ◌<◌, ◌+◌, ◌-◌, ◌/◌, ◌%◌, inl, ◌∷◌, All, Some, zero, suc}
+use Rattle.wtf8.proofs.Common.{cases_lt, [], ◌++◌, refl, ap, ◌∙◌, sym, Reads, ◌≡◌, ◌≢◌, ◌<◌, ◌+◌, inl, ◌∷◌, All, Some, zero}
 use Rattle.wtf8.specs.Laws.{FrontAndBackAreWhole}
 use Rattle.wtf8.specs.PositionLaws.{StartIsBoundary, EndIsBoundary, NoneIsBeyondEnd, FrontBoundariesAreOfWhole, WholeBoundariesAreOfFront}
 use Rattle.wtf8.specs.PositionLaws.{WholeBoundariesAreOfBack, BackBoundariesAreOfWhole, BeginningsAreNoLonger, BothAreNoLonger}

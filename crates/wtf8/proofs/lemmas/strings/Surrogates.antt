@@ -4,8 +4,8 @@ use Rattle.wtf8.proofs.Common.{length-append, true, inr, Option, Some, cases_lt,
 use Rattle.wtf8.proofs.Common.{get_or-append-add, IsUtf8, scalar, scalars, IsCodePoint, IsSurrogate, encoding, bytes, IsClean, IsWellFormed}
 use Rattle.wtf8.proofs.Common.{bytes_are_encodes, AreScalar, SurrogateAt, IsLeast, IsFirst, ◌-◌, ◌/◌, ◌%◌, lit≤, lit<, map-append}
 use Rattle.wtf8.proofs.Common.{lossy_points, take, drop, append_cancel_left, take_at, drop_at, low_scalar, replace_surrogate}
-use Rattle.wtf8.proofs.lemmas.codec.Encoding.{length-bytes_append, encoding_three, length-encoding_bounds, encoding_cases, one, two, three}
-use Rattle.wtf8.proofs.lemmas.codec.Encoding.{four, bytes-append, third_row, length-surrogate, bytes-pushed}
+use Rattle.wtf8.proofs.lemmas.codec.Encoding.{length-bytes_append, encoding_three, length-encoding_bounds, encoding_cases}
+use Rattle.wtf8.proofs.lemmas.codec.Encoding.{bytes-append, third_row, length-surrogate, bytes-pushed}
 use Rattle.wtf8.proofs.lemmas.codec.Readings.{nil_from_bytes, clean-first, clean-rest, clean-front, clean-back}
 use Rattle.wtf8.proofs.lemmas.codec.Scalars.{kind_by_surrogates, replace_surrogate-surrogate, scalar-middle}
 use Rattle.wtf8.proofs.lemmas.strings.Positions.{split_at, shorter_is_prefix}
@@ -214,14 +214,16 @@ replacing_step c w from found r least =
     (subst (λ v. SurrogateAt v j) (sym (r.encoded ∙ ap bytes (p.joined ∙ ap (λ d. d ++ p.point ∷ p.back) b.joined))) s)) in
     let done : lossy_points ((r.done ++ b.more) ++ p.point ∷ []) ≡ p.front ++ 0xFFFD ∷ [] =
     simp (lossy_points-append, lossy_points-scalar b.more plain, ← b.joined, replace_surrogate-surrogate p.point p.surrogate) in
-    let sign : encoding 0xFFFD ≡ 0xEF ∷ 0xBF ∷ 0xBD ∷ [] = encoding_three 0xFFFD (lit≤ tt) (lit< tt) in
-    (a.within, record {
-      done = (r.done ++ b.more) ++ p.point ∷ [];
-      rest = p.back;
-      joined = r.joined ∙ simp (rest, append_assoc);
-      encoded = rw (a.before, a.after, done, append_assoc p.front (0xFFFD ∷ []) p.back, bytes-append p.front (0xFFFD ∷ p.back), sign);
-      done_len = simp (done, bytes-append, length-append, sign, p.front_len);
-    })
+    let sign : encoding 0xFFFD ≡ 0xEF ∷ 0xBF ∷ 0xBD ∷ [] = encoding_three 0xFFFD (lit≤ tt) (lit< tt) in (
+      a.within,
+      record {
+        done = (r.done ++ b.more) ++ p.point ∷ [];
+        rest = p.back;
+        joined = r.joined ∙ simp (rest, append_assoc);
+        encoded = rw (a.before, a.after, done, append_assoc p.front (0xFFFD ∷ []) p.back, bytes-append p.front (0xFFFD ∷ p.back), sign);
+        done_len = simp (done, bytes-append, length-append, sign, p.front_len);
+      },
+    )
 
 -- a string divided at its first surrogate: text, the surrogate, and the rest
 pub record SplitAtSurrogate (w : List ℕ) (h : IsWellFormed w) (found : ℕ) : Type 0 where

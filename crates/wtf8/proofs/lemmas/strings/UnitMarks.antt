@@ -1,6 +1,6 @@
 -- Marks: byte positions with the number of units before them.
 use Rattle.wtf8.proofs.Common.{◌≡◌, ◌+◌, ◌<◌, ◌≤◌, ℕ, List, [], ◌∷◌, ◌++◌, length, take, refl, sym, ap, ◌∙◌, subst, arith, well_formed_of}
-use Rattle.wtf8.proofs.Common.{length-append, append_assoc, take-append-drop, bytes-injective, units_of, encoding, units, bytes}
+use Rattle.wtf8.proofs.Common.{length-append, append_assoc, take-append-drop, bytes-injective, units, bytes}
 use Rattle.wtf8.proofs.Common.{IsWellFormed, IsForm, UnitCursor, glue, ◌-◌, drop, length-take-le, AreAscii}
 use Rattle.wtf8.proofs.Common.{take_all, length-drop, get_or, IsLead, IsTrail, IsBoundary, IsMiddle, IsFront, inl, inr, cases_lt, take_at}
 use Rattle.wtf8.proofs.Common.{drop_at, drop-append-le, All, IsUnit, MeetsAsPair, get_or-append_seam, DividesPair}
@@ -8,7 +8,7 @@ use Rattle.std.proofs.lemmas.List.{take-append-le}
 use Rattle.wtf8.specs.PositionLaws.{EqualBoundariesHaveEqualFronts, BoundariesAreInOneOrder, BoundariesDivideNoPair}
 use Rattle.wtf8.specs.UnitMark.{IsMark, EqualCountsAreMarks, MarksStay, MarksDivideNoPair, EqualMarksHaveEqualUnits, MarksAreInOneOrder}
 use Rattle.wtf8.specs.UnitMark.{MarksAreFoundAgain, BoundariesAreMarks, MarksStayInFront}
-use Rattle.wtf8.proofs.lemmas.codec.Encoding.{bytes-append, encoding_cases, one, two, three, four}
+use Rattle.wtf8.proofs.lemmas.codec.Encoding.{bytes-append, encoding_cases}
 use Rattle.wtf8.proofs.lemmas.codec.Readings.{units-append, lists_have_lengths, units_one, units_two, same_form}
 use Rattle.wtf8.proofs.lemmas.codec.Readings.{same_reading, reads_same, meets_by, form_append-unpaired}
 use Rattle.wtf8.proofs.lemmas.strings.Concatenation.{reads-glue, one_form, units_read}
@@ -133,8 +133,7 @@ between_marks f x y h =
     let own = cut_of (well_formed_of f) x in
     let other = cut_of (well_formed_of f) y in
     let prefix = shorter_is_prefix own.front own.back other.front other.back
-    (sym own.joined ∙ other.joined) (omega (arith, h, own.front_len, other.front_len)) in
-    (
+    (sym own.joined ∙ other.joined) (omega (arith, h, own.front_len, other.front_len)) in (
       prefix.more,
       grind (arith, bytes-append, length-append, own.front_len, other.front_len, prefix.joined),
       grind (arith, units-append, length-append, own.counted, other.counted, prefix.joined),

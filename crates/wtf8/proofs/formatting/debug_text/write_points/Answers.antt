@@ -1,4 +1,4 @@
-use Rattle.wtf8.proofs.Common.{refl, ap, length, arith, flat_map, escape_surrogate}
+use Rattle.wtf8.proofs.Common.{refl, ap, flat_map, escape_surrogate}
 use Rattle.wtf8.proofs.lemmas.formatting.DebugTexts.{Continues-start, Continues-write, Continues-end}
 use Rattle.wtf8.proofs.formatting.debug_text.write_points.Goals as goal
 

@@ -1,5 +1,4 @@
-use Rattle.wtf8.proofs.Common.{false≢true, refl, ◌∙◌, ◌+◌, ◌-◌, ◌<◌, [], ◌∷◌, arith, drop, get_or, length, sym, subst, take, Reads, IsLead}
-use Rattle.wtf8.proofs.Common.{IsTrail}
+use Rattle.wtf8.proofs.Common.{false≢true, refl, ◌∙◌, ◌+◌, ◌-◌, [], ◌∷◌, arith, drop, sym, subst, take, Reads}
 use Rattle.wtf8.proofs.lemmas.from_utf16.Decoding.{IsFirstRead-pair, IsFirstRead-unit}
 use Rattle.wtf8.proofs.from_utf16.decode.read_point.Goals.{else-unit-le-LAST_LEAD-via-then-unit-le-LAST_LEAD+then-at-v+else-is_trail_unit}
 use Rattle.wtf8.proofs.from_utf16.decode.read_point.Goals.{else-unit-le-LAST_LEAD-via-then-unit-le-LAST_LEAD+else-at-v}

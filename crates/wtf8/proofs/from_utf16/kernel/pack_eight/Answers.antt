@@ -15,15 +15,20 @@ overflow_cast-last c =
     rw c.requires.later.last (Each1-map_all _ last_byte (λ x. grind (arith, nat_tests)) (tagged_block c.args.units))
 
 pub overflow_cast-above_one : goal.overflow_cast-above_one
-overflow_cast-above_one c = rw c.flags_from-above_one.ensures (Each1-map_all _ (flag_from 0x80) (λ x. grind (arith, nat_tests)) c.args.units)
+overflow_cast-above_one c =
+    rw c.flags_from-above_one.ensures (Each1-map_all _ (flag_from 0x80) (λ x. grind (arith, nat_tests)) c.args.units)
 
 pub overflow_cast-three : goal.overflow_cast-three
 overflow_cast-three c =
     rw c.requires.later.long (Each1-map_all _ three_byte_flag (λ x. grind (arith, nat_tests)) (tagged_block c.args.units))
 
 pub pack_four-requires-clause-number : goal.pack_four-requires-clause-number
-pack_four-requires-clause-number c = grind (arith, units_table_index_bound, block-table_indexes c.args.units _ _ c.fits-units.0
-    c.flags_from-above_one.ensures c.requires.later.long)
+pack_four-requires-clause-number c = grind (
+  arith,
+  units_table_index_bound,
+  block-table_indexes c.args.units _ _ c.fits-units.0
+      c.flags_from-above_one.ensures c.requires.later.long,
+)
 
 pub returns-clause-bytes : goal.returns-clause-bytes
 returns-clause-bytes c =

@@ -15,7 +15,8 @@ pub returns-then-first-lt128 : goal.returns-then-first-lt128
 returns-then-first-lt128 c h =
     let low = c.if-first-lt128.true in
     steps_one c.args.bytes.now c.args.position.now h c.from.result 1 c.split_at.ensures.back c.requires.inside
-    (record { start = inl low }) (omega (arith, c.from.ensures, low)) (λ b. let f = b.by_lead in (omega (arith, c.from.ensures), omega arith))
+    (record { start = inl low }) (omega (arith, c.from.ensures, low))
+    (λ b. let f = b.by_lead in (omega (arith, c.from.ensures), omega arith))
 
 pub read_two-requires-clause-front : goal.read_two-requires-clause-front
 read_two-requires-clause-front c =

@@ -1,4 +1,4 @@
-use Rattle.wtf8.proofs.Common.{◌≡◌, ◌<◌, ◌+◌, ℕ, List, [], ◌∷◌, ◌++◌, length, get_or, Bool, false, cond, Some, refl, ap, ◌∙◌, sym, subst}
+use Rattle.wtf8.proofs.Common.{◌≡◌, ◌<◌, ◌+◌, ℕ, List, [], ◌∷◌, ◌++◌, length, get_or, cond, Some, refl, ap, ◌∙◌, sym, subst}
 use Rattle.wtf8.proofs.Common.{arith, append_assoc, All, Step, Run, CallsAppend, IsNoTruncation, Build, ◌≤◌, take, drop, inl, inr}
 use Rattle.wtf8.proofs.Common.{false≢true, cases_lt, append-nil, IsForm, EachCallFits, All-nil, All-cons, take_all, All-get_or, FitWithin}
 use Rattle.wtf8.proofs.Common.{none-some, LeavesReserved, Reserve, rules, length-append}

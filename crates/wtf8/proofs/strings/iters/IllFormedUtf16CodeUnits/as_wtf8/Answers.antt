@@ -1,5 +1,5 @@
-use Rattle.wtf8.proofs.Common.{◌≡◌, ℕ, ◌∙◌, ◌++◌, inl, inr, List, [], ◌∷◌, refl, sym, ap, arith, length, drop, units, held_trail}
-use Rattle.wtf8.proofs.Common.{after_held_trail, is_continuation, cases_Bool}
+use Rattle.wtf8.proofs.Common.{◌≡◌, ℕ, ◌∙◌, ◌++◌, List, [], ◌∷◌, refl, sym, ap, arith, length, drop, units, held_trail}
+use Rattle.wtf8.proofs.Common.{after_held_trail, cases_Bool}
 use Rattle.wtf8.proofs.lemmas.codec.Readings.{IsWellFormed-equal_bytes}
 use Rattle.wtf8.proofs.strings.iters.IllFormedUtf16CodeUnits.as_wtf8.Goals.{After-split_at}
 use Rattle.wtf8.proofs.strings.iters.IllFormedUtf16CodeUnits.as_wtf8.Goals as goal

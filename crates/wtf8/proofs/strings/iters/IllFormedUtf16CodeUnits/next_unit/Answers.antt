@@ -1,4 +1,4 @@
-use Rattle.wtf8.proofs.Common.{◌≡◌, ◌∙◌, List, ℕ, [], ◌∷◌, ◌++◌, drop, arith, ap, sym, refl, length-drop, units, Unread, unread_units}
+use Rattle.wtf8.proofs.Common.{◌∙◌, List, ℕ, [], ◌∷◌, ◌++◌, drop, arith, ap, sym, refl, length-drop, units, Unread, unread_units}
 use Rattle.wtf8.proofs.Common.{held_trail, unread_after}
 use Rattle.wtf8.proofs.lemmas.codec.Readings.{same_points}
 use Rattle.wtf8.proofs.lemmas.strings.UnitCuts.{nothing_held_at_end}

@@ -1,4 +1,4 @@
-use Rattle.wtf8.proofs.Common.{◌≡◌, ℕ, ◌+◌, ◌*◌, inl, inr, List, [], ◌∷◌, length, ap, drop, arith, length-drop, cases_Bool, bytes}
+use Rattle.wtf8.proofs.Common.{◌≡◌, ℕ, ◌+◌, ◌*◌, List, [], ◌∷◌, length, ap, drop, arith, length-drop, cases_Bool, bytes}
 use Rattle.wtf8.proofs.Common.{IsWellFormed, held_trail, after_held_trail}
 use Rattle.wtf8.proofs.lemmas.codec.Readings.{lists_have_lengths}
 use Rattle.wtf8.proofs.strings.iters.IllFormedUtf16CodeUnits.unread_bytes.Goals as goal

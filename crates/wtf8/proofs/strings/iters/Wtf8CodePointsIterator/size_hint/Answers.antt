@@ -1,4 +1,4 @@
-use Rattle.wtf8.proofs.Common.{arith, ap, length, length-drop, ◌∙◌, rules, sym}
+use Rattle.wtf8.proofs.Common.{arith, ap, length, length-drop, ◌∙◌, rules}
 use Rattle.wtf8.proofs.lemmas.codec.Readings.{lists_have_lengths}
 use Rattle.wtf8.proofs.strings.iters.Wtf8CodePointsIterator.size_hint.Goals as goal
 

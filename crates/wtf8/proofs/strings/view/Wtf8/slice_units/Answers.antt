@@ -1,5 +1,5 @@
-use Rattle.wtf8.proofs.Common.{nat_tests, ◌≤◌, ◌≡◌, ◌∙◌, ◌+◌, ◌-◌, [], ◌++◌, ap, sym, subst, length, take, arith, length-append}
-use Rattle.wtf8.proofs.Common.{length-drop, length-take, drop, drop_all, units, view_units, drop-take, option_to_list, DividesPair}
+use Rattle.wtf8.proofs.Common.{nat_tests, ◌≤◌, ◌≡◌, ◌∙◌, ◌+◌, ◌-◌, [], ◌++◌, ap, sym, length, take, arith, length-append}
+use Rattle.wtf8.proofs.Common.{length-drop, length-take, drop, drop_all, units, view_units, drop-take, option_to_list}
 use Rattle.wtf8.proofs.Common.{take-append-add, ℕ, Option, None, Some, refl}
 use Rattle.wtf8.proofs.lemmas.codec.Readings.{points-nil}
 use Rattle.wtf8.proofs.lemmas.strings.UnitCuts.{divides_after}
