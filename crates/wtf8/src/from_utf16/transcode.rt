@@ -60,9 +60,10 @@ fn append_point<A: Allocator>(
     if unit < 0x800 {
         // Letters of most alphabets: never a surrogate, and at most two bytes.
         encoding::append(bytes, decode::point_of_unit(unit))?;
-        let mut to = from;
-        to.at += 1;
-        return Ok(to);
+        return Ok(Progress {
+            at: from.at + 1,
+            is_utf8: from.is_utf8,
+        });
     }
     let (code_point, at, is_scalar) = decode::read_point(v, from.at);
     encoding::append(bytes, code_point)?;
