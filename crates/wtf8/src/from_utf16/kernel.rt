@@ -19,10 +19,10 @@
 // for units 4-7. A row is a shuffle that packs the bytes to be written: 4, and one more for each set bit of its index.
 #![tactic(auto, using(crate::proofs::lemmas::lanes::AsciiFronts::by_all))]
 
-ghost use Rattle.std.specs.Prelude.{◌≡◌, ◌⊎◌, ℕ, List, Bool, ◌&&◌, ◌+◌, ◌-◌, ◌*◌, ◌%◌, ◌/◌, ◌^◌, ◌<◌, ◌≤◌, ◌++◌, length, map, take, slice_index_or, IfOk, IsTrue, nat_lt, if◌then◌else◌};
+ghost use Rattle.std.specs.Prelude.{◌≡◌, ◌⊎◌, ℕ, List, Bool, ◌&&◌, ◌+◌, ◌-◌, ◌*◌, ◌%◌, ◌/◌, ◌^◌, ◌<◌, ◌≤◌, ◌++◌, length, map, take, slice_index_or, vec_capacity, IfOk, IsOk, IsTrue, nat_lt, if◌then◌else◌};
 ghost use lib.Lanes.{Each1};
 ghost use Rattle.wtf8.specs.Unicode.{IsLead, IsUnit};
-ghost use Rattle.wtf8.specs.private.Prefixes.{AreScalarUnits, IsReadTo};
+ghost use Rattle.wtf8.specs.private.Prefixes.{AreScalarUnits, HasRoomFrom, ReadsOn};
 ghost use Rattle.wtf8.specs.private.PackedUnits.{tagged_block, first_byte, scalar_second_byte, scalar_last_byte, byte_lanes, units_table_index, AreLaterBytes, packed_units};
 
 use crate::codec::surrogates::{FIRST_LEAD, FIRST_TRAIL, SURROGATES_PER_HALF};
@@ -268,7 +268,8 @@ fn write_blocks(v: &[u16], at: usize, scratch: &mut [u8]) -> (usize, Progress)
     requires room { MIN_SPARE ≤ length scratch.old }
     ensures order { at < result.1.at }
     ensures within { result.0 ≤ length scratch.new }
-    ensures read { (w : List ℕ) (known : Bool) → IsReadTo w v.now at known → IsReadTo (w ++ take result.0 scratch.new) v.now result.1.at (known && result.1.is_utf8) }
+    ensures units { result.1.at ≤ length v.now }
+    ensures read { (w : List ℕ) (known : Bool) → ReadsOn w (w ++ take result.0 scratch.new) v.now at known result.1.at (known && result.1.is_utf8) }
 {
     let room = (scratch.len() - MIN_SPARE) / MAX_BLOCK_BYTES + 1;
     let blocks = ((v.len() - at) / BLOCK_UNITS).min(room);
@@ -294,9 +295,11 @@ pub(crate) fn append_blocks<const SCRATCH: usize, A: Allocator>(
 ) -> Result<Progress, AllocError>
     requires room { (MIN_SPARE ≤ SCRATCH) × (SCRATCH < 2 ^ 16) }
     requires within { from.at + BLOCK_UNITS ≤ length v.now }
-    requires read { IsReadTo bytes.old.items v.now from.at from.is_utf8 }
-    ensures order { IfOk result (λ to. from.at < to.at) }
-    ensures read { IfOk result (λ to. IsReadTo bytes.new.items v.now to.at to.is_utf8) }
+    ensures order { IfOk result (λ to. (from.at < to.at) × (to.at ≤ length v.now)) }
+    ensures read { IfOk result (λ to. ReadsOn bytes.old.items bytes.new.items v.now from.at from.is_utf8 to.at to.is_utf8) }
+    ensures begins { take (length bytes.old.items) bytes.new.items ≡ bytes.old.items }
+    ensures room { HasRoomFrom bytes.old v.now from.at from.is_utf8 → IsOk result }
+    ensures capacity { vec_capacity bytes.old ≤ vec_capacity bytes.new }
 {
     let mut scratch = [0; SCRATCH];
     let scratch = &mut scratch[..];

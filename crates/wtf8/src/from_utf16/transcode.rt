@@ -1,13 +1,14 @@
 // Encodes code units in steps, by what the next units are: an ASCII run of up to 32, 16 or 8 units and the code point
 // after it, blocks of `kernel`, or one code point. `decode_utf16` decodes the last units, fewer than 8.
-ghost use Rattle.std.specs.Prelude.{◌≡◌, [], true, ◌+◌, ◌^◌, ◌<◌, ◌≤◌, length, map, min, IfOk, IsOk};
-ghost use Rattle.wtf8.specs.private.Prefixes.{IsKnownForm, IsReadTo};
+ghost use Rattle.std.specs.Prelude.{◌≡◌, ℕ, List, ◌++◌, ◌+◌, ◌^◌, ◌<◌, ◌≤◌, length, take, map, min, vec_capacity, IfOk, IsOk};
+ghost use Rattle.wtf8.specs.private.Prefixes.{IsKnownForm, IsReadTo, ReadsOn, HasRoomFrom};
 
 use crate::codec::code_point::CodePoint;
 use crate::codec::encoding;
 use crate::from_utf16::decode;
 use crate::from_utf16::kernel::{self, MIN_SPARE, Progress};
 use crate::lanes::ascii::ascii_run_len;
+use crate::vec::capacity::spare_capacity;
 use std::alloc::{AllocError, Allocator};
 use std::simd::prelude::*;
 
@@ -52,9 +53,11 @@ fn append_point<A: Allocator>(
     from: Progress,
 ) -> Result<Progress, AllocError>
     requires within { from.at < length v.now }
-    requires read { IsReadTo bytes.old.items v.now from.at from.is_utf8 }
-    ensures order { IfOk result (λ to. from.at < to.at) }
-    ensures read { IfOk result (λ to. IsReadTo bytes.new.items v.now to.at to.is_utf8) }
+    ensures order { IfOk result (λ to. (from.at < to.at) × (to.at ≤ length v.now)) }
+    ensures read { IfOk result (λ to. ReadsOn bytes.old.items bytes.new.items v.now from.at from.is_utf8 to.at to.is_utf8) }
+    ensures begins { take (length bytes.old.items) bytes.new.items ≡ bytes.old.items }
+    ensures room { HasRoomFrom bytes.old v.now from.at from.is_utf8 → IsOk result }
+    ensures capacity { vec_capacity bytes.old ≤ vec_capacity bytes.new }
 {
     let unit = v[from.at];
     if unit < 0x800 {
@@ -72,7 +75,7 @@ fn append_point<A: Allocator>(
 }
 
 /// Appends the ASCII run at the front of the `N` units at index `from.at`, and the code point after it if the run is
-/// shorter than `N`. Returns how far units are encoded.
+/// shorter than `N`; one code point if the spare capacity is less than `N`. Returns how far units are encoded.
 #[inline(always)]
 fn append_ascii_run<const N: usize, A: Allocator>(
     bytes: &mut Vec<u8, A>,
@@ -81,10 +84,16 @@ fn append_ascii_run<const N: usize, A: Allocator>(
 ) -> Result<Progress, AllocError>
     requires lanes { (0 < N) × (N ≤ u64.BITS) }
     requires within { from.at + N ≤ length v.now }
-    requires read { IsReadTo bytes.old.items v.now from.at from.is_utf8 }
-    ensures order { IfOk result (λ to. from.at < to.at) }
-    ensures read { IfOk result (λ to. IsReadTo bytes.new.items v.now to.at to.is_utf8) }
+    ensures order { IfOk result (λ to. (from.at < to.at) × (to.at ≤ length v.now)) }
+    ensures read { IfOk result (λ to. ReadsOn bytes.old.items bytes.new.items v.now from.at from.is_utf8 to.at to.is_utf8) }
+    ensures begins { take (length bytes.old.items) bytes.new.items ≡ bytes.old.items }
+    ensures room { HasRoomFrom bytes.old v.now from.at from.is_utf8 → IsOk result }
+    ensures capacity { vec_capacity bytes.old ≤ vec_capacity bytes.new }
 {
+    if spare_capacity(bytes) < N {
+        // A store of `N` bytes would request memory, even if the run's bytes fit.
+        return append_point(bytes, v, from);
+    }
     let block = narrow_saturating(Simd::<u16, N>::from_slice(&v[from.at..]));
     let count = ascii_run_len(block);
     let end = bytes.len() + count;
@@ -111,9 +120,11 @@ fn append_next<const RUN: usize, const SCRATCH: usize, A: Allocator>(
     requires lanes { (SMALL_BLOCK ≤ RUN) × (RUN ≤ u64.BITS) }
     requires room { (MIN_SPARE ≤ SCRATCH) × (SCRATCH < 2 ^ 16) }
     requires within { from.at + RUN ≤ length v.now }
-    requires read { IsReadTo bytes.old.items v.now from.at from.is_utf8 }
-    ensures order { IfOk result (λ to. from.at < to.at) }
-    ensures read { IfOk result (λ to. IsReadTo bytes.new.items v.now to.at to.is_utf8) }
+    ensures order { IfOk result (λ to. (from.at < to.at) × (to.at ≤ length v.now)) }
+    ensures read { IfOk result (λ to. ReadsOn bytes.old.items bytes.new.items v.now from.at from.is_utf8 to.at to.is_utf8) }
+    ensures begins { take (length bytes.old.items) bytes.new.items ≡ bytes.old.items }
+    ensures room { HasRoomFrom bytes.old v.now from.at from.is_utf8 → IsOk result }
+    ensures capacity { vec_capacity bytes.old ≤ vec_capacity bytes.new }
 {
     let at = from.at;
     if v[at] < 0x80 {
@@ -135,9 +146,11 @@ fn append_small_block<A: Allocator>(
     from: Progress,
 ) -> Result<Progress, AllocError>
     requires within { from.at + SMALL_BLOCK ≤ length v.now }
-    requires read { IsReadTo bytes.old.items v.now from.at from.is_utf8 }
-    ensures order { IfOk result (λ to. from.at < to.at) }
-    ensures read { IfOk result (λ to. IsReadTo bytes.new.items v.now to.at to.is_utf8) }
+    ensures order { IfOk result (λ to. (from.at < to.at) × (to.at ≤ length v.now)) }
+    ensures read { IfOk result (λ to. ReadsOn bytes.old.items bytes.new.items v.now from.at from.is_utf8 to.at to.is_utf8) }
+    ensures begins { take (length bytes.old.items) bytes.new.items ≡ bytes.old.items }
+    ensures room { HasRoomFrom bytes.old v.now from.at from.is_utf8 → IsOk result }
+    ensures capacity { vec_capacity bytes.old ≤ vec_capacity bytes.new }
 {
     if v[from.at] < 0x80 {
         return append_ascii_run::<SMALL_BLOCK, A>(bytes, v, from);
@@ -145,16 +158,22 @@ fn append_small_block<A: Allocator>(
     kernel::append_blocks::<TAIL_SCRATCH_BYTES, A>(bytes, v, from)
 }
 
-/// Appends the bytes of units to an empty buffer until fewer than `SMALL_BLOCK` are left. Returns how far units are
+/// Appends the bytes of units from index `from.at` on, until fewer than `SMALL_BLOCK` are left. Returns how far units are
 /// encoded. With these loops in `append_utf16` itself, 40 units whose ends join take 1.4% more instructions.
 #[inline(always)]
-fn append_steps<A: Allocator>(bytes: &mut Vec<u8, A>, v: &[u16]) -> Result<Progress, AllocError>
-    requires { bytes.old.items ≡ [] }
-    ensures read { IfOk result (λ to. IsReadTo bytes.new.items v.now to.at to.is_utf8) }
-    ensures empty { v.now ≡ [] → IsOk result }
+fn append_steps<A: Allocator>(
+    bytes: &mut Vec<u8, A>,
+    v: &[u16],
+    from: Progress,
+) -> Result<Progress, AllocError>
+    requires within { from.at ≤ length v.now }
+    ensures order { IfOk result (λ to. to.at ≤ length v.now) }
+    ensures read { IfOk result (λ to. ReadsOn bytes.old.items bytes.new.items v.now from.at from.is_utf8 to.at to.is_utf8) }
+    ensures begins { take (length bytes.old.items) bytes.new.items ≡ bytes.old.items }
+    ensures room { HasRoomFrom bytes.old v.now from.at from.is_utf8 → IsOk result }
+    ensures capacity { vec_capacity bytes.old ≤ vec_capacity bytes.new }
 {
-    let at = 0;
-    let mut read = Progress { at, is_utf8: true };
+    let mut read = from;
     while LONG_LIST <= v.len() - read.at {
         read = append_next::<ASCII_BLOCK, LONG_SCRATCH_BYTES, A>(bytes, v, read)?;
     }
@@ -170,7 +189,8 @@ fn append_steps<A: Allocator>(bytes: &mut Vec<u8, A>, v: &[u16]) -> Result<Progr
     Ok(read)
 }
 
-/// Appends the bytes of all units from index `from.at` on. Returns whether the whole list holds no lone surrogate.
+/// Appends the bytes of all units from index `from.at` on. Returns whether `from.is_utf8` and none of them is a lone
+/// surrogate.
 ///
 /// `decode_utf16` joins each pair, so it yields no trail directly after a lead, and `append` has nothing to join.
 #[inline(always)]
@@ -179,9 +199,11 @@ fn append_rest<A: Allocator>(
     v: &[u16],
     from: Progress,
 ) -> Result<bool, AllocError>
-    requires { IsReadTo bytes.old.items v.now from.at from.is_utf8 }
-    ensures ok { IfOk result (λ known. IsKnownForm bytes.new.items v.now known) }
-    ensures empty { v.now ≡ [] → IsOk result }
+    requires within { from.at ≤ length v.now }
+    ensures ok { IfOk result (λ known. (front : List ℕ) → IsReadTo bytes.old.items front v.now from.at from.is_utf8 → IsKnownForm bytes.new.items (front ++ v.now) known) }
+    ensures begins { take (length bytes.old.items) bytes.new.items ≡ bytes.old.items }
+    ensures room { HasRoomFrom bytes.old v.now from.at from.is_utf8 → IsOk result }
+    ensures capacity { vec_capacity bytes.old ≤ vec_capacity bytes.new }
 {
     let mut is_utf8 = from.is_utf8;
     for item in decode::decode_utf16(v[from.at..].iter().copied()) {
@@ -196,15 +218,19 @@ fn append_rest<A: Allocator>(
     Ok(is_utf8)
 }
 
-/// Appends the WTF-8 form of units to an empty buffer. Returns whether the units hold no lone surrogate.
+/// Appends the bytes of all units from index `from.at` on, after bytes with which they form no pair. Returns whether
+/// `from.is_utf8` and none of them is a lone surrogate. If memory is refused, more bytes may have been appended.
 pub(crate) fn append_utf16<A: Allocator>(
     bytes: &mut Vec<u8, A>,
     v: &[u16],
+    from: Progress,
 ) -> Result<bool, AllocError>
-    requires { bytes.old.items ≡ [] }
-    ensures ok { IfOk result (λ known. IsKnownForm bytes.new.items v.now known) }
-    ensures empty { v.now ≡ [] → IsOk result }
+    requires within { from.at ≤ length v.now }
+    ensures ok { IfOk result (λ known. (front : List ℕ) → IsReadTo bytes.old.items front v.now from.at from.is_utf8 → IsKnownForm bytes.new.items (front ++ v.now) known) }
+    ensures begins { take (length bytes.old.items) bytes.new.items ≡ bytes.old.items }
+    ensures room { HasRoomFrom bytes.old v.now from.at from.is_utf8 → IsOk result }
+    ensures capacity { vec_capacity bytes.old ≤ vec_capacity bytes.new }
 {
-    let read = append_steps(bytes, v)?;
+    let read = append_steps(bytes, v, from)?;
     append_rest(bytes, v, read)
 }

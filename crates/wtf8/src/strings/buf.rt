@@ -18,6 +18,7 @@ ghost use Rattle.wtf8.specs.View.{view_points, view_units};
 
 use crate::codec::code_point::CodePoint;
 use crate::codec::encoding;
+use crate::from_utf16::kernel::Progress;
 use crate::from_utf16::transcode;
 use crate::lanes::search;
 use crate::strings::concat;
@@ -142,7 +143,7 @@ impl<A: Allocator> Wtf8Buf<A> {
         ensures empty { v.now ≡ [] → IsOk result }
     {
         let mut bytes = Vec::with_capacity(alloc, v.len())?;
-        let is_utf8 = transcode::append_utf16(&mut bytes, v)?;
+        let is_utf8 = transcode::append_utf16(&mut bytes, v, Progress { at: 0, is_utf8: true })?;
         Ok(from_well_formed(bytes, Utf8Prefix::new(is_utf8)))
     }
 

@@ -53,6 +53,13 @@ ends_with-uncons p q c (x ∷ f) l e = (f, ap (drop 1) e)
 pub MeetsAsPair-uncons : (p q : ℕ) (c d : List ℕ) → MeetsAsPair (p ∷ q ∷ c) d → MeetsAsPair (q ∷ c) d
 MeetsAsPair-uncons p q c d m = grind (arith, ends_with-uncons)
 
+-- a pair at the seam after joined lists is a pair after the second of them, unless that is empty
+pub MeetsAsPair-back : (f c d : List ℕ) → 0 < length c → MeetsAsPair (f ++ c) d → MeetsAsPair c d
+MeetsAsPair-back [] c d n m = m
+MeetsAsPair-back (p ∷ []) [] d n m = absurd (omega (arith, n))
+MeetsAsPair-back (p ∷ []) (q ∷ c) d n m = MeetsAsPair-uncons p q c d m
+MeetsAsPair-back (p ∷ q ∷ f) c d n m = MeetsAsPair-back (q ∷ f) c d n (MeetsAsPair-uncons p q (f ++ c) d m)
+
 -- it is decidable whether two lists meet as a pair
 pub meets_or_not : (c d : List ℕ) → MeetsAsPair c d ⊎ ¬ (MeetsAsPair c d)
 meets_or_not [] d = inr unpaired-nil_left

@@ -5,7 +5,7 @@ use Rattle.wtf8.proofs.Common.{point_of_item, map, decode_steps, ReadsAll, IsCle
 use Rattle.wtf8.proofs.Common.{IsSurrogate, MatchResult, units, pair, MatchOption, IfSome, Bool, IsTrue, ◌≢◌, AreScalar, IsKnownForm, bytes}
 use Rattle.wtf8.proofs.Common.{encoding, map-append, take-append-drop, ◌≤◌, append_assoc, length-append}
 use Rattle.wtf8.proofs.Common.{length-drop, take_all, DividesPair, copied_steps, iter_steps, iter_rest, common_steps}
-use Rattle.wtf8.proofs.Common.{get_or-drop}
+use Rattle.wtf8.proofs.Common.{get_or-drop, ◌&&◌, IsForm, MeetsAsPair, take-add, take_at}
 use Rattle.std.proofs.lemmas.List.{drop_more, nil_from_length}
 use Rattle.std.specs.Iterator.{Yields}
 use Rattle.std.specs.Iterator.Adapters.{peekable_source, PeekedOrNext, PeeksNext, copied_source}
@@ -19,14 +19,23 @@ use Rattle.wtf8.specs.Unicode.{units_of}
 use Rattle.wtf8.specs.private.Decoding.{DecodesItem}
 use Rattle.wtf8.specs.declared.from_utf16.decode.DecodeUtf16.{DecodeUtf16}
 use Rattle.wtf8.proofs.lemmas.codec.Encoding.{bytes-append}
-use Rattle.wtf8.proofs.lemmas.from_utf16.Transcode.{IsKnownForm-append, undivided-after_no_lead}
-use Rattle.wtf8.proofs.lemmas.codec.Readings.{lengths_of_one, units_one, units_pair}
+use Rattle.wtf8.proofs.lemmas.from_utf16.Transcode.{IsKnownForm-append, IsReadTo-append, MeetsAsPair-take, undivided-after_no_lead}
+use Rattle.wtf8.proofs.lemmas.codec.Readings.{form_append-unpaired, units_one, units_pair}
 
 module _ {S A : Type 0} (steps : S → Option A → S → Type 0) where
   -- if each call from `t` is also a call from `s`, draining `t` is draining `s`
   Drains-from_steps : (s t : S) (xs : List A) → ((r : Option A) (u : S) → steps t r u → steps s r u) → Drains steps t xs → Drains steps s xs
   Drains-from_steps s t [] on d = (d.0, (s, refl, on None d.0 (subst (λ k. steps k None d.0) (sym d.1.1) d.1.2)))
   Drains-from_steps s t (x ∷ xs) on d = (d.0, (d.1.0, (d.1.1.0, on (Some x) d.1.1.0 d.1.1.1, d.1.1.2), d.1.2))
+
+  yields-from_steps : (s t e : S) (xs : List A) → ((r : Option A) (u : S) → steps t r u → steps s r u) → Yields steps t xs e
+      → (f : S) × Yields steps s xs f
+  yields-from_steps s t e [] on y = (s, refl)
+  yields-from_steps s t e (x ∷ xs) on y = (e, (y.0, on (Some x) y.0 y.1, y.2))
+
+  pub yields-append : (s t e : S) (xs ys : List A) → Yields steps s xs t → Yields steps t ys e → Yields steps s (xs ++ ys) e
+  yields-append s t e [] ys y z = subst (λ k. Yields steps k ys e) (sym y) z
+  yields-append s t e (x ∷ xs) ys y z = (y.0, y.1, yields-append y.0 t e xs ys y.2 z)
 
   drains-append : (s t : S) (xs ys : List A) → Yields steps s xs t → Drains steps t ys → Drains steps s (xs ++ ys)
   drains-append s t [] ys y d = subst (λ k. Drains steps k ys) (sym y) d
@@ -65,40 +74,59 @@ module _ {S : Type 0} (steps : S → Option ℕ → S → Type 0) where
   clean-cons p (q ∷ c) range clean unpaired = (range, unpaired q c refl, clean)
 
   -- if the peeked unit is no trail, the next code point is none
-  lone_lead : (s : Ahead S ℕ) (q : ℕ) (d : List ℕ) → IsSomeAnd (peekable_peeked s) (λ o. IfSome o (λ u. ¬ (IsTrail u)))
-      → Drains (peekable_steps steps) s (units (q ∷ d)) → ¬ (IsTrail q)
-  lone_lead s q d lone drains trail =
-      let first = subst (λ u. Drains (peekable_steps steps) s u) (ap (λ u. u ++ units d) (units_one q (omega (arith, trail)))) drains in
-      grind (arith, first.1.1.1.1)
+  lone_lead : (s e : Ahead S ℕ) (q : ℕ) (d : List ℕ) → IsSomeAnd (peekable_peeked s) (λ o. IfSome o (λ u. ¬ (IsTrail u)))
+      → Yields (peekable_steps steps) s (units (q ∷ d)) e → ¬ (IsTrail q)
+  lone_lead s e q d lone taken trail =
+      let first = subst (λ u. Yields (peekable_steps steps) s u e) (ap (λ u. u ++ units d) (units_one q (omega (arith, trail)))) taken in
+      grind (arith, first.1)
 
-  pub record ReadsLeft (s : Ahead S ℕ) (items : List (Result ℕ ℕ)) : Type 0 where
+  -- the units of the items came from `s`, and then `after` was left
+  pub record ReadsItems (s : Ahead S ℕ) (items : List (Result ℕ ℕ)) : Type 0 where
     pub clean : IsClean (map point_of_item items)
-    pub all_units : Drains (peekable_steps steps) s (units (map point_of_item items))
+    pub after : Ahead S ℕ
+    pub taken : Yields (peekable_steps steps) s (units (map point_of_item items)) after
 
-  reads_left : (items : List (Result ℕ ℕ)) (s : DecodeUtf16 S) → Drains (decode_steps steps) s items → ReadsLeft s.units items
-  reads_left [] s d = record { clean = tt; all_units = (d.0.units, (d.1.0.units, ap (λ (k : DecodeUtf16 S). k.units) d.1.1, d.1.2)) }
-  reads_left (x ∷ items) s d =
-      let next = d.1.1.0 in
-      let item : DecodesItem steps s.units x next.units = d.1.1.1 in
-      let rest = reads_left items next (d.0, (d.1.0, d.1.1.2, d.1.2)) in
-      let after : Drains (peekable_steps steps) item.after (units (map point_of_item items)) = elim item.held [
-        | inl e ↦ subst (λ k. Drains (peekable_steps steps) k (units (map point_of_item items))) e rest.all_units
-        | inr h ↦ Drains-from_steps (peekable_steps steps) item.after next.units (units (map point_of_item items))
-            (λ r u. peeked_call item.after next.units u r h) rest.all_units
+  pub reads_items : (items : List (Result ℕ ℕ)) (s t : DecodeUtf16 S) → Yields (decode_steps steps) s items t → ReadsItems s.units items
+  reads_items [] s t y = record { clean = tt; after = s.units; taken = refl }
+  reads_items (x ∷ items) s t y =
+      let next = y.0 in
+      let item : DecodesItem steps s.units x next.units = y.1 in
+      let rest = reads_items items next t y.2 in
+      let more : (e : Ahead S ℕ) × Yields (peekable_steps steps) item.after (units (map point_of_item items)) e = elim item.held [
+        | inl e ↦ (rest.after, subst (λ k. Yields (peekable_steps steps) k (units (map point_of_item items)) rest.after) e rest.taken)
+        | inr h ↦ yields-from_steps (peekable_steps steps) item.after next.units rest.after (units (map point_of_item items))
+            (λ r u. peeked_call item.after next.units u r h) rest.taken
       ] in
       record {
         clean = clean-cons (point_of_item x) (map point_of_item items) (item_range x item.kind) rest.clean
-            (λ q c e pair. lone_lead next.units q c (item.lone pair.0)
-            (subst (λ v. Drains (peekable_steps steps) next.units (units v)) e rest.all_units) pair.1);
-        all_units = drains-append (peekable_steps steps) s.units item.after (units_of (point_of_item x))
-            (units (map point_of_item items)) item.taken after;
+            (λ q c e pair. lone_lead next.units rest.after q c (item.lone pair.0)
+            (subst (λ v. Yields (peekable_steps steps) next.units (units v) rest.after) e rest.taken) pair.1);
+        after = more.0;
+        taken = yields-append (peekable_steps steps) s.units item.after more.0 (units_of (point_of_item x))
+            (units (map point_of_item items)) item.taken more.1;
       }
+
+  drains_units : (items : List (Result ℕ ℕ)) (s : DecodeUtf16 S) → Drains (decode_steps steps) s items
+      → Drains (peekable_steps steps) s.units (units (map point_of_item items))
+  drains_units [] s d = (d.0.units, (d.1.0.units, ap (λ (k : DecodeUtf16 S). k.units) d.1.1, d.1.2))
+  drains_units (x ∷ items) s d =
+      let next = d.1.1.0 in
+      let item : DecodesItem steps s.units x next.units = d.1.1.1 in
+      let rest = drains_units items next (d.0, (d.1.0, d.1.1.2, d.1.2)) in
+      let after : Drains (peekable_steps steps) item.after (units (map point_of_item items)) = elim item.held [
+        | inl e ↦ subst (λ k. Drains (peekable_steps steps) k (units (map point_of_item items))) e rest
+        | inr h ↦ Drains-from_steps (peekable_steps steps) item.after next.units (units (map point_of_item items))
+            (λ r u. peeked_call item.after next.units u r h) rest
+      ] in
+      drains-append (peekable_steps steps) s.units item.after (units_of (point_of_item x)) (units (map point_of_item items)) item.taken after
 
   pub reads_all : (items : List (Result ℕ ℕ)) (s : DecodeUtf16 S) → peekable_peeked s.units ≡ None
       → Drains (decode_steps steps) s items → ReadsAll steps (peekable_source s.units) items
   reads_all items s e d =
-      let r = reads_left items s d in
-      record { clean = r.clean; all_units = drains_source s.units (units (map point_of_item items)) e r.all_units }
+      record {
+        clean = (reads_items items s d.1.0 d.1.1).clean;
+        all_units = drains_source s.units (units (map point_of_item items)) e (drains_units items s d);
+      }
 
   -- a unit that is no lead is one item
   pub item_of_unit : (s t : Ahead S ℕ) (u : ℕ) (x : Result ℕ ℕ) → MatchResult x (λ c. IsCodePoint c × ¬ (IsSurrogate c)) IsSurrogate
@@ -158,6 +186,14 @@ pub IsFirstRead-pair : (v : List ℕ) (at : ℕ) → at + 1 < length v → IsLea
     → IsFirstRead v at (at + 2) (pair (get_or v at 0) (get_or v (at + 1) 0))
 IsFirstRead-pair v at l lead trail = grind (arith, drop_more, undivided-after_no_lead, append-nil, units_pair)
 
+-- the first code point is encoded, if its encoding is appended
+pub IsReadTo-point : {w front v : List ℕ} {at end p : ℕ} {known scalar : Bool} → IsReadTo w front v at known → at < end → IsFirstRead v at end p
+    → (IsTrue scalar → ¬ (IsSurrogate p)) → IsReadTo (w ++ encoding p) front v end (known && scalar)
+IsReadTo-point {p = p} x order first scalar = IsReadTo-append x order first.within first.divides_no_pair refl (record {
+  form = record { points = p ∷ []; reads = first.reads; encoded = append-nil (encoding p) };
+  scalar = λ t. (scalar t, tt);
+})
+
 -- All items of a decoder over a slice.
 
 -- the units that a drained iterator yielded are the units that it had left
@@ -167,30 +203,25 @@ drained_units (x ∷ us) s d =
     let next = d.1.1.0 in
     ap (λ w. x ∷ w) (drained_units us next (d.0, (d.1.0, d.1.1.2, d.1.2))) ∙ sym (unit_left s next (Some x) d.1.1.1)
 
--- an empty slice yields no item
-pub no_item : (v : List ℕ) (at : ℕ) (items : List (Result ℕ ℕ)) (s k t : DecodeUtf16 (Copied (Iter ℕ))) (x : Result ℕ ℕ)
-    → peekable_peeked s.units ≡ None → slice_left s.units ≡ take (length v - at) (drop at v)
-    → Yields (decode_steps steps) s items k → DecodesItem steps k.units x t.units → v ≢ []
-no_item v at items s k t x none rest y item nothing = from items y
-  where
-    whole : slice_left s.units ≡ drop at v
-    whole = rest ∙ take_all (length v - at) (drop at v) (omega (arith, length-drop at v))
-
-    begun : (q : Result ℕ ℕ) (m : DecodeUtf16 (Copied (Iter ℕ))) → ¬ (DecodesItem steps s.units q m.units)
-    begun q m i =
-        let got = slice_left-yields (units_of (point_of_item q)) s.units i.after none i.taken in
-        omega (
-          arith,
-          (lengths_of_one (point_of_item q)).0,
-          ap length (sym got.0 ∙ whole),
-          ap length nothing,
-          length-drop at v,
-          length-append (units_of (point_of_item q)) (slice_left i.after),
-        )
-
-    from : (items : List (Result ℕ ℕ)) → ¬ (Yields (decode_steps steps) s items k)
-    from [] y = begun x t (subst (λ k. DecodesItem steps k.units x t.units) (sym y) item)
-    from (q ∷ items) y = begun q y.0 y.1
+-- the form of a front and the first units: the bytes so far, and the encodings of a decoder's first items
+pub form_of_items : {w front u : List ℕ} {at : ℕ} {known : Bool} (items : List (Result ℕ ℕ)) (s t : DecodeUtf16 (Copied (Iter ℕ)))
+    → IsReadTo w front u at known → peekable_peeked s.units ≡ None → slice_left s.units ≡ take (length u - at) (drop at u)
+    → Yields (decode_steps steps) s items t → (n : ℕ) × IsForm (w ++ bytes (map point_of_item items)) (front ++ take n u)
+form_of_items {w} {front} {u} {at} items s t x none rest y =
+    let points = map point_of_item items in
+    let r = reads_items steps items s t y in
+    let got = slice_left-yields (units points) s.units r.after none r.taken in
+    let count = length (units points) in
+    let whole : drop at u ≡ units points ++ slice_left r.after =
+    sym (rest ∙ take_all (length u - at) (drop at u) (omega (arith, length-drop at u))) ∙ got.0 in
+    let first : units points ≡ take count (drop at u) = sym (ap (take count) whole ∙ take_at (units points) (slice_left r.after) count refl) in
+    let unpaired : ¬ (MeetsAsPair (front ++ take at u) (units points)) =
+    λ m. x.divides_no_pair (MeetsAsPair-take (front ++ take at u) (drop at u) count (subst (MeetsAsPair (front ++ take at u)) first m)) in
+    let form : IsForm (bytes points) (units points) =
+    record { points = points; reads = record { clean = r.clean; same_units = refl }; encoded = refl } in
+    let joined : (front ++ take at u) ++ units points ≡ front ++ take (at + count) u =
+    append_assoc front (take at u) (units points) ∙ ap (λ z. front ++ z) (ap (λ z. take at u ++ z) first ∙ sym (take-add at count u)) in
+    (at + count, subst (IsForm (w ++ bytes points)) joined (form_append-unpaired w (bytes points) (front ++ take at u) (units points) x.form.form form unpaired))
 
 -- the encodings of all items after one more
 pub encoded_item : (w : List ℕ) {now new : List ℕ} (items : List (Result ℕ ℕ)) (x : Result ℕ ℕ) {p : ℕ}
@@ -199,11 +230,12 @@ pub encoded_item : (w : List ℕ) {now new : List ℕ} (items : List (Result ℕ
 encoded_item w {now} {new} items x {p} before added same = grind (arith, append_assoc, append-nil, bytes-append, map-append)
 
 -- the form of all units: the bytes so far, and the encodings of the decoder's items for the rest
-pub rest_read : {w new u : List ℕ} {at : ℕ} {known more : Bool} (items : List (Result ℕ ℕ)) (iter : Copied (Iter ℕ)) → IsReadTo w u at known
+pub rest_read : {w new front u : List ℕ} {at : ℕ} {known more : Bool} (items : List (Result ℕ ℕ)) (iter : Copied (Iter ℕ))
+    → IsReadTo w front u at known
     → iter_rest (copied_source iter) ≡ take (length u - at) (drop at u) → ReadsAll steps iter items
     → new ≡ w ++ bytes (map point_of_item items) → (IsTrue more → IsTrue known × AreScalar (map point_of_item items))
-    → IsKnownForm new u more
-rest_read {w} {new} {u} {at} {known} {more} items iter x rest reads appended flags =
+    → IsKnownForm new (front ++ u) more
+rest_read {w} {new} {front} {u} {at} {known} {more} items iter x rest reads appended flags =
     let points = map point_of_item items in
     let all : units points ≡ drop at u =
     drained_units (units points) iter reads.all_units ∙ rest ∙ take_all (length u - at) (drop at u) (omega (arith, length-drop at u)) in
@@ -211,6 +243,8 @@ rest_read {w} {new} {u} {at} {known} {more} items iter x rest reads appended fla
       form = record { points = points; reads = record { clean = reads.clean; same_units = all }; encoded = refl };
       scalar = λ t. (flags t).1;
     } in
-    let whole = IsKnownForm-append w (bytes points) (take at u) (drop at u) known more more x.form back x.divides_no_pair
+    let whole = IsKnownForm-append w (bytes points) (front ++ take at u) (drop at u) known more more x.form back x.divides_no_pair
     (λ t. ((flags t).0, t)) in
-    subst (λ v. IsKnownForm v u more) (sym appended) (subst (λ v. IsKnownForm (w ++ bytes points) v more) (take-append-drop at u) whole)
+    let joined : (front ++ take at u) ++ drop at u ≡ front ++ u =
+    append_assoc front (take at u) (drop at u) ∙ ap (λ z. front ++ z) (take-append-drop at u) in
+    subst (λ v. IsKnownForm v (front ++ u) more) (sym appended) (subst (λ v. IsKnownForm (w ++ bytes points) v more) joined whole)

@@ -2,15 +2,17 @@
 use Rattle.wtf8.proofs.Common.{◌≡◌, ℕ, zero, suc, ◌-◌, ◌%◌, ◌^◌, ◌<◌, ◌≤◌, eqb, Bool, true, false, cond, ◌&&◌, List, [], ◌∷◌, map, length}
 use Rattle.wtf8.proofs.Common.{replicate, Fits, refl, sym, ap, ◌∙◌, arith, and_parts, cases_Bool, Each1, zip2, mask_l, top}
 use Rattle.wtf8.proofs.Common.{AreAscii, IsSurrogate, ◌+◌, ◌/◌, ◌++◌, IsTrue, take, drop, get_or, subst, take-append-drop, common_steps}
-use Rattle.wtf8.proofs.Common.{length-chunk, MeetsAsPair, IsKnownForm, DividesPair, w16, get_or-drop, length-take, take-add, AreScalarUnits}
+use Rattle.wtf8.proofs.Common.{append_assoc, append-nil, length-chunk, MeetsAsPair, IsKnownForm, DividesPair, w16, get_or-drop, length-take, take-add, AreScalarUnits}
 use Rattle.wtf8.proofs.Common.{take-append-add, min, length-map, take-take, zip2_splat, IsLead, IsReadTo}
+use Rattle.wtf8.proofs.Common.{ReadsOn, HasRoomFrom, vec_capacity}
+use Rattle.std.specs.declared.vec.Vec.{Vec}
 use Rattle.std.proofs.Math.Bool.{and-true}
 use Rattle.std.proofs.Math.Seq.{take-suc}
 use Rattle.wtf8.proofs.lemmas.lanes.AsciiFronts.{saturated_front}
 use Rattle.std.proofs.lemmas.Bool.{eqb-false}
 use Rattle.std.proofs.lemmas.List.{get_or-take}
 use Rattle.std.proofs.lemmas.Simd.{bitmask_splat, map-map, Each1-get_or}
-use Rattle.wtf8.proofs.lemmas.codec.Readings.{form_append-unpaired, meets_by, unpaired-after_no_lead}
+use Rattle.wtf8.proofs.lemmas.codec.Readings.{form_append-unpaired, meets_by, unpaired-after_no_lead, MeetsAsPair-back}
 use Rattle.wtf8.proofs.lemmas.codec.Scalars.{IsKnownForm-ascii, scalar-append}
 
 -- Masks of blocks of units.
@@ -45,7 +47,7 @@ pub undivided-after_no_lead : (u : List ℕ) (j : ℕ) → j < length u → ¬ (
 undivided-after_no_lead u j within n = grind (arith, common_steps, take-suc, unpaired-after_no_lead)
 
 -- a pair at the seam with the first `n` units of `b` is a pair at the seam with `b`
-MeetsAsPair-take : (a b : List ℕ) (n : ℕ) → MeetsAsPair a (take n b) → MeetsAsPair a b
+pub MeetsAsPair-take : (a b : List ℕ) (n : ℕ) → MeetsAsPair a (take n b) → MeetsAsPair a b
 MeetsAsPair-take a b n m = grind (arith, common_steps, meets_by, take-append-drop)
 
 -- the form of a part appended to the form of the units before it, without a pair at the seam
@@ -56,45 +58,79 @@ IsKnownForm-append w v a b known more both x y n flags = record {
   scalar = λ t. scalar-append x.form.points y.form.points (x.scalar (flags t).0) (y.scalar (flags t).1);
 }
 
+-- no pair is divided after a front and more units if none is divided after these units alone
+undivided-after_front : (front u : List ℕ) (k : ℕ) → 0 < k → k ≤ length u → ¬ (DividesPair u k) → ¬ (MeetsAsPair (front ++ take k u) (drop k u))
+undivided-after_front front u k least within n m = n (MeetsAsPair-back front (take k u) (drop k u) (omega (arith, least, within, length-take k u)) m)
+
 -- the units up to `end` are encoded after the form of the units from `at` to `end` was appended
-pub IsReadTo-append : {w new u part : List ℕ} {at end : ℕ} {known more : Bool} → IsReadTo w u at known → at ≤ end → end ≤ length u
-    → ¬ (DividesPair u end) → new ≡ w ++ part → IsKnownForm part (take (end - at) (drop at u)) more → IsReadTo new u end (known && more)
-IsReadTo-append {w} {new} {u} {part} {at} {end} {known} {more} x order within divides_no_pair after form =
+pub IsReadTo-append : {w new front u part : List ℕ} {at end : ℕ} {known more : Bool} → IsReadTo w front u at known → at < end → end ≤ length u
+    → ¬ (DividesPair u end) → new ≡ w ++ part → IsKnownForm part (take (end - at) (drop at u)) more → IsReadTo new front u end (known && more)
+IsReadTo-append {w} {new} {front} {u} {part} {at} {end} {known} {more} x order within divides_no_pair after form =
     let back = take (end - at) (drop at u) in
     let count : end ≡ at + (end - at) = omega (arith, order) in
-    let whole = IsKnownForm-append w part (take at u) back known more
-    (known && more) x.form form (λ m. x.divides_no_pair (MeetsAsPair-take (take at u) (drop at u) (end - at) m)) (and_parts known more) in
+    let whole = IsKnownForm-append w part (front ++ take at u) back known more
+    (known && more) x.form form (λ m. x.divides_no_pair (MeetsAsPair-take (front ++ take at u) (drop at u) (end - at) m)) (and_parts known more) in
+    let units : (front ++ take at u) ++ back ≡ front ++ take end u =
+    append_assoc front (take at u) back ∙ ap (λ z. front ++ z) (sym (ap (λ k. take k u) count ∙ take-add at (end - at) u)) in
     record {
       within = within;
-      divides_no_pair = divides_no_pair;
-      form = subst (λ z. IsKnownForm z (take end u) (known && more)) (sym after)
-          (subst (λ z. IsKnownForm (w ++ part) z (known && more)) (sym (ap (λ k. take k u) count ∙ take-add at (end - at) u)) whole);
+      divides_no_pair = undivided-after_front front u end (omega (arith, order)) within divides_no_pair;
+      form = subst (λ z. IsKnownForm z (front ++ take end u) (known && more)) (sym after)
+          (subst (λ z. IsKnownForm (w ++ part) z (known && more)) units whole);
     }
 
 -- `n` units appended as bytes, FF for each above it, then cut after the first `k`: if these are ASCII, they are encoded
-pub front_read : {w long new u low : List ℕ} {at : ℕ} {known : Bool} (k n end : ℕ) → IsReadTo w u at known → k ≤ n → at + n ≤ length u
+pub front_read : {w long new f u low : List ℕ} {at : ℕ} {known : Bool} (k n end : ℕ) → IsReadTo w f u at known → k ≤ n → at + n ≤ length u
     → low ≡ map (λ n. min n 0xFF) (take n (drop at u)) → AreAscii (take k low) → long ≡ w ++ low → end ≡ length w + k → new ≡ take end long
-    → IsReadTo new u (at + k) known
-front_read {w = w} {new = new} {u = u} {low = low} {at = at} {known = known} k n end x few within saturated ascii longer cut front =
-    let block = take n (drop at u) in
-    let kept : take k low ≡ take k block = ap (take k) saturated ∙ saturated_front k block (subst AreAscii (ap (take k) saturated) ascii) in
-    let own : AreAscii (take k block) = subst AreAscii kept ascii in
-    let after = front ∙ ap (take end) longer ∙ ap (λ m. take m (w ++ low)) cut ∙ take-append-add w low k ∙ ap (λ v. w ++ v) kept in
-    let same : take k block ≡ take (at + k - at) (drop at u) = grind (arith, take-take) in
-    subst (IsReadTo new u (at + k)) (and-true known) (IsReadTo-append x (omega arith) (omega (arith, few, within)) (divides k few own) after
-    (subst (λ v. IsKnownForm (take k block) v true) same (IsKnownForm-ascii (take k block) own)))
+    → IsReadTo new f u (at + k) known
+front_read {w} {long} {new} {f} {u} {low} {at} {known} k n end x few within saturated ascii longer cut front = by k few ascii cut
   where
-    divides : (k : ℕ) → k ≤ n → AreAscii (take k (take n (drop at u))) → ¬ (DividesPair u (at + k))
-    divides zero few own = let here : at ≡ at + 0 = omega arith in subst (λ k. ¬ (DividesPair u k)) here x.divides_no_pair
-    divides (suc j) few own =
+    block : List ℕ
+    block = take n (drop at u)
+
+    kept : (k : ℕ) → AreAscii (take k low) → take k low ≡ take k block
+    kept k own = ap (take k) saturated ∙ saturated_front k block (subst AreAscii (ap (take k) saturated) own)
+
+    after : (k : ℕ) → AreAscii (take k low) → end ≡ length w + k → new ≡ w ++ take k block
+    after k own cut =
+        front ∙ ap (take end) longer ∙ ap (λ m. take m (w ++ low)) cut ∙ take-append-add w low k ∙ ap (λ v. w ++ v) (kept k own)
+
+    divides : (j : ℕ) → suc j ≤ n → AreAscii (take (suc j) block) → ¬ (DividesPair u (at + suc j))
+    divides j few own =
         let here : at + j + 1 ≡ at + suc j = omega arith in
-        let low = Each1-get_or (λ n. n < 0x80) (take (suc j) (take n (drop at u))) j 0 (omega (
+        let low = Each1-get_or (λ n. n < 0x80) (take (suc j) block) j 0 (omega (
           arith,
           few,
           length-chunk at n u within,
-          length-take (suc j) (take n (drop at u)),
+          length-take (suc j) block,
         )) own in
-        let unit = get_or-take (suc j) (take n (drop at u)) j 0 (omega arith) ∙ get_or-take n (drop at u) j 0 (omega (arith, few))
+        let unit = get_or-take (suc j) block j 0 (omega arith) ∙ get_or-take n (drop at u) j 0 (omega (arith, few))
         ∙ get_or-drop at u j 0 in
         subst (λ k. ¬ (DividesPair u k)) here
         (undivided-after_no_lead u (at + j) (omega (arith, few, within)) (λ l. omega (arith, low, unit, l.0)))
+
+    by : (k : ℕ) → k ≤ n → AreAscii (take k low) → end ≡ length w + k → IsReadTo new f u (at + k) known
+    by zero few ascii cut =
+        let here : at ≡ at + 0 = omega arith in
+        subst (λ k. IsReadTo new f u k known) here
+        (subst (λ z. IsReadTo z f u at known) (sym (after zero ascii cut ∙ append-nil w)) x)
+    by (suc j) few ascii cut =
+        let own : AreAscii (take (suc j) block) = subst AreAscii (kept (suc j) ascii) ascii in
+        let count : suc j ≡ at + suc j - at = omega arith in
+        let same : take (suc j) block ≡ take (at + suc j - at) (drop at u) = take-take (suc j) n (drop at u) few ∙ ap (λ k. take k (drop at u)) count in
+        subst (IsReadTo new f u (at + suc j)) (and-true known) (IsReadTo-append x (omega arith) (omega (arith, few, within))
+        (divides j few own) (after (suc j) ascii cut)
+        (subst (λ v. IsKnownForm (take (suc j) block) v true) same (IsKnownForm-ascii (take (suc j) block) own)))
+
+-- Steps, one after the other.
+
+-- room that is there before some units are encoded is there for the units after them
+pub HasRoomFrom-after : {Z : Type 0} (old new : Vec ℕ Z) {u : List ℕ} {from to : ℕ} {was is : Bool} → ReadsOn old.items new.items u from was to is
+    → vec_capacity old ≤ vec_capacity new → HasRoomFrom old u from was → HasRoomFrom new u to is
+HasRoomFrom-after old new on larger r = (r.0, on r.0 r.1, λ n w form. omega (arith, larger, r.2 n w form))
+
+-- what begins with a list that begins with `a` begins with `a`
+pub begins_after : {a b : List ℕ} (c : List ℕ) → take (length a) b ≡ a → take (length b) c ≡ b → take (length a) c ≡ a
+begins_after {a} {b} c x y =
+    let short : length a ≤ length b = omega (arith, ap length x, length-take (length a) b) in
+    sym (take-take (length a) (length b) c short) ∙ ap (take (length a)) y ∙ x

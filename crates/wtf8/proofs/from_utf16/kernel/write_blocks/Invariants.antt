@@ -1,4 +1,4 @@
-use Rattle.wtf8.proofs.Common.{ℕ, List, Bool, ◌&&◌, ◌+◌, ◌*◌, ◌≤◌, ◌++◌, length, take, IsReadTo}
+use Rattle.wtf8.proofs.Common.{ℕ, List, Bool, ◌&&◌, ◌+◌, ◌*◌, ◌≤◌, ◌++◌, length, take, ReadsOn}
 use Rattle.wtf8.proofs.from_utf16.kernel.write_blocks.Given as goal
 
 -- the first `len` bytes of the scratch buffer encode the units from `at` to `to.at`; there are units and room for all blocks
@@ -9,5 +9,5 @@ invariant-loop l = record {
   order : l.at + l.counter ≤ l.to.at;
   end : l.to.at ≤ l.at + 8 * l.counter;
   within : l.len ≤ 24 * l.counter;
-  read : (w : List ℕ) (known : Bool) → IsReadTo w l.v l.at known → IsReadTo (w ++ take l.len l.scratch) l.v l.to.at (known && l.to.is_utf8);
+  read : (w : List ℕ) (known : Bool) → ReadsOn w (w ++ take l.len l.scratch) l.v l.at known l.to.at (known && l.to.is_utf8);
 }

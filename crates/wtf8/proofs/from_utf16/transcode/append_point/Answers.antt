@@ -1,31 +1,43 @@
-use Rattle.wtf8.proofs.Common.{[], ◌∷◌, ◌+◌, ◌-◌, arith, append-nil, drop, encoding, number, subst, sym, take, Reads, IsReadTo}
+use Rattle.wtf8.proofs.Common.{◌+◌, arith, ◌&&◌, ◌++◌, encoding, number, subst, true, false≢true, IsReadTo, List, ℕ}
 use Rattle.std.proofs.Math.Bool.{and-true}
-use Rattle.wtf8.proofs.lemmas.from_utf16.Transcode.{IsReadTo-append}
-use Rattle.wtf8.proofs.lemmas.from_utf16.Decoding.{IsFirstRead-unit}
+use Rattle.wtf8.proofs.lemmas.from_utf16.Decoding.{IsFirstRead-unit, IsReadTo-point, IsFirstRead}
+use Rattle.wtf8.proofs.from_utf16.transcode.append_point.Goals.{After-append, After-append-2}
 use Rattle.wtf8.proofs.from_utf16.transcode.append_point.Goals as goal
 
-pub returns-then-unit-lt2048-clause-read : goal.returns-then-unit-lt2048-clause-read
-returns-then-unit-lt2048-clause-read g c =
+-- a unit below 800 is encoded, if its encoding is appended
+unit_read : (g : _) (c : After-append g) (w front : List ℕ) → IsReadTo w front c.args.v.now c.args.from.at c.args.from.is_utf8
+    → IsReadTo (w ++ encoding (number c.point_of_unit.result)) front c.args.v.now (c.args.from.at + 1) c.args.from.is_utf8
+unit_read g c w front read =
     let v = c.args.v.now in
     let at = c.args.from.at in
-    let point = number c.point_of_unit.result in
-    let unit =
-    IsFirstRead-unit v at c.requires.within (omega (arith, c.if-unit-lt2048.true)) (λ l. omega (arith, l.0, c.if-unit-lt2048.true)) in
-    subst (IsReadTo c.append.new.bytes.items v (at + 1)) (and-true c.args.from.is_utf8)
-    (IsReadTo-append c.requires.read (omega arith) unit.within unit.divides_no_pair c.in_ok-append.ensures.ok (record {
-      form = record {
-        points = point ∷ [];
-        reads = subst (λ p. Reads (p ∷ []) (take (at + 1 - at) (drop at v))) (sym c.point_of_unit.ensures) unit.reads;
-        encoded = append-nil (encoding point);
-      };
-      scalar = λ _. ((λ s. omega (arith, s.0, c.point_of_unit.ensures, c.if-unit-lt2048.true)), tt);
-    }))
+    let low = c.if-unit-lt2048.true in
+    let first = IsFirstRead-unit v at c.requires.within (omega (arith, low)) (λ l. omega (arith, l.0, low)) in
+    rw c.point_of_unit.ensures (subst (IsReadTo _ front v (at + 1)) (and-true c.args.from.is_utf8)
+    (IsReadTo-point {scalar = true} read (omega arith) first (λ _ s. omega (arith, s.0, low))))
+
+pub returns-in_err-append-clause-room : goal.returns-in_err-append-clause-room
+returns-in_err-append-clause-room g c room =
+    let read = unit_read g (goal.at.returns-in_err-append-clause-room g c).After-append _ room.0 room.1 in
+    absurd (false≢true (c.in_err-append.ensures.room (room.2 _ _ read.form.form)))
+
+pub returns-then-unit-lt2048-clause-read : goal.returns-then-unit-lt2048-clause-read
+returns-then-unit-lt2048-clause-read g c front read = rw c.in_ok-append.ensures.ok
+    (unit_read g (goal.at.returns-then-unit-lt2048-clause-read g c).After-append _ front read)
+
+-- the first code point is encoded, if its encoding is appended
+point_read : (g : _) (c : After-append-2 g) (w front : List ℕ) → IsReadTo w front c.args.v.now c.args.from.at c.args.from.is_utf8
+    → IsReadTo (w ++ encoding (number c.read_point-at.result.0)) front c.args.v.now c.read_point-at.result.1
+    (c.args.from.is_utf8 && c.read_point-at.result.2)
+point_read g c w front read =
+    let first = c.read_point-at.ensures in
+    IsReadTo-point read (omega (arith, first.order))
+    (record { within = first.within; divides_no_pair = first.divides_no_pair; reads = first.reads }) first.scalar
+
+pub returns-in_err-append-2-clause-room : goal.returns-in_err-append-2-clause-room
+returns-in_err-append-2-clause-room g c room =
+    let read = point_read g (goal.at.returns-in_err-append-2-clause-room g c).After-append-2 _ room.0 room.1 in
+    absurd (false≢true (c.in_err-append-2.ensures.room (room.2 _ _ read.form.form)))
 
 pub returns-clause-read : goal.returns-clause-read
-returns-clause-read g c =
-    let point = number c.read_point-at.result.0 in
-    let read = c.read_point-at.ensures in
-    IsReadTo-append c.requires.read (omega (arith, read.order)) read.within read.divides_no_pair c.in_ok-append-2.ensures.ok (record {
-      form = record { points = point ∷ []; reads = read.reads; encoded = append-nil (encoding point) };
-      scalar = λ t. (read.scalar t, tt);
-    })
+returns-clause-read g c front read = rw c.in_ok-append-2.ensures.ok
+    (point_read g (goal.at.returns-clause-read g c).After-append-2 _ front read)

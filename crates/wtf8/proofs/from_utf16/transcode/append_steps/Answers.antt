@@ -1,7 +1,19 @@
-use Rattle.wtf8.proofs.Common.{arith}
-use Rattle.wtf8.proofs.lemmas.codec.Readings.{unpaired-nil_left}
-use Rattle.wtf8.proofs.lemmas.from_utf16.Transcode.{IsKnownForm-nil}
+use Rattle.wtf8.proofs.Common.{false≢true}
+use Rattle.wtf8.proofs.lemmas.from_utf16.Transcode.{HasRoomFrom-after}
 use Rattle.wtf8.proofs.from_utf16.transcode.append_steps.Goals as goal
 
-pub loop-read-init : goal.loop-read-init
-loop-read-init g c = record { within = omega arith; divides_no_pair = unpaired-nil_left; form = IsKnownForm-nil _ c.requires }
+pub returns-in_err-read-clause-room : goal.returns-in_err-read-clause-room
+returns-in_err-read-clause-room g c room = absurd (false≢true (c.in_err-read.ensures.room
+    (HasRoomFrom-after c.args.bytes.now c.loop-read.bytes c.loop-read.invariant.read c.loop-read.invariant.capacity room)))
+
+pub returns-in_err-read-2-clause-room : goal.returns-in_err-read-2-clause-room
+returns-in_err-read-2-clause-room g c room = absurd (false≢true (c.in_err-read-2.ensures.room
+    (HasRoomFrom-after c.args.bytes.now c.loop-read-2.bytes c.loop-read-2.invariant.read c.loop-read-2.invariant.capacity room)))
+
+pub returns-in_err-read-3-clause-room : goal.returns-in_err-read-3-clause-room
+returns-in_err-read-3-clause-room g c room = absurd (false≢true (c.in_err-read-3.ensures.room
+    (HasRoomFrom-after c.args.bytes.now c.loop-read-3.bytes c.loop-read-3.invariant.read c.loop-read-3.invariant.capacity room)))
+
+pub returns-in_err-read-4-clause-room : goal.returns-in_err-read-4-clause-room
+returns-in_err-read-4-clause-room g c room = absurd (false≢true (c.in_err-read-4.ensures.room
+    (HasRoomFrom-after c.args.bytes.now c.loop-read-4.bytes c.loop-read-4.invariant.read c.loop-read-4.invariant.capacity room)))
