@@ -1,8 +1,9 @@
 pub mod Concatenation
 pub mod ExtendedForms
+pub mod PositionLaws
 pub mod Positions
+pub mod PushedUnits
+pub mod StringLaws
 pub mod Surrogates
 pub mod UnitCuts
 pub mod UnitMarks
-pub mod PositionLaws
-pub mod StringLaws

@@ -46,6 +46,15 @@ impl CodePoint {
         }
     }
 
+    /// The code point with the number of a code unit: a surrogate stays one, in no pair.
+    pub fn from_unit(unit: u16) -> CodePoint
+        ensures { number result ≡ unit }
+    {
+        CodePoint {
+            value: u32::from(unit),
+        }
+    }
+
     /// The number of the code point, at most 0x10FFFF.
     pub fn to_u32(&self) -> u32
         ensures value { result ≡ number self.now }

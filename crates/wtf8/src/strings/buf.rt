@@ -329,6 +329,42 @@ impl<A: Allocator> Wtf8Buf<A> {
         concat::push_wtf8(&mut self.bytes, &mut self.utf8_prefix, other)
     }
 
+    /// Appends 16-bit code units, paired or not. A trail surrogate at their front completes a lead surrogate at the end. If
+    /// memory is refused, the string is unchanged. Reserves a byte for each unit first; grows like `push` from there on.
+    /// Amortized linear in the number of units.
+    pub fn push_ill_formed_utf16(&mut self, v: &[u16]) -> Result<(), AllocError>
+        ensures ok { OnOk result (AppendsUnits self.old v.now self.new) }
+        ensures kept { OnErr result (KeepsContents self.old self.new) }
+
+        // A push whose bytes fit is never refused, nor are no units, and the capacity never shrinks.
+        ensures room { HasRoomFor self.old v.now → IsOk result }
+        ensures empty { v.now ≡ [] → IsOk result }
+        ensures capacity { self.old.capacity ≤ self.new.capacity }
+
+        // In bytes: the length grows by at most three for each unit, spare capacity for that is enough, and no units change
+        // nothing.
+        ensures at_most { OnOk result (length self.new.bytes ≤ length self.old.bytes + 3 * length v.now) }
+        ensures room_left { length self.old.bytes + 3 * length v.now ≤ self.old.capacity → IsOk result }
+        ensures nothing { v.now ≡ [] → KeepsContents self.old self.new }
+    {
+        concat::push_utf16(&mut self.bytes, &mut self.utf8_prefix, v)
+    }
+
+    /// Appends a 16-bit code unit. A trail surrogate after a lead surrogate completes the pair. If memory is refused, the
+    /// string is unchanged. Amortized constant.
+    #[inline(always)]
+    #[tactic(auto, using(crate::proofs::lemmas::codec::Readings::units_one))]
+    pub fn push_unit(&mut self, unit: u16) -> Result<(), AllocError>
+        ensures ok { OnOk result (AppendsUnits self.old (unit ∷ []) self.new) }
+        ensures kept { OnErr result (KeepsContents self.old self.new) }
+
+        // A push whose bytes fit is never refused, and the capacity never shrinks.
+        ensures room { HasRoomFor self.old (unit ∷ []) → IsOk result }
+        ensures capacity { self.old.capacity ≤ self.new.capacity }
+    {
+        self.push(CodePoint::from_unit(unit))
+    }
+
     /// Shortens the string to `new_len` bytes, which must be a code point boundary (`is_code_point_boundary` of the
     /// view).
     pub fn truncate(&mut self, new_len: usize)

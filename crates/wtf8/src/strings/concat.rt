@@ -1,17 +1,19 @@
 // Appending to well-formed bytes: a lead surrogate at their end and a trail surrogate after it become one code point.
-ghost use Rattle.std.specs.Prelude.{◌≡◌, ℕ, List, [], ◌∷◌, ◌++◌, ◌+◌, ◌-◌, ◌≤◌, ◌<◌, length, take, drop, IsOk, OnSome, IfSome, IfNone, vec_len, vec_capacity, slice_index, ◌%◌};
+ghost use Rattle.std.specs.Prelude.{◌≡◌, ℕ, List, [], ◌∷◌, ◌++◌, ◌+◌, ◌-◌, ◌≤◌, ◌<◌, length, take, drop, IsOk, IfOk, OnOk, IsTrue, OnSome, IfSome, IfNone, vec_len, vec_capacity, slice_index, ◌%◌};
 ghost use Rattle.std.specs.Str.{chars};
 ghost use Rattle.wtf8.specs.CodePoint.{number};
 ghost use Rattle.wtf8.specs.Concatenation.{MeetsAsPair};
-ghost use Rattle.wtf8.specs.Form.{IsWellFormed, encoding};
+ghost use Rattle.wtf8.specs.Form.{IsWellFormed, Reads, encoding};
 ghost use Rattle.wtf8.specs.private.EncodedBytes.{ExtendsForm, BecomesOrKeeps, ExtendsFormOrKeeps};
-ghost use Rattle.wtf8.specs.private.Prefixes.{AreScalarTo};
+ghost use Rattle.wtf8.specs.private.Prefixes.{AreScalarTo, FrontsFit, IsKnownForm};
 ghost use Rattle.wtf8.specs.Surrogates.{AreScalar};
 ghost use Rattle.wtf8.specs.Unicode.{units, units_of, pair, IsSurrogate, IsLead, IsTrail};
 ghost use Rattle.wtf8.specs.View.{view_points, view_units};
 
 use crate::codec::code_point::CodePoint;
 use crate::codec::{encoding, surrogates};
+use crate::from_utf16::kernel::Progress;
+use crate::from_utf16::transcode;
 use crate::strings::utf8_prefix::Utf8Prefix;
 use crate::strings::view::Wtf8;
 use crate::vec::capacity::spare_capacity;
@@ -215,4 +217,102 @@ pub(crate) fn push_str<A: Allocator>(bytes: &mut Vec<u8, A>, other: &str) -> Res
     ensures empty { other.now ≡ [] → IsOk result }
 {
     append_bytes(bytes, other.as_bytes())
+}
+
+/// Returns the lead surrogate that ends `bytes`, if the first of the units completes it.
+fn lead_before<A: Allocator>(bytes: &Vec<u8, A>, v: &[u16]) -> Option<u32>
+    requires { IsWellFormed bytes.now.items }
+    ensures trail { OnSome result ((0 < length v.now) × IsTrail (slice_index v.now 0)) }
+    ensures lead { IfSome result (λ l. IsLead l) }
+    ensures last { (h : IsWellFormed bytes.now.items) → IfSome result (λ l. (f : List ℕ) × (h.points ≡ f ++ l ∷ [])) }
+    ensures none { (h : IsWellFormed bytes.now.items) → IfNone result (¬ (MeetsAsPair h.points v.now)) }
+{
+    let view = Wtf8::from_well_formed(bytes.as_slice());
+    match v.first() {
+        Some(unit) => lead_to_complete(view, CodePoint::from_unit(*unit)),
+        None => None,
+    }
+}
+
+/// Appends code units to well-formed bytes. `lead` is the lead surrogate at their end that the first unit completes, and
+/// `is_utf8` whether they are known to hold no surrogate. Returns whether the new bytes hold none. If memory is refused,
+/// some units may have been appended.
+fn append_utf16<A: Allocator>(
+    bytes: &mut Vec<u8, A>,
+    is_utf8: bool,
+    lead: Option<u32>,
+    v: &[u16],
+) -> Result<bool, AllocError>
+    requires well_formed { IsWellFormed bytes.old.items }
+    requires scalar { (h : IsWellFormed bytes.old.items) → IsTrue is_utf8 → AreScalar h.points }
+    requires trail { OnSome lead ((0 < length v.now) × IsTrail (slice_index v.now 0)) }
+    requires lead { IfSome lead (λ l. IsLead l) }
+    requires last { (h : IsWellFormed bytes.old.items) → IfSome lead (λ l. (f : List ℕ) × (h.points ≡ f ++ l ∷ [])) }
+    requires none { (h : IsWellFormed bytes.old.items) → IfNone lead (¬ (MeetsAsPair h.points v.now)) }
+    ensures ok { (h : IsWellFormed bytes.old.items) → IfOk result (λ known. IsKnownForm bytes.new.items (units h.points ++ v.now) known) }
+    ensures begins { IfNone lead (take (length bytes.old.items) bytes.new.items ≡ bytes.old.items) }
+    ensures before_lead { take (length bytes.old.items - 3) bytes.new.items ≡ take (length bytes.old.items - 3) bytes.old.items }
+    ensures longer { length bytes.old.items ≤ length bytes.new.items }
+    ensures room { (h : IsWellFormed bytes.old.items) → FrontsFit (units h.points) v.now (vec_capacity bytes.old) → IsOk result }
+    ensures capacity { vec_capacity bytes.old ≤ vec_capacity bytes.new }
+{
+    match lead {
+        Some(lead) => {
+            complete_pair(bytes, lead, u32::from(v[0]))?;
+            transcode::append_utf16(
+                bytes,
+                v,
+                Progress {
+                    at: 1,
+                    is_utf8: false,
+                },
+            )
+        }
+        None => transcode::append_utf16(bytes, v, Progress { at: 0, is_utf8 }),
+    }
+}
+
+/// Takes back what was appended to the first `len` bytes, which `lead` ended if it is one.
+fn take_back<A: Allocator>(bytes: &mut Vec<u8, A>, len: usize, lead: Option<u32>)
+    requires within { len ≤ length bytes.old.items }
+    requires lead { IfSome lead (λ l. IsLead l × (3 ≤ len)) }
+    ensures begins { IfNone lead (bytes.new.items ≡ take len bytes.old.items) }
+    ensures lead { IfSome lead (λ l. bytes.new.items ≡ take (len - 3) bytes.old.items ++ encoding l) }
+    ensures capacity { vec_capacity bytes.old ≤ vec_capacity bytes.new }
+{
+    match lead {
+        Some(lead) => encoding::keep_lead(bytes, len - 3, lead as u16),
+        None => bytes.truncate(len),
+    }
+}
+
+/// Appends code units; a trail at their front completes a lead at the end. A lone surrogate among them, or a front that
+/// may hold one, cuts the UTF-8 prefix to at most the old length.
+pub(crate) fn push_utf16<A: Allocator>(
+    bytes: &mut Vec<u8, A>,
+    utf8_prefix: &mut Utf8Prefix,
+    v: &[u16],
+) -> Result<(), AllocError>
+    requires well_formed { IsWellFormed bytes.old.items }
+    requires scalar_prefix { (h : IsWellFormed bytes.old.items) → AreScalarTo utf8_prefix.old.len h.points }
+    ensures extends { ExtendsFormOrKeeps bytes.old v.now bytes.new result }
+    ensures order { utf8_prefix.new.len ≤ utf8_prefix.old.len }
+    ensures scalar { length bytes.old.items < utf8_prefix.new.len → OnOk result ((c : List ℕ) → Reads c v.now → AreScalar c) }
+{
+    let len = bytes.len();
+    // Each unit adds at least one byte.
+    bytes.reserve(v.len())?;
+    let lead = lead_before(bytes, v);
+    match append_utf16(bytes, len <= utf8_prefix.len, lead, v) {
+        Ok(is_utf8) => {
+            if !is_utf8 {
+                *utf8_prefix = utf8_prefix.up_to(len);
+            }
+            Ok(())
+        }
+        Err(error) => {
+            take_back(bytes, len, lead);
+            Err(error)
+        }
+    }
 }

@@ -1,8 +1,8 @@
 use Rattle.wtf8.proofs.Common.{◌≡◌, ◌*◌, arith, ap, subst, take, BeginsWithUnits}
 use Rattle.wtf8.proofs.to_utf16.append.decode_block.Goals as goal
 
-pub write_units-requires : goal.write_units-requires
-write_units-requires g c =
+pub write_front-requires : goal.write_front-requires
+write_front-requires g c =
     let read = c.read-block.ensures in
     let all : c.read-block.result.1 ≡ g.row.N = omega (arith, c.if-count.true) in (
       omega (arith, c.requires.lanes),

@@ -21,14 +21,14 @@ one_unit {w} h p n positive read low =
     let begins = subst (λ v. BeginsWithUnits w v n) (units_one p low) r.begins in
     (begins, r.within, omega (arith, ap length (begins h).1))
 
-pub write_units-requires : goal.write_units-requires
-write_units-requires c =
+pub write_front-requires : goal.write_front-requires
+write_front-requires c =
     let r =
     one_unit c.args.left.view.well_formed c.read_two.result 2 c.requires.nonempty c.read_two.ensures.read c.read_two.ensures.one_unit in
     (omega arith, (omega arith, (omega (arith, c.requires.room, r.2), ((omega arith, r.1), r.0))))
 
-pub write_units-requires-in-224-to-239 : goal.write_units-requires-in-224-to-239
-write_units-requires-in-224-to-239 c =
+pub write_front-requires-in-224-to-239 : goal.write_front-requires-in-224-to-239
+write_front-requires-in-224-to-239 c =
     let r = one_unit c.args.left.view.well_formed c.read_three.result 3 c.requires.nonempty c.read_three.ensures.read
     c.read_three.ensures.one_unit in
     (omega arith, (omega arith, (omega (arith, c.requires.room, r.2), ((omega arith, r.1), r.0))))
@@ -38,16 +38,16 @@ first_point_read : {w : List ℕ} → IsWellFormed w → (p n : ℕ) → 0 < len
     → ((b : BeginsWithPoint w) → (p ≡ b.point) × (n ≡ 0 + length (encoding b.point))) → ReadUnits w p n
 first_point_read h p n positive read = read_units h p n positive (λ b. let was = read b in (was.0, omega (arith, was.1)))
 
-pub write_units-requires-then-value-lt65536 : goal.write_units-requires-then-value-lt65536
-write_units-requires-then-value-lt65536 c =
+pub write_front-requires-then-value-lt65536 : goal.write_front-requires-then-value-lt65536
+write_front-requires-then-value-lt65536 c =
     let value = c.to_u32-value.result in
     let read : FirstPointIs c.args.left.view.bytes.now value c.read-width.result.1 =
     λ b. let was = c.read-width.ensures b in (omega (arith, was.0, c.to_u32-value.ensures.value), omega (arith, was.1)) in
     let r = one_unit c.args.left.view.well_formed value c.read-width.result.1 c.requires.nonempty read c.if-value-lt65536.true in
     (omega arith, (omega arith, (omega (arith, c.requires.room, r.2), ((omega arith, r.1), r.0))))
 
-pub write_units-requires-in_default : goal.write_units-requires-in_default
-write_units-requires-in_default c =
+pub write_front-requires-in_default : goal.write_front-requires-in_default
+write_front-requires-in_default c =
     let view = c.args.left.view in
     let p = number c.read-width.result.0 in
     let r = first_point_read view.well_formed p c.read-width.result.1 c.requires.nonempty c.read-width.ensures in
@@ -63,8 +63,8 @@ shorter {w} {n = n} r e = omega (arith, r.positive, r.within, ap length e, lengt
 
 pub returns-then-value-lt65536-clause-shorter : goal.returns-then-value-lt65536-clause-shorter
 returns-then-value-lt65536-clause-shorter c = shorter (first_point_read c.args.left.view.well_formed _ _ c.requires.nonempty
-    c.read-width.ensures) c.write_units-then-value-lt65536.ensures.bytes
+    c.read-width.ensures) c.write_front-then-value-lt65536.ensures.bytes
 
 pub returns-else-value-lt65536-clause-shorter : goal.returns-else-value-lt65536-clause-shorter
 returns-else-value-lt65536-clause-shorter c = shorter (first_point_read c.args.left.view.well_formed _ _ c.requires.nonempty
-    c.read-width.ensures) c.write_units-in_default.ensures.bytes
+    c.read-width.ensures) c.write_front-in_default.ensures.bytes

@@ -1,5 +1,5 @@
 use Rattle.wtf8.proofs.Common.{◌++◌, ◌∙◌, ap, sym, arith, length, length-append, take, append_assoc, units, view_units, length-take-le}
-use Rattle.wtf8.proofs.to_utf16.append.write_units.Goals as goal
+use Rattle.wtf8.proofs.to_utf16.append.write_front.Goals as goal
 
 pub skip_bytes-requires-clause-well_formed : goal.skip_bytes-requires-clause-well_formed
 skip_bytes-requires-clause-well_formed g c = (c.requires.begins c.args.left.view.well_formed).0
