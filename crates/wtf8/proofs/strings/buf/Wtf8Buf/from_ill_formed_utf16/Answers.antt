@@ -1,18 +1,9 @@
-use Rattle.wtf8.proofs.Common.{◌∙◌, refl, well_formed_of}
+use Rattle.wtf8.proofs.Common.{IsForm, ◌++◌, ◌∙◌, ap, subst}
 use Rattle.wtf8.proofs.lemmas.codec.Readings.{same_form}
-use Rattle.wtf8.proofs.lemmas.strings.ExtendedForms.{scalar-equal_bytes}
 use Rattle.wtf8.proofs.strings.buf.Wtf8Buf.from_ill_formed_utf16.Goals as goal
-
-pub from_well_formed-requires-clause-scalar : goal.from_well_formed-requires-clause-scalar
-from_well_formed-requires-clause-scalar g c h =
-    let read = c.in_ok-is_utf8.ensures.ok in
-    c.new.ensures h.points (λ known. scalar-equal_bytes (well_formed_of read.form) h refl (read.scalar known))
-
-pub returns-clause-units : goal.returns-clause-units
-returns-clause-units g c =
-    let form = c.in_ok-is_utf8.ensures.ok.form in
-    c.from_well_formed.ensures.units (well_formed_of form) ∙ form.reads.same_units
 
 pub returns-clause-form : goal.returns-clause-form
 returns-clause-form g c w form =
-    c.from_well_formed.ensures.bytes ∙ same_form c.append_utf16.new.bytes.items w c.args.v.now c.in_ok-is_utf8.ensures.ok.form form
+    let s = c.push_ill_formed_utf16.new.self in
+    let units = c.in_ok-push_ill_formed_utf16.ensures.ok ∙ ap (λ u. u ++ c.args.v.now) c.in_ok-string.ensures.units in
+    same_form s.bytes w c.args.v.now (subst (IsForm s.bytes) units s.form) form
