@@ -118,8 +118,8 @@ fn find_unit(bytes: &[u8], unit: usize) -> UnitCursor
     }
 }
 
-/// Where the first `n` units end, of which there must be no fewer. If they end inside a surrogate pair, the cursor is
-/// before it, one unit less.
+/// Where the first `n` units end; `n` must be at most the number of units. If they end inside a surrogate pair, the
+/// cursor is before it, one unit less.
 #[inline(always)]
 pub(crate) fn cut_at(view: Wtf8<'_>, n: usize) -> UnitCursor
     requires { n ≤ length (view_units view) }
