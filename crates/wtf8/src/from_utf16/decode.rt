@@ -41,12 +41,6 @@ fn is_trail_unit(unit: &u16) -> bool
     surrogates::is_trail(u32::from(*unit))
 }
 
-pub(crate) fn point_of_unit(unit: u16) -> CodePoint
-    ensures { number result ≡ unit }
-{
-    CodePoint::from_u32_unchecked(u32::from(unit))
-}
-
 #[inline(always)]
 fn char_or_surrogate(unit: u16) -> Result<char, u16>
     ensures kind { MatchResult result (λ c. IsCodePoint c × ¬ (IsSurrogate c)) IsSurrogate }
@@ -107,11 +101,11 @@ pub(crate) fn read_point(v: &[u16], at: usize) -> (CodePoint, usize, bool)
 {
     let unit = v[at];
     if unit < FIRST_LEAD || LAST_TRAIL < unit {
-        return (point_of_unit(unit), at + 1, true);
+        return (CodePoint::from_unit(unit), at + 1, true);
     }
     if unit <= LAST_LEAD && at + 1 < v.len() && is_trail_unit(&v[at + 1]) {
         let character = char_of_pair(unit, v[at + 1]);
         return (CodePoint::from_char(character), at + 2, true);
     }
-    (point_of_unit(unit), at + 1, false)
+    (CodePoint::from_unit(unit), at + 1, false)
 }

@@ -62,7 +62,7 @@ fn append_point<A: Allocator>(
     let unit = v[from.at];
     if unit < 0x800 {
         // Letters of most alphabets: never a surrogate, and at most two bytes.
-        encoding::append(bytes, decode::point_of_unit(unit))?;
+        encoding::append(bytes, CodePoint::from_unit(unit))?;
         return Ok(Progress {
             at: from.at + 1,
             is_utf8: from.is_utf8,
@@ -211,7 +211,7 @@ fn append_rest<A: Allocator>(
             Ok(character) => encoding::append(bytes, CodePoint::from_char(character))?,
             Err(surrogate) => {
                 is_utf8 = false;
-                encoding::append(bytes, decode::point_of_unit(surrogate))?;
+                encoding::append(bytes, CodePoint::from_unit(surrogate))?;
             }
         }
     }

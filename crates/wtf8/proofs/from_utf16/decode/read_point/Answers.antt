@@ -7,7 +7,7 @@ use Rattle.wtf8.proofs.from_utf16.decode.read_point.Goals as goal
 
 pub returns-then-unit-lt-FIRST_LEAD-clause-reads : goal.returns-then-unit-lt-FIRST_LEAD-clause-reads
 returns-then-unit-lt-FIRST_LEAD-clause-reads c = subst (λ p. Reads (p ∷ [])
-    (take (c.args.at + 1 - c.args.at) (drop c.args.at c.args.v.now))) (sym c.point_of_unit.ensures) (IsFirstRead-unit c.args.v.now c.args.at
+    (take (c.args.at + 1 - c.args.at) (drop c.args.at c.args.v.now))) (sym c.from_unit.ensures) (IsFirstRead-unit c.args.v.now c.args.at
     c.requires (omega (arith, (c.type_inv.v c.args.at).fits)) (λ l. omega (arith, l, c.then-unit-lt-FIRST_LEAD.either))).reads
 
 pub returns-then-is_trail_unit-clause-reads : goal.returns-then-is_trail_unit-clause-reads
@@ -17,6 +17,6 @@ returns-then-is_trail_unit-clause-reads c = subst (λ p. Reads (p ∷ []) (take 
 
 pub returns-clause-reads : goal.returns-clause-reads
 returns-clause-reads c =
-    subst (λ p. Reads (p ∷ []) (take (c.args.at + 1 - c.args.at) (drop c.args.at c.args.v.now))) (sym c.point_of_unit-2.ensures)
+    subst (λ p. Reads (p ∷ []) (take (c.args.at + 1 - c.args.at) (drop c.args.at c.args.v.now))) (sym c.from_unit-2.ensures)
     (IsFirstRead-unit c.args.v.now c.args.at c.requires (omega (arith, (c.type_inv.v c.args.at).fits))
     (λ lead within t. grind (arith, false≢true, c.else-unit-le-LAST_LEAD.branch))).reads

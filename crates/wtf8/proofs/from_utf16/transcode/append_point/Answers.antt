@@ -6,13 +6,13 @@ use Rattle.wtf8.proofs.from_utf16.transcode.append_point.Goals as goal
 
 -- a unit below 800 is encoded, if its encoding is appended
 unit_read : (g : _) (c : After-append g) (w front : List ℕ) → IsReadTo w front c.args.v.now c.args.from.at c.args.from.is_utf8
-    → IsReadTo (w ++ encoding (number c.point_of_unit.result)) front c.args.v.now (c.args.from.at + 1) c.args.from.is_utf8
+    → IsReadTo (w ++ encoding (number c.from_unit.result)) front c.args.v.now (c.args.from.at + 1) c.args.from.is_utf8
 unit_read g c w front read =
     let v = c.args.v.now in
     let at = c.args.from.at in
     let low = c.if-unit-lt2048.true in
     let first = IsFirstRead-unit v at c.requires.within (omega (arith, low)) (λ l. omega (arith, l.0, low)) in
-    rw c.point_of_unit.ensures (subst (IsReadTo _ front v (at + 1)) (and-true c.args.from.is_utf8)
+    rw c.from_unit.ensures (subst (IsReadTo _ front v (at + 1)) (and-true c.args.from.is_utf8)
     (IsReadTo-point {scalar = true} read (omega arith) first (λ _ s. omega (arith, s.0, low))))
 
 pub returns-in_err-append-clause-room : goal.returns-in_err-append-clause-room

@@ -30,7 +30,7 @@ loop-item-preserved-in-Continue-1 g c =
 pub loop-item-preserved : goal.loop-item-preserved
 loop-item-preserved g c = record {
   encoded = encoded_item c.args.bytes.now.items c.loop-item.yielded c.in-Some.item c.loop-item.invariant.encoded
-      c.in_ok-append-in-Err.ensures.ok (ap point_of_item c.in-Err.is ∙ sym c.point_of_unit.ensures);
+      c.in_ok-append-in-Err.ensures.ok (ap point_of_item c.in-Err.is ∙ sym c.from_unit.ensures);
   flags = λ t. absurd (false≢true t);
   capacity = omega (arith, c.loop-item.invariant.capacity, c.in_ok-append-in-Err.ensures.capacity);
 }
@@ -62,7 +62,7 @@ returns-in_err-append-in-Ok-clause-room g c room = absurd (false≢true (c.in_er
 pub returns-in_err-append-in-Err-clause-room : goal.returns-in_err-append-in-Err-clause-room
 returns-in_err-append-in-Err-clause-room g c room = absurd (false≢true (c.in_err-append-in-Err.ensures.room
     (item_fits g (goal.at.returns-in_err-append-in-Err-clause-room g c).In-Some _
-    (ap point_of_item c.in-Err.is ∙ sym c.point_of_unit.ensures) room)))
+    (ap point_of_item c.in-Err.is ∙ sym c.from_unit.ensures) room)))
 
 pub returns-clause-ok : goal.returns-clause-ok
 returns-clause-ok g c front read =

@@ -44,4 +44,3 @@ invariant-loop-read-4 g l = record {
 
 abbrev pub decreases-loop-read-4 : goal.decreases-loop-read-4
 decreases-loop-read-4 g l = length l.v - l.read.at
-
