@@ -63,7 +63,7 @@ pub use Rattle.wtf8.specs.private.EncodedBytes.{ExtendsForm, ExtendsFormOrKeeps,
 pub use Rattle.wtf8.specs.private.EncodedBytes.{BeginsWithUnits, Writes, unit_of_three, unit_of_two}
 pub use Rattle.wtf8.specs.private.Prefixes.{IsKnownForm, AreAscii, AreScalarTo, IsReadTo, AreScalarUnits}
 pub use Rattle.wtf8.specs.private.Search.{IsFirst, IsLeast, NoneIn, IsFirstIn, IsFirstSet, IsSet, IsMismatch, DifferAt, DecidesNone}
-pub use Rattle.wtf8.specs.private.Search.{SupplementaryBegins, SurrogateAt}
+pub use Rattle.wtf8.specs.private.Search.{SupplementaryBegins, SurrogateAt, SurrogateInLane}
 pub use Rattle.wtf8.specs.private.UnitsInBytes.{IsCursor, IsCursorOfUnit, utf16_len, sum_utf16_len, held_trail, after_held_trail}
 pub use Rattle.wtf8.specs.private.UnitsInBytes.{trail_from_bytes, unread_after, StepsUnit, is_continuation, unread_at}
 pub use lib.Lanes.{zip2, Each1, chunk, mask_l, top, sel_l, Each2, fold_l, sum_l}

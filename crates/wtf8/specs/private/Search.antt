@@ -53,3 +53,7 @@ pub record SurrogateAt (w : List ℕ) (i : ℕ) : Type 0 where
   pub within : i + 1 < length w
   pub first : slice_index w i ≡ 0xED
   pub second : 0xA0 ≤ slice_index w (i + 1)
+
+-- Lane `k` is 0xED in the first vector and at least 0xA0 in the second.
+abbrev pub SurrogateInLane : List ℕ → List ℕ → ℕ → Type 0
+SurrogateInLane firsts seconds k = (slice_index firsts k ≡ 0xED) × (0xA0 ≤ slice_index seconds k)

@@ -1,9 +1,18 @@
 // Finds the encodings of surrogates in bytes.
 ghost use Rattle.std.specs.Prelude.{◌+◌, ◌<◌, length};
-ghost use Rattle.wtf8.specs.private.Search.{IsFirst, IsFirstIn, SurrogateAt};
+ghost use Rattle.wtf8.specs.private.Search.{IsFirst, IsFirstIn, SurrogateAt, SurrogateInLane};
 
 use crate::lanes::masks::first_set_lane;
 use std::simd::prelude::*;
+
+/// The least lane that is 0xED in `firsts` and at least 0xA0 in `seconds`: the first two bytes of a surrogate.
+#[inline(always)]
+fn block(firsts: u8x32, seconds: u8x32) -> Option<usize>
+    ensures { IsFirstIn (SurrogateInLane firsts seconds) 0 32 result }
+{
+    let begin = firsts.simd_eq(Simd::splat(0xED)) & seconds.simd_ge(Simd::splat(0xA0));
+    first_set_lane(begin.to_bitmask())
+}
 
 /// The index of the first surrogate that begins in `at..at + 32`. Reads one byte past that range.
 #[inline(always)]
@@ -13,9 +22,7 @@ fn surrogate_in_block(bytes: &[u8], at: usize) -> Option<usize>
 {
     let firsts = u8x32::from_slice(&bytes[at..]);
     let seconds = u8x32::from_slice(&bytes[at + 1..]);
-    // The first two bytes of a surrogate.
-    let begin = firsts.simd_eq(Simd::splat(0xED)) & seconds.simd_ge(Simd::splat(0xA0));
-    let lane = first_set_lane(begin.to_bitmask())?;
+    let lane = block(firsts, seconds)?;
     Some(at + lane)
 }
 

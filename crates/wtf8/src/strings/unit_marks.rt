@@ -5,7 +5,7 @@ ghost use Rattle.wtf8.specs.UnitMark.{IsMarkOf, RoundsDownTo};
 ghost use Rattle.wtf8.specs.UnitPosition.{DividesPair};
 ghost use Rattle.wtf8.specs.View.{view_units};
 
-use crate::strings::unit_positions::find_cut;
+use crate::strings::unit_positions::cut_at;
 use crate::strings::view::Wtf8;
 
 /// A byte position and the number of code units before it. It is a mark of a string if the bytes before the position
@@ -51,9 +51,7 @@ impl<'a> Wtf8<'a> {
         ensures last { RoundsDownTo (view_units self.now) units result.units }
         ensures exact { ¬ (DividesPair (view_units self.now) units) → result.units ≡ units }
     {
-        let Some(cut) = find_cut(self.slice_from_mark(from), units - from.units) else {
-            return from;
-        };
+        let cut = cut_at(self.slice_from_mark(from), units - from.units);
         prove!(self.len() <= usize::MAX);
         let position = from.position + cut.position;
         let units = from.units + cut.units;

@@ -118,6 +118,18 @@ fn find_unit(bytes: &[u8], unit: usize) -> UnitCursor
     }
 }
 
+/// Where the first `n` units end; `n` must be at most the number of units. If they end inside a surrogate pair, the
+/// cursor is before it, one unit less.
+#[inline(always)]
+pub(crate) fn cut_at(view: Wtf8<'_>, n: usize) -> UnitCursor
+    requires { n ≤ length (view_units view) }
+    ensures cursor { IsCursorOfUnit view.entry.bytes.now n result }
+    ensures divided { result.units < n → result.position + 4 ≤ length view.entry.bytes.now }
+    ensures boundary { IsBoundary (view_units view.entry) result.position }
+{
+    find_unit(view.bytes, n)
+}
+
 /// Where the first `n` units end, or `None` if there are fewer. If they end inside a surrogate pair, the cursor is
 /// before it, one unit less. Counts nothing if `n` exceeds the length in bytes, which is at least the number of units.
 #[inline(always)]

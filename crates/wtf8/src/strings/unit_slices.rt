@@ -5,7 +5,7 @@ ghost use Rattle.wtf8.specs.UnitPosition.{units_of_slice, DividesPair};
 ghost use Rattle.wtf8.specs.View.{view_units};
 
 use crate::codec::encoding;
-use crate::strings::unit_positions::find_cut;
+use crate::strings::unit_positions::cut_at;
 use crate::strings::view::Wtf8;
 
 /// A part cut at code units. If a cut splits a surrogate pair, the half inside is kept beside the whole code points.
@@ -51,9 +51,7 @@ impl<'a> Wtf8<'a> {
         ensures units { view_units result.0 ++ option_to_list result.1 ≡ take n (view_units self.entry) }
         ensures lead { IsSome result.1 ↔ DividesPair (view_units self.entry) n }
     {
-        let Some(cut) = find_cut(self, n) else {
-            return (self, None);
-        };
+        let cut = cut_at(self, n);
         let front = self.slice_to(cut.position);
         if cut.units == n {
             return (front, None);
@@ -68,9 +66,7 @@ impl<'a> Wtf8<'a> {
         ensures units { option_to_list result.0 ++ view_units result.1 ≡ drop n (view_units self.entry) }
         ensures trail { IsSome result.0 ↔ DividesPair (view_units self.entry) n }
     {
-        let Some(cut) = find_cut(self, n) else {
-            return (None, self);
-        };
+        let cut = cut_at(self, n);
         if cut.units == n {
             return (None, self.slice_from(cut.position));
         }

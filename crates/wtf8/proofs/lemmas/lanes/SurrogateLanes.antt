@@ -2,7 +2,7 @@
 use Rattle.wtf8.proofs.Common.{◌≡◌, ◌↔◌, ℕ, zero, suc, ◌+◌, ◌%◌, ◌^◌, ◌<◌, eqb, leb, Bool, false, IsTrue, cond, List, [], ◌∷◌, map}
 use Rattle.wtf8.proofs.Common.{length, get_or, replicate, sym, ap, ◌∙◌, arith, le-leb, eq-eqb, eqb-true, length-zip2, get_or-chunk, chunk}
 use Rattle.wtf8.proofs.Common.{zip2, mask_l, top, SurrogateAt, refl, Option, get_or-zip2, ◌&&◌, bit_and, subst, and_parts, and_from}
-use Rattle.wtf8.proofs.Common.{leb-true, MatchOption, IsFirstIn, IsFirstSet, IsLeast, IsSet, NoneIn, ◌≤◌, length-chunk, slice_index}
+use Rattle.wtf8.proofs.Common.{leb-true, MatchOption, IsFirstIn, IsFirstSet, IsLeast, IsSet, NoneIn, ◌≤◌, slice_index, SurrogateInLane}
 use Rattle.wtf8.proofs.lemmas.lanes.Masks.{first_at_offset, IsFirstIn-iff}
 
 -- The search for a surrogate in two vectors, the second shifted by one byte.
@@ -10,10 +10,6 @@ use Rattle.wtf8.proofs.lemmas.lanes.Masks.{first_at_offset, IsFirstIn-iff}
 -- the byte of a lane after a comparison: FF or 0
 abbrev pub lane_of_bool : Bool → ℕ
 lane_of_bool b = cond b 255 0
-
--- Lane `k` of `firsts` is ED, and lane `k` of `seconds` is at least A0.
-abbrev SurrogateInLane : List ℕ → List ℕ → ℕ → Type 0
-SurrogateInLane firsts seconds k = (slice_index firsts k ≡ 0xED) × (0xA0 ≤ slice_index seconds k)
 
 -- FF in each lane that is ED in one vector and at least A0 in the other
 abbrev pub surrogate_lanes : ℕ → List ℕ → List ℕ → List ℕ
@@ -35,7 +31,7 @@ map_top-surrogate_lanes (suc n) (x ∷ xs) (y ∷ ys) p q =
     λ i. top-bit_and (eqb x 0xED) (leb 0xA0 y) i ∷ map_top-surrogate_lanes n xs ys (omega arith) (omega arith) i
 
 -- the first set bit of the mask is the first lane in which a surrogate begins
-first_begins : (xs ys : List ℕ) → length xs ≡ 32 → length ys ≡ 32 → (r : Option ℕ)
+pub first_begins : (xs ys : List ℕ) → length xs ≡ 32 → length ys ≡ 32 → (r : Option ℕ)
     → IsFirstSet (mask_l (map (top 7) (surrogate_lanes 32 xs ys)) % 2 ^ 64) r → IsFirstIn (SurrogateInLane xs ys) 0 32 r
 first_begins xs ys p q r first = IsFirstIn-iff (IsSet (zip2 begins_surrogate xs ys)) (SurrogateInLane xs ys) 32 begins r
     (first 32 (zip2 begins_surrogate xs ys) (omega arith) (length-zip2 begins_surrogate xs ys (p ∙ sym q) ∙ p)
@@ -48,12 +44,11 @@ first_begins xs ys p q r first = IsFirstIn-iff (IsSet (zip2 begins_surrogate xs 
           λ h. and_from _ _ (eq-eqb _ 0xED h.0) (le-leb 0xA0 _ h.1),
         )
 
--- the first set bit for the blocks at `i` and `i + 1` gives the first position at which a surrogate begins
+-- the first lane of the blocks at `i` and `i + 1` gives the first position at which a surrogate begins
 pub first_surrogate_at_offset : (w : List ℕ) (i : ℕ) → i + 32 < length w → (r : Option ℕ)
-    → IsFirstSet (mask_l (map (top 7) (surrogate_lanes 32 (chunk i 32 w) (chunk (i + 1) 32 w))) % 2 ^ 64) r
+    → IsFirstIn (SurrogateInLane (chunk i 32 w) (chunk (i + 1) 32 w)) 0 32 r
     → MatchOption r (NoneIn (SurrogateAt w) i (i + 32)) (λ k. IsLeast (SurrogateAt w) i (i + k) × (i + k < i + 32))
-first_surrogate_at_offset w i bound r first = first_at_offset (SurrogateAt w) (SurrogateInLane (chunk i 32 w) (chunk (i + 1) 32 w)) i 32
-    begins r (first_begins _ _ (length-chunk i 32 w (omega (arith, bound))) (length-chunk (i + 1) 32 w (omega (arith, bound))) r first)
+first_surrogate_at_offset w i bound = first_at_offset (SurrogateAt w) (SurrogateInLane (chunk i 32 w) (chunk (i + 1) 32 w)) i 32 begins
   where
     begins : (k : ℕ) → k < 32 → SurrogateInLane (chunk i 32 w) (chunk (i + 1) 32 w) k ↔ SurrogateAt w (i + k)
     begins k l =
