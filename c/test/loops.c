@@ -1,5 +1,6 @@
-/* Makes a string of a text of 4,096 units ("in"), or copies its units out ("out"); the input says which, for
- * which text and how often. c/count counts what it takes. */
+/* Makes a string of a text ("in"), copies its units out ("out"), empties it and appends an equal one ("append"), or
+ * compares it with an equal one by bytes ("equal") or by units ("order"). The input says which, for which text, of how
+ * many units, at most 4,096, and how often. c/count and gate/instructions count what it takes. */
 #include "../wtf8.h"
 
 #include <stdio.h>
@@ -18,18 +19,27 @@ static uint16_t unit_of(const char *text, size_t i) {
 int main(void) {
     static uint16_t units[UNITS], out[UNITS];
     char call[8], text[16];
-    size_t rounds, len = 0, bad = 0;
-    wtf8_string string = WTF8_EMPTY;
-    if (scanf("%7s %15s %zu", call, text, &rounds) != 3) return 1;
-    for (size_t i = 0; i < UNITS; i++) units[i] = unit_of(text, i);
-    bad += wtf8_set_units(&string, units, UNITS) != WTF8_DONE;
+    size_t count, rounds, len = 0, bad = 0;
+    wtf8_string string = WTF8_EMPTY, equal = WTF8_EMPTY;
+    if (scanf("%7s %15s %zu %zu", call, text, &count, &rounds) != 4 || count > UNITS) return 1;
+    for (size_t i = 0; i < count; i++) units[i] = unit_of(text, i);
+    bad += wtf8_set_units(&string, units, count) != WTF8_DONE;
+    bad += wtf8_set_units(&equal, units, count) != WTF8_DONE;
     for (size_t i = 0; i < rounds; i++) {
         if (strcmp(call, "in") == 0)
-            bad += wtf8_set_units(&string, units, UNITS) != WTF8_DONE;
+            bad += wtf8_set_units(&string, units, count) != WTF8_DONE;
+        else if (strcmp(call, "out") == 0)
+            bad += wtf8_copy_units(&string, out, count, &len) != WTF8_DONE;
+        else if (strcmp(call, "append") == 0) {
+            wtf8_clear(&string);
+            bad += wtf8_push_string(&string, &equal) != WTF8_DONE;
+        } else if (strcmp(call, "equal") == 0)
+            bad += !wtf8_equal(&string, &equal);
         else
-            bad += wtf8_copy_units(&string, out, UNITS, &len) != WTF8_DONE;
+            bad += wtf8_compare_units(&string, &equal) != 0;
     }
-    bad += wtf8_unit_len(&string) != UNITS;
+    bad += wtf8_unit_len(&string) != count;
     wtf8_free(&string);
+    wtf8_free(&equal);
     return bad != 0;
 }

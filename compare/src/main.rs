@@ -39,7 +39,7 @@ const USAGE: &str = "usage: compare differ [--seed S] [--cases N] [--every-point
        compare table FILE..
        compare rows [WORD]..
        compare texts [FILTER]
-       compare loop proved|crate ROW ROUNDS
+       compare loop proved|crate|text ROW ROUNDS
        compare simdutf IMPLEMENTATION, and compare loop IMPLEMENTATION ROW ROUNDS, if compare/simdutf/run built it";
 
 fn main() -> ExitCode {
@@ -69,6 +69,7 @@ fn main() -> ExitCode {
         ["rows", ref words @ ..] => bench::rows(words),
         #[cfg(simdutf)]
         ["simdutf", implementation] => simdutf::run(implementation),
+        ["loop", "text", row, rounds] => texts::run_loop(row, rounds),
         ["loop", side, row, rounds] => bench::run_loop(side, row, rounds),
         [] | ["help" | "--help" | "-h"] => {
             say!("{USAGE}");

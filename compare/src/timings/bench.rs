@@ -182,6 +182,34 @@ pub fn run_loop(column: &str, row: &str, rounds: &str) -> bool {
     true
 }
 
+/// The least times of a column, in nanoseconds: of runs with no rounds, which only make what the loop works on, and of
+/// runs with rounds.
+#[derive(Clone, Copy)]
+struct Least {
+    made: f64,
+    whole: f64,
+}
+
+impl Least {
+    const NONE: Least = Least {
+        made: f64::INFINITY,
+        whole: f64::INFINITY,
+    };
+
+    fn add(&mut self, made: f64, whole: f64) {
+        self.made = self.made.min(made);
+        self.whole = self.whole.min(whole);
+    }
+
+    /// The time of an item, infinite if there was no run.
+    fn per_item(self, items: f64) -> f64 {
+        match self.whole.is_finite() {
+            true => (self.whole - self.made).max(0.0) / items,
+            false => f64::INFINITY,
+        }
+    }
+}
+
 /// Times a row. Returns `None` if the columns return different sums. The proved library and the crate have their own
 /// numbers of rounds, so that their turns take about equally long.
 fn time(number: u32, name: String, input: &Input) -> Option<Row> {
@@ -194,57 +222,61 @@ fn time(number: u32, name: String, input: &Input) -> Option<Row> {
     });
     let result = ours::time(number, units, others, rounds);
     let mut random = Random::new(u64::from(number));
-    let mut least = [f64::INFINITY; 4];
+    let mut least = [Least::NONE; 3];
     for _ in 0..TURNS {
         // Times depend on the addresses of the strings, so each turn makes all strings at other addresses, one column's
         // while no other column has any.
         let _elsewhere = black_box(vec![0u8; random.between(1, 8192) as usize]);
         let (made, _) = timed(|| ours::time(number, units, others, 0));
-        let (with_making, _) = timed(|| ours::time(number, units, others, own_rounds));
+        let (whole, _) = timed(|| ours::time(number, units, others, own_rounds));
+        least[0].add(made, whole);
         let original = original::Bench::new(number, units, others);
-        let (crate_time, crate_result) = timed(|| original.run(number, rounds));
+        let (made, _) = timed(|| original.run(number, 0));
+        let (whole, crate_result) = timed(|| original.run(number, rounds));
         drop(original);
         if crate_result.is_some_and(|crate_result| crate_result != result) {
             say!("DIFFERENT RESULTS in {name}: {result} and {crate_result:?}");
             return None;
         }
-        least[0] = least[0].min(made);
-        least[1] = least[1].min(with_making);
         if crate_result.is_some() {
-            least[2] = least[2].min(crate_time);
+            least[1].add(made, whole);
         }
         #[cfg(std_wtf8)]
         {
             let standard = standard::Bench::new(number, units, others);
-            let (standard_time, standard_result) = timed(|| standard.run(number, rounds));
+            let (made, _) = timed(|| standard.run(number, 0));
+            let (whole, standard_result) = timed(|| standard.run(number, rounds));
             if standard_result.is_some_and(|standard_result| standard_result != result) {
                 say!("DIFFERENT RESULTS in {name}: {result} and {standard_result:?}");
                 return None;
             }
             if standard_result.is_some() {
-                least[3] = least[3].min(standard_time);
+                least[2].add(made, whole);
             }
         }
     }
     let items = |rounds: u32| f64::from(rounds) * input.items as f64;
     Some(Row {
         name,
-        ours: (least[1] - least[0]).max(0.0) / items(own_rounds),
-        original: least[2] / items(rounds),
-        standard: least[3] / items(rounds),
+        ours: least[0].per_item(items(own_rounds)),
+        original: least[1].per_item(items(rounds)),
+        standard: least[2].per_item(items(rounds)),
     })
 }
 
-/// Doubles the number of rounds, up to 2^24, until a loop takes at least `TURN`.
+/// Doubles the number of rounds, up to 2^24, until a loop takes at least `TURN` more than no rounds do. Each time is the
+/// least of three, since other processes interrupt some runs.
 pub fn rounds_of_a_turn(run: impl Fn(u32)) -> u32 {
+    let least = |rounds| {
+        let times = (0..3).map(|_| timed(|| run(rounds)).0);
+        times.fold(f64::INFINITY, f64::min)
+    };
+    let end = least(0) + TURN;
     let mut rounds = 16;
-    loop {
-        let (time, ()) = timed(|| run(rounds));
-        if time >= TURN || rounds >= 1 << 24 {
-            return rounds;
-        }
+    while least(rounds) < end && rounds < 1 << 24 {
         rounds *= 2;
     }
+    rounds
 }
 
 pub fn timed<T>(run: impl FnOnce() -> T) -> (f64, T) {

@@ -3,6 +3,7 @@
 use std::hint::black_box;
 use std::time::{Duration, Instant};
 
+use crate::console::fail;
 use crate::ours;
 use crate::random::Random;
 use crate::say;
@@ -10,6 +11,9 @@ use crate::timings::inputs::{self, Input};
 
 /// The lengths of the texts in units.
 const LENGTHS: [usize; 3] = [40, 1_000, 1_000_000];
+
+/// The length in units of the texts whose calls are counted.
+const COUNTED: usize = 4096;
 
 /// The least number of indexes in random order in a round.
 const LEAST_INDEXES: usize = 1_000;
@@ -134,6 +138,22 @@ pub fn run(filter: &str) -> bool {
             .join(" | ");
         say!("| bytes a unit | {length} | {cells} |");
     }
+    true
+}
+
+/// Runs the loop of a call over a text of `COUNTED` units, at the index in the middle if it takes one, and nothing else,
+/// for a tool that counts its instructions. A row is the name of a call, a tab and that of an input.
+pub fn run_loop(row: &str, rounds: &str) -> bool {
+    let (name, input_name) = row.split_once('\t').unwrap_or((row, ""));
+    let call = CALLS.iter().find(|call| call.name == name);
+    let input = inputs::texts(COUNTED)
+        .into_iter()
+        .find(|input| input.name == input_name);
+    let (Some(call), Some(input), Ok(rounds)) = (call, input, rounds.parse()) else {
+        fail(&format!("no loop over a text: {row}, {rounds}"));
+    };
+    let middle = [COUNTED as u32 / 2];
+    say!("{}", ours::texts(call.text, &input.units, &middle, rounds));
     true
 }
 

@@ -1,37 +1,35 @@
-//! A string and a text with indexes in code units, for the timed loops.
-ghost use Rattle.std.specs.Prelude.{◌≡◌, ◌+◌, ◌≤◌, length};
+//! A string with indexes in code units, for the timed loops.
+ghost use Rattle.std.specs.Prelude.{◌≤◌, length};
 
 use std::alloc::{AllocError, Global};
-use unit_text::UnitText;
-use wtf8::{Wtf8, Wtf8Buf};
+use wtf8::{CodePoint, UnitSlice, Wtf8, Wtf8Buf};
 
-/// A string, a text, and indexes in code units: the middle of the shorter of both, and the start of its middle half.
-/// The struct has 128 bytes, so that a loop indexes an array of them by a shift.
+/// A string, and indexes of its code units: its middle, and where its middle half begins and ends. `len` makes 64 bytes
+/// of the struct, so that a loop indexes an array of them by a shift.
 #[derive(Drop)]
 pub struct Counted {
     pub string: Wtf8Buf<Global>,
-    pub text: UnitText<Global>,
+    len: usize,
     middle: usize,
     begin: usize,
-    ghost in_string: { middle ≤ length string.units },
-    ghost in_text: { begin + begin ≤ length text },
+    end: usize,
+    ghost middle_within: { middle ≤ length string.units },
+    ghost order: { begin ≤ end },
+    ghost end_within: { end ≤ length string.units },
 }
 
 impl Counted {
-    /// Makes a text of `units`, and indexes that are within both the text and the string.
-    pub fn new(
-        alloc: Global,
-        string: Wtf8Buf<Global>,
-        units: &[u16],
-    ) -> Result<Counted, AllocError> {
-        let text = UnitText::from_units(alloc, units)?;
-        let len = text.unit_len().min(string.as_wtf8().unit_len());
-        Ok(Counted {
+    /// Counts the units of `string`.
+    pub fn new(string: Wtf8Buf<Global>) -> Counted {
+        let len = string.as_wtf8().unit_len();
+        let begin = len / 4;
+        Counted {
             string,
-            text,
+            len,
             middle: len / 2,
-            begin: len / 4,
-        })
+            begin,
+            end: len - begin,
+        }
     }
 
     /// A view of the string.
@@ -39,21 +37,39 @@ impl Counted {
         self.string.as_wtf8()
     }
 
-    /// The unit in the middle of the text, 0 for the empty text.
+    /// The unit in the middle, 0 for the empty string.
     pub fn middle_unit(&self) -> u16 {
-        self.text.unit_at(self.middle).unwrap_or(0)
+        self.view().unit_at(self.middle).unwrap_or(0)
     }
 
-    /// The text without `begin` units at each end.
-    pub fn middle_half(&self, alloc: Global) -> Result<UnitText<Global>, AllocError> {
-        let end = self.text.unit_len() - self.begin;
-        self.text.slice_units(alloc, self.begin, end)
+    /// A string of the units without a quarter at each end.
+    pub fn middle_half(&self, alloc: Global) -> Result<Wtf8Buf<Global>, AllocError> {
+        let view = self.string.as_wtf8();
+        string_of(alloc, view.slice_units(self.begin, self.end))
     }
 
-    /// The first `middle` units of the string.
+    /// The string without the second half of its units.
     pub fn first_half(&self) -> Result<Wtf8Buf<Global>, AllocError> {
         let mut string = self.string.clone()?;
         string.truncate_units(self.middle);
         Ok(string)
+    }
+}
+
+/// A string of the units of a slice.
+fn string_of(alloc: Global, slice: UnitSlice<'_>) -> Result<Wtf8Buf<Global>, AllocError> {
+    let mut string = Wtf8Buf::new(alloc);
+    push_half(&mut string, slice.trail)?;
+    string.push_wtf8(slice.whole)?;
+    push_half(&mut string, slice.lead)?;
+    Ok(string)
+}
+
+/// Appends half of a surrogate pair, if there is one.
+#[inline(always)]
+fn push_half(string: &mut Wtf8Buf<Global>, half: Option<u16>) -> Result<(), AllocError> {
+    match half {
+        Some(unit) => string.push(CodePoint::from_u32_unchecked(u32::from(unit))),
+        None => Ok(()),
     }
 }

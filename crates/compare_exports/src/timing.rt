@@ -14,11 +14,6 @@ use wtf8::{CodePoint, Wtf8, Wtf8Buf};
 /// The number of equal strings that a loop cycles through.
 pub const STRINGS: usize = 4;
 
-/// The numbers of the first and the last loop that counts in code units.
-const FIRST_COUNTED: u32 = 15;
-
-const LAST_COUNTED: u32 = 20;
-
 /// The number of the first loop over the lines among the units.
 const FIRST_OF_LINES: u32 = 24;
 
@@ -52,7 +47,7 @@ impl Bench {
     ) -> Result<Bench, AllocError> {
         let string = Wtf8Buf::from_ill_formed_utf16(alloc, units)?;
         let points = string.as_wtf8().code_points().collect(alloc)?;
-        let strings = equal_strings(&string, alloc, counted_units(number, units))?;
+        let strings = equal_strings(&string)?;
         let mut bench = Bench {
             alloc,
             units: Vec::from_slice(alloc, units)?,
@@ -64,8 +59,7 @@ impl Bench {
         };
         if !others.is_empty() {
             let string = Wtf8Buf::from_ill_formed_utf16(alloc, others)?;
-            let others = equal_strings(&string, alloc, counted_units(number, others))?;
-            bench.others = Some(others);
+            bench.others = Some(equal_strings(&string)?);
         }
         if FIRST_OF_LINES <= number {
             bench.lines = lines(alloc, units)?;
@@ -146,10 +140,10 @@ impl Bench {
             12 => own.string.cmp(&other.string).is_le() as u64,
             13 => own.string.clone()?.len() as u64,
             14 => own.view().hex_dump(self.alloc)?.len() as u64,
-            15 => own.text.unit_len() as u64,
+            15 => own.view().unit_len() as u64,
             16 => u64::from(own.middle_unit()),
-            17 => own.middle_half(self.alloc)?.as_wtf8().len() as u64,
-            18 => own.text.cmp_units(&other.text).is_le() as u64,
+            17 => own.middle_half(self.alloc)?.len() as u64,
+            18 => own.view().cmp_units(&other.view()).is_le() as u64,
             19 => own.first_half()?.len() as u64,
             20 => appended_units(self.alloc, own.view())?,
             21 => grown_text(self.alloc, self.units.as_slice())?,
@@ -234,22 +228,9 @@ impl Bench {
     }
 }
 
-/// Clones of `string`, each with a text of the units `counted`.
-fn equal_strings(
-    string: &Wtf8Buf<Global>,
-    alloc: Global,
-    counted: &[u16],
-) -> Result<[Counted; STRINGS], AllocError> {
-    array::try_from_fn(|_| Counted::new(alloc, string.clone()?, counted))
-}
-
-/// The units of the texts for loop `number`. None if the loop does not count in units, so that the strings lie in
-/// memory as in a library without such calls.
-fn counted_units(number: u32, units: &[u16]) -> &[u16] {
-    if number < FIRST_COUNTED || LAST_COUNTED < number {
-        return &units[..0];
-    }
-    units
+/// Clones of `string`.
+fn equal_strings(string: &Wtf8Buf<Global>) -> Result<[Counted; STRINGS], AllocError> {
+    array::try_from_fn(|_| Ok(Counted::new(string.clone()?)))
 }
 
 /// A string for each line of `units`.

@@ -2,7 +2,7 @@
 //!
 //! A script is bytes: one call after another, each an opcode and its operands. It works on four strings and two
 //! `UnitText`s, all empty at the start. `opcodes` lists the calls. A transcript is lines of text, at least one for each
-//! call but `apply` of an empty list.
+//! call but `apply` of an empty list, and none from a call of `Silence` on.
 #![tactic(auto)]
 
 mod build_calls;

@@ -63,6 +63,10 @@ impl Machine {
             Some(Call::Operands(call)) => write_operand_results(call, tape),
             Some(Call::String(call)) => self.run_at(call, tape),
             Some(Call::Text(call)) => self.texts.run(call, tape),
+            Some(Call::Silence) => {
+                tape.is_silent = true;
+                Ok(())
+            }
             None => Err(Stop::Malformed),
         }
     }

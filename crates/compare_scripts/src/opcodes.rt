@@ -12,6 +12,9 @@ pub enum Call {
     String(StringCall),
     /// A call on the texts.
     Text(TextCall),
+    /// Writes nothing, and neither does any call after it: a count of instructions is then of the calls, not of the
+    /// transcript.
+    Silence,
 }
 
 /// A call on operands alone, which writes what it returns.
@@ -306,6 +309,7 @@ impl Call {
             30 => Call::Operands(OperandCall::ViewFromStr),
             31 => Call::Operands(OperandCall::CodePoint),
             32 => Call::Operands(OperandCall::CodePointComparisons),
+            100 => Call::Silence,
             0..64 => Call::String(StringCall::from_opcode(opcode)?),
             _ => Call::Text(TextCall::from_opcode(opcode)?),
         };

@@ -18,6 +18,8 @@ pub struct Tape<'s> {
     pub reader: Reader<'s>,
     /// The transcript of the calls so far.
     pub transcript: String,
+    /// Whether nothing more is written.
+    pub is_silent: bool,
 }
 
 impl<'s> Tape<'s> {
@@ -27,6 +29,7 @@ impl<'s> Tape<'s> {
             alloc,
             reader: Reader::new(script),
             transcript: String::new(alloc),
+            is_silent: false,
         }
     }
 
@@ -39,11 +42,17 @@ impl<'s> Tape<'s> {
 
     /// What `write!` and `writeln!` call.
     pub fn write_fmt<D: Display + Drop>(&mut self, text: D) -> Result<(), Stop> {
+        if self.is_silent {
+            return Ok(());
+        }
         allocated(self.transcript.write_fmt(text))
     }
 
     /// Writes a word as it is.
     pub fn write_word(&mut self, word: &str) -> Result<(), Stop> {
+        if self.is_silent {
+            return Ok(());
+        }
         allocated(self.transcript.push_str(word))
     }
 
@@ -55,6 +64,9 @@ impl<'s> Tape<'s> {
 
     /// Writes a line of a word and the bytes of a text in hexadecimal.
     pub fn write_text(&mut self, word: &str, text: &str) -> Result<(), Stop> {
+        if self.is_silent {
+            return Ok(());
+        }
         let dump = allocated(Wtf8::from_str(text).hex_dump(self.alloc))?;
         writeln!(self, "{word}: {dump}")
     }
@@ -67,12 +79,18 @@ impl<'s> Tape<'s> {
 
     /// Writes a space, the length and the bytes of a view, and ends the line.
     pub fn write_view(&mut self, view: Wtf8<'_>) -> Result<(), Stop> {
+        if self.is_silent {
+            return Ok(());
+        }
         let dump = allocated(view.hex_dump(self.alloc))?;
         writeln!(self, " {}: {dump}", view.len())
     }
 
     /// Writes the number of units of a text and the units, and ends the line.
     pub fn write_units(&mut self, text: &UnitText<Global>) -> Result<(), Stop> {
+        if self.is_silent {
+            return Ok(());
+        }
         write!(self, "{} units:", text.unit_len())?;
         for unit in text.as_wtf8().to_ill_formed_utf16() {
             write!(self, "{unit:04X}")?;
