@@ -12,7 +12,8 @@ ghost use Rattle.wtf8.specs.Surrogates.{AreScalar, lossy_points};
 ghost use Rattle.wtf8.specs.private.Prefixes.{AreScalarTo, AreScalarTo-prop};
 ghost use Rattle.wtf8.specs.private.Search.{IsFirst, SurrogateAt};
 ghost use Rattle.wtf8.specs.Unicode.{units, units_of};
-ghost use Rattle.wtf8.specs.UnitPosition.{TruncatesUnits};
+ghost use Rattle.std.specs.Option.{option_to_list};
+ghost use Rattle.wtf8.specs.UnitPosition.{units_of_slice, TruncatesUnits};
 ghost use Rattle.wtf8.specs.UnitString.{UnitString, unit_string_code};
 ghost use Rattle.wtf8.specs.View.{view_points, view_units};
 
@@ -22,6 +23,7 @@ use crate::lanes::search;
 use crate::strings::concat;
 use crate::strings::lossy::replace_surrogates;
 use crate::strings::unit_positions::find_cut;
+use crate::strings::unit_slices::UnitSlice;
 use crate::strings::utf8_prefix::Utf8Prefix;
 use crate::strings::view::Wtf8;
 use crate::vec::copies;
@@ -361,6 +363,54 @@ impl<A: Allocator> Wtf8Buf<A> {
         ensures capacity { self.old.capacity ≤ self.new.capacity }
     {
         self.push(CodePoint::from_unit(unit))
+    }
+
+    /// Appends a part that was cut at code units: its whole code points between the halves of pairs that the cuts split. A
+    /// string that is cut at any unit, even inside a pair, is whole again after the second part is appended to the first. If
+    /// memory is refused, the string is unchanged. Amortized linear in the length of the part.
+    pub fn push_unit_slice(&mut self, slice: UnitSlice<'_>) -> Result<(), AllocError>
+        ensures ok { OnOk result (AppendsUnits self.old (units_of_slice slice.entry) self.new) }
+        ensures kept { OnErr result (KeepsContents self.old self.new) }
+
+        // A push whose bytes fit is never refused, nor is an empty part, and the capacity never shrinks.
+        ensures room { HasRoomFor self.old (units_of_slice slice.entry) → IsOk result }
+        ensures empty { units_of_slice slice.entry ≡ [] → IsOk result }
+        ensures capacity { self.old.capacity ≤ self.new.capacity }
+    {
+        let len = self.bytes.len();
+        let utf8_prefix = self.utf8_prefix;
+        let lead = self.as_wtf8().final_lead_surrogate();
+        let pushed = self.push_parts(slice);
+        if pushed.is_err() {
+            concat::take_back(&mut self.bytes, len, lead);
+            self.utf8_prefix = utf8_prefix;
+        }
+        pushed
+    }
+
+    /// Appends the parts of a slice, one by one. If memory is refused, those before may have been appended.
+    fn push_parts(&mut self, slice: UnitSlice<'_>) -> Result<(), AllocError>
+        ensures ok { OnOk result (AppendsUnits self.old (units_of_slice slice.entry) self.new) }
+        ensures some { (v : List ℕ) × AppendsUnits self.old v self.new }
+        ensures room { HasRoomFor self.old (units_of_slice slice.entry) → IsOk result }
+        ensures capacity { self.old.capacity ≤ self.new.capacity }
+    {
+        self.push_half(slice.trail)?;
+        self.push_wtf8(slice.whole)?;
+        self.push_half(slice.lead)
+    }
+
+    /// Appends half of a surrogate pair, if there is one.
+    fn push_half(&mut self, half: Option<u16>) -> Result<(), AllocError>
+        ensures ok { OnOk result (AppendsUnits self.old (option_to_list half) self.new) }
+        ensures kept { OnErr result (KeepsContents self.old self.new) }
+        ensures room { HasRoomFor self.old (option_to_list half) → IsOk result }
+        ensures capacity { self.old.capacity ≤ self.new.capacity }
+    {
+        match half {
+            Some(unit) => self.push_unit(unit),
+            None => Ok(()),
+        }
     }
 
     /// Shortens the string to `new_len` bytes, which must be a code point boundary (`is_code_point_boundary` of the

@@ -273,7 +273,7 @@ fn append_utf16<A: Allocator>(
 }
 
 /// Takes back what was appended to the first `len` bytes, which `lead` ended if it is one.
-fn take_back<A: Allocator>(bytes: &mut Vec<u8, A>, len: usize, lead: Option<u32>)
+pub(crate) fn take_back<A: Allocator>(bytes: &mut Vec<u8, A>, len: usize, lead: Option<u32>)
     requires within { len ≤ length bytes.old.items }
     requires lead { IfSome lead (λ l. IsLead l × (3 ≤ len)) }
     ensures begins { IfNone lead (bytes.new.items ≡ take len bytes.old.items) }

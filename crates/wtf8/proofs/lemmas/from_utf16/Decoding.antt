@@ -2,8 +2,8 @@
 use Rattle.wtf8.proofs.Common.{◌≡◌, ◌+◌, ◌-◌, ◌<◌, length, take, drop, get_or, append-nil, Reads, inl, inr, ℕ, List, [], ◌∷◌, ◌++◌, Option}
 use Rattle.wtf8.proofs.Common.{None, Some, Result, Ok, Err, refl, sym, ap, ◌∙◌, subst, arith, Drains, peekable_steps, peekable_peeked}
 use Rattle.wtf8.proofs.Common.{point_of_item, map, decode_steps, ReadsAll, IsClean, IsCodePoint, IsLead, IsTrail, IsReadTo, same_from_push}
-use Rattle.wtf8.proofs.Common.{IsSurrogate, MatchResult, units, pair, MatchOption, IfSome, Bool, IsTrue, ◌≢◌, AreScalar, IsKnownForm, bytes}
-use Rattle.wtf8.proofs.Common.{encoding, map-append, take-append-drop, ◌≤◌, append_assoc, length-append}
+use Rattle.wtf8.proofs.Common.{IsSurrogate, MatchResult, units, pair, MatchOption, IfSome, Bool, IsTrue, AreScalar, IsKnownForm, bytes}
+use Rattle.wtf8.proofs.Common.{encoding, map-append, take-append-drop, ◌≤◌, append_assoc}
 use Rattle.wtf8.proofs.Common.{length-drop, take_all, DividesPair, copied_steps, iter_steps, iter_rest, common_steps}
 use Rattle.wtf8.proofs.Common.{get_or-drop, ◌&&◌, IsForm, MeetsAsPair, take-add, take_at}
 use Rattle.std.proofs.lemmas.List.{drop_more, nil_from_length}

@@ -2,7 +2,7 @@
 use Rattle.wtf8.proofs.Common.{◌≡◌, ◌↔◌, ℕ, zero, suc, ◌+◌, ◌%◌, ◌^◌, ◌<◌, eqb, leb, Bool, false, IsTrue, cond, List, [], ◌∷◌, map}
 use Rattle.wtf8.proofs.Common.{length, get_or, replicate, sym, ap, ◌∙◌, arith, le-leb, eq-eqb, eqb-true, length-zip2, get_or-chunk, chunk}
 use Rattle.wtf8.proofs.Common.{zip2, mask_l, top, SurrogateAt, refl, Option, get_or-zip2, ◌&&◌, bit_and, subst, and_parts, and_from}
-use Rattle.wtf8.proofs.Common.{leb-true, MatchOption, IsFirstIn, IsFirstSet, IsLeast, IsSet, NoneIn, ◌≤◌, slice_index, SurrogateInLane}
+use Rattle.wtf8.proofs.Common.{leb-true, MatchOption, IsFirstIn, IsFirstSet, IsLeast, IsSet, NoneIn, SurrogateInLane}
 use Rattle.wtf8.proofs.lemmas.lanes.Masks.{first_at_offset, IsFirstIn-iff}
 
 -- The search for a surrogate in two vectors, the second shifted by one byte.

@@ -1,16 +1,16 @@
 -- Appending code units to well-formed bytes: what holds before the first unit, after all of them, and after a refusal.
-use Rattle.wtf8.proofs.Common.{◌≡◌, ◌≢◌, ◌+◌, ◌-◌, ◌<◌, ◌≤◌, ℕ, zero, suc, Bool, true, false, IsTrue, List, [], ◌∷◌, ◌++◌, length, take, drop, get_or}
+use Rattle.wtf8.proofs.Common.{◌≡◌, ◌+◌, ◌-◌, ◌<◌, ◌≤◌, ℕ, Bool, false, IsTrue, List, [], ◌∷◌, ◌++◌, length, take, drop, get_or}
 use Rattle.wtf8.proofs.Common.{Option, Some, None, IfSome, Result, Ok, Err, IsOk, refl, sym, ap, ◌∙◌, subst, arith, append-nil, append_assoc}
-use Rattle.wtf8.proofs.Common.{Fits, w16, length-append, length-take, take-append-drop, take-take, take_at, All, All-from_get_or, false≢true, vec_capacity}
-use Rattle.wtf8.proofs.Common.{IsUnit, IsLead, IsTrail, MeetsAsPair, units, units_of, pair, encoding, bytes, Reads, IsForm, IsWellFormed, form_of, AreScalar}
-use Rattle.wtf8.proofs.Common.{AreScalarTo, FrontsFit, IsKnownForm, IsReadTo, ExtendsForm, ExtendsFormOrKeeps, glue, slice_index, common_steps}
-use Rattle.std.specs.Prelude.{IfNone, IfOk, OnOk, OnErr}
+use Rattle.wtf8.proofs.Common.{HasRoomFor, KeepsContents, UnitString, inl, inr, Fits, w16, length-append, length-take, take-append-drop, take-take, take_at, All, All-from_get_or, false≢true, vec_capacity}
+use Rattle.wtf8.proofs.Common.{IsUnit, IsLead, IsTrail, MeetsAsPair, units, pair, encoding, bytes, Reads, IsForm, IsWellFormed, form_of, AreScalar}
+use Rattle.wtf8.proofs.Common.{AreScalarTo, FrontsFit, IsKnownForm, IsReadTo, ExtendsForm, ExtendsFormOrKeeps, glue}
+use Rattle.std.specs.Prelude.{IfNone, OnOk, OnErr}
 use Rattle.std.specs.declared.vec.Vec.{Vec}
 use Rattle.wtf8.proofs.lemmas.codec.Encoding.{bytes-pushed, length-surrogate}
-use Rattle.wtf8.proofs.lemmas.codec.Readings.{MeetsAsPair-equal_lists, meets_by, same_form, same_points, same_reading, units_from_form, units_one, clean-append}
-use Rattle.wtf8.proofs.lemmas.codec.Readings.{IsWellFormed-equal_bytes, unpaired-after_no_lead, units-append}
-use Rattle.wtf8.proofs.lemmas.strings.Concatenation.{form-glue, lead_last, one_form}
-use Rattle.wtf8.proofs.lemmas.strings.ExtendedForms.{utf8_prefix_after_append, CompletedPair, CompletedPair-from_lead, all_scalar, beginning_of_form, both_length, scalar_front_unpaired}
+use Rattle.wtf8.proofs.lemmas.codec.Readings.{MeetsAsPair-equal_lists, meets_by, same_form, same_reading, units_from_form, units_one, clean-append}
+use Rattle.wtf8.proofs.lemmas.codec.Readings.{IsWellFormed-equal_bytes, form-append, meets_or_not, unpaired-after_no_lead, units-append}
+use Rattle.wtf8.proofs.lemmas.strings.Concatenation.{form-glue, form_meeting, lead_last, length-paired_bytes, meeting_bytes, one_form, paired_bytes, units_read}
+use Rattle.wtf8.proofs.lemmas.strings.ExtendedForms.{utf8_prefix_after_append, CompletedPair, CompletedPair-from_lead, all_back, all_scalar, beginning_of_form, both_length, scalar_front_unpaired}
 
 -- The first unit, and a lead before it.
 
@@ -137,6 +137,27 @@ module _ {T E Z : Type 0} {b m : Vec ℕ Z} where
   utf8_prefix_after_units {v} (Err y) k n h u s l t g =
       (IsWellFormed-equal_bytes h g.becomes.err, ((λ f p b g m. s f p b g (omega (arith, l, m))), tt))
 
+-- room for a list is room for its front, and after that for its back
+pub room_for_front : (s : UnitString) (a b : List ℕ) → HasRoomFor s (a ++ b) → HasRoomFor s a
+room_for_front s a b fit =
+    let front = beginning_of_form (s.units ++ a) b fit.whole (subst (IsForm fit.whole) (sym (append_assoc s.units a b)) fit.form) in
+    record { whole = front.whole; form = front.form; within = omega (arith, front.within, fit.within) }
+
+pub room_for_back : (s t : UnitString) (a b : List ℕ) → t.units ≡ s.units ++ a → s.capacity ≤ t.capacity → HasRoomFor s (a ++ b) → HasRoomFor t b
+room_for_back s t a b e larger fit = record {
+  whole = fit.whole;
+  form = subst (IsForm fit.whole) (sym (append_assoc s.units a b) ∙ ap (λ u. u ++ b) (sym e)) fit.form;
+  within = omega (arith, fit.within, larger);
+}
+
+-- equal bytes are equal contents
+pub contents_kept : {T E : Type 0} (r : Result T E) (old new : UnitString) → new.bytes ≡ old.bytes → OnErr r (KeepsContents old new)
+contents_kept (Ok _) old new same = tt
+contents_kept (Err _) old new same = record {
+  units = units_from_form new.bytes new.units old.units new.form (subst (λ w. IsForm w old.units) (sym same) old.form);
+  bytes = same;
+}
+
 -- Taking back what was appended.
 
 -- a lead at the end has three bytes
@@ -170,6 +191,51 @@ begins_before k a b c e begins joined within =
     let front : length (take k a) ≡ k = omega (arith, length-take k a, within) in
     let count : length b ≡ length (take k a) + length e = ap length joined ∙ length-append (take k a) e in
     sym (take-take k (length b) c (omega (arith, count, front))) ∙ ap (take k) (begins ∙ joined) ∙ take_at (take k a) e k front
+
+-- The bytes before and after units were appended: the old ones stay, but for a lead at their end.
+pub record KeepsFront (w now : List ℕ) (o : Option ℕ) : Type 0 where
+  pub begins : IfNone o (take (length w) now ≡ w)
+  pub before_lead : take (length w - 3) now ≡ take (length w - 3) w
+  pub longer : length w ≤ length now
+
+pub front_kept : {w now : List ℕ} (o : Option ℕ) (v : List ℕ) (h : IsWellFormed w)
+    → IfNone o ((f : List ℕ) (l : ℕ) → IsLead l → h.points ≡ f ++ l ∷ [] → ⊥) → IsForm now (units h.points ++ v) → KeepsFront w now o
+front_kept {w} {now} o v h none form =
+    let u = units h.points in
+    let back = one_form v (all_back u v (units_read form.points (u ++ v) form.reads)) in
+    elim (meets_or_not h.points back.has.points) [
+      | inl m ↦
+          let s = meeting_bytes m h.encoded back.has.encoded in
+          let same : now ≡ paired_bytes w m.lead m.trail back.one =
+          same_form now (paired_bytes w m.lead m.trail back.one) (u ++ v) form (form_meeting (form_of h) back.has m) in
+          let pair_bytes = encoding (pair m.lead m.trail) ++ drop 3 back.one in
+          let joined : now ≡ take (length w - 3) w ++ pair_bytes =
+          same ∙ append_assoc (take (length w - 3) w) (encoding (pair m.lead m.trail)) (drop 3 back.one) in
+          let four = length-paired_bytes w back.one m.lead m.trail m.is_lead m.is_trail s.three s.three_after in
+          record {
+            begins = no_lead o none m.front m.lead m.is_lead m.ends;
+            before_lead = ap (take (length w - 3)) joined ∙ take_at (take (length w - 3) w) pair_bytes (length w - 3)
+                (omega (arith, length-take (length w - 3) w));
+            longer = omega (arith, ap length same, four, s.three_after);
+          }
+      | inr n ↦
+          let same : now ≡ w ++ back.one = same_form now (w ++ back.one) (u ++ v) form (form-append (form_of h) back.has n) in
+          let begins : take (length w) now ≡ w = ap (take (length w)) same ∙ take_at w back.one (length w) refl in
+          record {
+            begins = if_none o begins;
+            before_lead = sym (take-take (length w - 3) (length w) now (omega arith)) ∙ ap (take (length w - 3)) begins;
+            longer = omega (arith, ap length same, length-append w back.one);
+          }
+    ]
+  where
+    no_lead : (o : Option ℕ) → IfNone o ((f : List ℕ) (l : ℕ) → IsLead l → h.points ≡ f ++ l ∷ [] → ⊥) → (f : List ℕ) (l : ℕ) → IsLead l
+        → h.points ≡ f ++ l ∷ [] → IfNone o (take (length w) now ≡ w)
+    no_lead None n f l lead e = absurd (n f l lead e)
+    no_lead (Some l) n f m lead e = tt
+
+    if_none : (o : Option ℕ) → take (length w) now ≡ w → IfNone o (take (length w) now ≡ w)
+    if_none None e = e
+    if_none (Some l) e = tt
 
 -- The UTF-8 prefix: units after scalar values are scalar values if all are.
 

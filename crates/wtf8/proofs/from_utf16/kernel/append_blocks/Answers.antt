@@ -1,4 +1,4 @@
-use Rattle.wtf8.proofs.Common.{false≢true, arith, length, length-append, take, common_steps}
+use Rattle.wtf8.proofs.Common.{false≢true, arith, length-append, take, common_steps}
 use Rattle.wtf8.proofs.from_utf16.kernel.append_blocks.Goals as goal
 
 pub returns-in_err-extend_from_slice-clause-room : goal.returns-in_err-extend_from_slice-clause-room

@@ -1,6 +1,6 @@
 use Rattle.wtf8.proofs.Common.{◌+◌, arith, ◌&&◌, ◌++◌, encoding, number, subst, true, false≢true, IsReadTo, List, ℕ}
 use Rattle.std.proofs.Math.Bool.{and-true}
-use Rattle.wtf8.proofs.lemmas.from_utf16.Decoding.{IsFirstRead-unit, IsReadTo-point, IsFirstRead}
+use Rattle.wtf8.proofs.lemmas.from_utf16.Decoding.{IsFirstRead-unit, IsReadTo-point}
 use Rattle.wtf8.proofs.from_utf16.transcode.append_point.Goals.{After-append, After-append-2}
 use Rattle.wtf8.proofs.from_utf16.transcode.append_point.Goals as goal
 

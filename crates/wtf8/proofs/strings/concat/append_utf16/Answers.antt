@@ -1,4 +1,4 @@
-use Rattle.wtf8.proofs.Common.{◌≡◌, ◌-◌, ◌+◌, ◌≤◌, ◌++◌, ◌∙◌, ◌∷◌, false≢true, arith, ap, length, length-append, length-take, take, sym, subst}
+use Rattle.wtf8.proofs.Common.{◌-◌, ◌++◌, false≢true, arith, ap, length, length-append, length-take, take}
 use Rattle.wtf8.proofs.Common.{refl, encoding, pair, units, IsReadTo, IsTrail, IsWellFormed, ◌<◌, false, slice_index}
 use Rattle.std.proofs.lemmas.Result.{IfOk-weaker}
 use Rattle.wtf8.proofs.lemmas.codec.Encoding.{encoding_four}

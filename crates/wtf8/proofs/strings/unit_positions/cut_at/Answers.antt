@@ -1,4 +1,4 @@
-use Rattle.wtf8.proofs.Common.{ap, length, arith, ◌≤◌, ◌<◌, inl, inr, cases_lt}
+use Rattle.wtf8.proofs.Common.{ap, length, arith, inl, inr, cases_lt}
 use Rattle.wtf8.proofs.lemmas.strings.Positions.{boundary_of}
 use Rattle.wtf8.proofs.lemmas.strings.UnitCuts.{all_before, in_pair_at_cursor, points_about_unit}
 use Rattle.wtf8.proofs.strings.unit_positions.cut_at.Goals as goal
