@@ -3,6 +3,7 @@
 #ifndef REQUESTS_H
 #define REQUESTS_H
 
+#include <stdint.h>
 #include <stdio.h>
 #include <stdlib.h>
 #include <string.h>
