@@ -67,7 +67,8 @@ void wtf8_clear(wtf8_string *string);
 /* Frees what the string owns, which is the empty string then. Freeing it again does nothing. */
 void wtf8_free(wtf8_string *string);
 
-/* Reserves capacity for at least `additional` more bytes: a unit takes at most 3. Codes: DONE, MEMORY. */
+/* Reserves capacity for at least `additional` more bytes: a unit takes at most 3. Never refused if they
+ * fit, except that 0 bytes for a string without a buffer may be. Codes: DONE, MEMORY. */
 int32_t wtf8_reserve(wtf8_string *string, size_t additional);
 
 /* ---- Appending ---- */
@@ -150,7 +151,7 @@ int32_t wtf8_copy_slice(wtf8_string *string, size_t begin, size_t end, uint16_t 
 /* The same of the text in UTF-8, `*len` in bytes, if there is no surrogate. Codes: DONE, SURROGATE, TOO_SHORT. */
 int32_t wtf8_copy_utf8(wtf8_string *string, uint8_t *out, size_t size, size_t *len);
 
-/* The same of the text with U+FFFD in place of each surrogate. Codes: DONE, MEMORY, TOO_SHORT. */
+/* The same of the text with U+FFFD in place of each surrogate. Codes: DONE, MEMORY (only if there is one), TOO_SHORT. */
 int32_t wtf8_copy_lossy(wtf8_string *string, uint8_t *out, size_t size, size_t *len);
 
 #ifdef __cplusplus

@@ -1,42 +1,15 @@
 /* Random calls against arrays of units, with an encoder of its own, and each request for memory refused in turn.
- * Arguments: a seed and the number of steps. Linked with -Wl,--wrap=malloc,--wrap=realloc. */
+ * Arguments: a seed and the number of steps. Linked as requests.h says. */
 #include "../wtf8.h"
-
-#include <stdio.h>
-#include <stdlib.h>
-#include <string.h>
+#include "requests.h"
 
 enum { STRINGS = 4, MOST = 400, KINDS = 26 };
 
-static long refuse_after = -1; /* the number of requests that are granted before one is refused; -1: all */
-static long requests;
-
-void *__real_malloc(size_t size);
-void *__real_realloc(void *at, size_t size);
-
-static int refused(void) {
-    requests++;
-    if (refuse_after < 0) return 0;
-    if (refuse_after > 0) {
-        refuse_after--;
-        return 0;
-    }
-    return 1;
-}
-
-void *__wrap_malloc(size_t size) {
-    return refused() ? NULL : __real_malloc(size);
-}
-
-void *__wrap_realloc(void *at, size_t size) {
-    return refused() ? NULL : __real_realloc(at, size);
-}
-
-/* A string and the units that it must have. */
+/* A string, the units that it must have, and a number of bytes that it must have the capacity for. */
 struct pair {
     wtf8_string string;
     uint16_t units[4 * MOST];
-    size_t n;
+    size_t n, capacity;
 };
 
 static struct pair pairs[STRINGS];
@@ -118,26 +91,21 @@ static int compare_points(const struct pair *p, const struct pair *q) {
     return i < p->n ? 1 : j < q->n ? -1 : 0;
 }
 
-static void fail(const char *what) {
-    fprintf(stderr, "random: difference: %s\n", what);
-    exit(1);
-}
-
-static void must(int holds, const char *what) {
-    if (!holds) fail(what);
-}
-
 static void check(struct pair *p) {
-    static uint16_t out[4 * MOST + 2];
-    size_t len = 77;
-    long saved = refuse_after;
-    refuse_after = -1;
-    out[p->n] = 0x1234;
-    must(wtf8_copy_units(&p->string, out, p->n, &len) == WTF8_DONE, "copy");
-    must(len == p->n && out[p->n] == 0x1234, "length");
-    must(memcmp(out, p->units, 2 * p->n) == 0, "units");
-    must(wtf8_byte_len(&p->string) == byte_len(p), "bytes");
-    refuse_after = saved;
+    uint8_t *out = an_array(2 * p->n);
+    size_t len = 77, bytes = byte_len(p);
+    must(wtf8_copy_units(&p->string, p->n ? (uint16_t *)out : NULL, p->n, &len) == WTF8_DONE, "copy");
+    must(len == p->n, "length");
+    must_begin(out, 2 * p->n, p->units, 2 * p->n, "units");
+    must(wtf8_byte_len(&p->string) == bytes, "bytes");
+    if (p->capacity < bytes) p->capacity = bytes;
+}
+
+/* Writes the units of a code point, and returns their number. */
+static size_t units_of(uint32_t c, uint16_t *units) {
+    units[0] = (uint16_t)(c < 0x10000 ? c : 0xD800 + ((c - 0x10000) >> 10));
+    units[1] = (uint16_t)(0xDC00 + (c & 0x3FF));
+    return c < 0x10000 ? 1 : 2;
 }
 
 /* A text in UTF-8 of scalar values at `text`, and its units at `units`. */
@@ -147,12 +115,7 @@ static size_t a_text(uint8_t *text, uint16_t *units, size_t *n) {
     for (uint32_t k = below(20); k > 0; k--) {
         uint32_t c = below(3) ? below(0x80) : below(2) ? below(0xD800) : 0x10000 + below(0x100000);
         len += encode(c, text + len);
-        if (c >= 0x10000) {
-            units[(*n)++] = (uint16_t)(0xD800 + ((c - 0x10000) >> 10));
-            units[(*n)++] = (uint16_t)(0xDC00 + (c & 0x3FF));
-        } else {
-            units[(*n)++] = (uint16_t)c;
-        }
+        *n += units_of(c, units + *n);
     }
     return len;
 }
@@ -162,102 +125,141 @@ static void append(struct pair *p, const uint16_t *units, size_t n) {
     p->n += n;
 }
 
+/* An index or a position for a length of `n`: at the ends more often, and some after the end. */
+static size_t an_index(size_t n) {
+    switch (below(10)) {
+        case 0: return 0;
+        case 1: return SIZE_MAX - below(3);
+        default: return below((uint32_t)n + 3);
+    }
+}
+
+/* Returns 1 and has each request refused from now on, if `more` bytes fit the capacity, so that the call that follows
+ * needs no memory. Half of the time it returns 0, so that such calls are made with memory too. */
+static int refuse_if_fits(const struct pair *p, size_t more) {
+    if (below(2) || p->capacity == 0 || p->capacity < more || p->capacity < byte_len(p) + more) return 0;
+    refuse_after = 0;
+    return 1;
+}
+
+/* The same for units that are appended. */
+static int refuse_if_units_fit(struct pair *p, const uint16_t *units, size_t n) {
+    size_t before = byte_len(p);
+    append(p, units, n);
+    size_t after = byte_len(p);
+    p->n -= n;
+    return refuse_if_fits(p, after - before);
+}
+
+static void replace(struct pair *p, const uint16_t *units, size_t n) {
+    p->n = 0;
+    p->capacity = 0;
+    append(p, units, n);
+}
+
 static void step(int kind, struct pair *p, struct pair *q) {
     uint16_t units[64], unit = 0xABCD;
     uint8_t text[128];
-    size_t n = below(33), len;
-    int32_t code;
+    size_t n = below(33), len, more = 0;
+    int32_t code = WTF8_DONE;
+    int is_bad = below(8) == 0, needs_none = 0;
+    long requested = requests, refused = refusals;
     for (size_t i = 0; i < n; i++) units[i] = a_unit();
     switch (kind) {
         case 0:
             code = wtf8_set_units(&p->string, n ? units : NULL, n);
-            if (code == WTF8_DONE) { p->n = 0; append(p, units, n); }
+            if (code == WTF8_DONE) replace(p, units, n);
             break;
         case 1:
             len = a_text(text, units, &n);
-            if (below(8) == 0) { text[len++] = 0xFF; }
+            if (is_bad) text[len++] = 0xFF;
             code = wtf8_set_utf8(&p->string, len ? text : NULL, len);
-            must((code == WTF8_NO_UTF8) == (len > 0 && text[len - 1] == 0xFF), "set_utf8");
-            if (code == WTF8_DONE) { p->n = 0; append(p, units, n); }
+            must((code == WTF8_NO_UTF8) == is_bad, "set_utf8");
+            if (code == WTF8_DONE) replace(p, units, n);
             break;
         case 2:
             code = wtf8_set_string(&p->string, &q->string);
-            if (code == WTF8_DONE && p != q) { p->n = 0; append(p, q->units, q->n); }
+            if (code == WTF8_DONE && p != q) replace(p, q->units, q->n);
             break;
-        case 3: wtf8_clear(&p->string); p->n = 0; code = WTF8_DONE; break;
-        case 4: wtf8_free(&p->string); if (below(2)) wtf8_free(&p->string); p->n = 0; code = WTF8_DONE; break;
-        case 5: code = wtf8_reserve(&p->string, below(50) ? below(300) : SIZE_MAX - below(9)); break;
+        case 3: wtf8_clear(&p->string); p->n = 0; break;
+        case 4:
+            wtf8_free(&p->string);
+            if (below(2)) wtf8_free(&p->string);
+            replace(p, units, 0);
+            break;
+        case 5:
+            more = below(50) ? below(300) : SIZE_MAX - below(9);
+            needs_none = refuse_if_fits(p, more);
+            code = wtf8_reserve(&p->string, more);
+            must(code == WTF8_MEMORY || more <= PTRDIFF_MAX, "reserve of more than a block can have");
+            if (code == WTF8_DONE && p->capacity < byte_len(p) + more) p->capacity = byte_len(p) + more;
+            break;
         case 6:
             unit = a_unit();
+            needs_none = refuse_if_units_fit(p, &unit, 1);
             code = wtf8_push_unit(&p->string, unit);
             if (code == WTF8_DONE) append(p, &unit, 1);
             break;
         case 7: {
             uint32_t c = below(4) ? below(0x120000) : a_unit();
+            n = units_of(c, units);
+            needs_none = c <= 0x10FFFF && refuse_if_units_fit(p, units, n);
             code = wtf8_push_code_point(&p->string, c);
             must((code == WTF8_NO_CODE_POINT) == (c > 0x10FFFF), "push_code_point");
-            if (code == WTF8_DONE && c >= 0x10000) {
-                units[0] = (uint16_t)(0xD800 + ((c - 0x10000) >> 10));
-                units[1] = (uint16_t)(0xDC00 + (c & 0x3FF));
-                append(p, units, 2);
-            } else if (code == WTF8_DONE) {
-                unit = (uint16_t)c;
-                append(p, &unit, 1);
-            }
-            break;
-        }
-        case 8: {
-            int fits = below(4) == 0 && wtf8_reserve(&p->string, 3 * n) == WTF8_DONE;
-            if (fits) refuse_after = 0;
-            code = wtf8_push_units(&p->string, n ? units : NULL, n);
-            must(!fits || code == WTF8_DONE, "push_units of what fits");
             if (code == WTF8_DONE) append(p, units, n);
             break;
         }
+        case 8:
+            needs_none = refuse_if_units_fit(p, units, n);
+            code = wtf8_push_units(&p->string, n ? units : NULL, n);
+            if (code == WTF8_DONE) append(p, units, n);
+            break;
         case 9:
             len = a_text(text, units, &n);
-            if (below(8) == 0) { text[len++] = 0x80; }
+            needs_none = !is_bad && refuse_if_units_fit(p, units, n);
+            if (is_bad) text[len++] = 0x80;
             code = wtf8_push_utf8(&p->string, len ? text : NULL, len);
+            must((code == WTF8_NO_UTF8) == is_bad, "push_utf8");
             if (code == WTF8_DONE) append(p, units, n);
             break;
         case 10:
+            needs_none = p != q && refuse_if_units_fit(p, q->units, q->n);
             code = wtf8_push_string(&p->string, &q->string);
             if (code == WTF8_DONE) append(p, q->units, q->n);
             break;
-        case 11: must(wtf8_unit_len(&p->string) == p->n, "unit_len"); code = WTF8_DONE; break;
+        case 11: must(wtf8_unit_len(&p->string) == p->n, "unit_len"); break;
         case 12: {
-            size_t i = below(10) ? below((uint32_t)p->n + 2) : SIZE_MAX - below(3);
+            size_t i = an_index(p->n);
             code = wtf8_unit_at(&p->string, i, &unit);
             must(code == (i < p->n ? WTF8_DONE : WTF8_POSITION), "unit_at");
             must(unit == (i < p->n ? p->units[i] : 0xABCD), "the unit");
             break;
         }
         case 13: {
-            size_t i = below(10) ? below((uint32_t)byte_len(p) + 3) : SIZE_MAX - below(3);
+            size_t i = an_index(byte_len(p));
             must(wtf8_is_boundary(&p->string, i) == is_boundary(p, i), "is_boundary");
-            code = WTF8_DONE;
             break;
         }
-        case 14: must(wtf8_is_utf8(&p->string) == is_utf8(p), "is_utf8"); code = WTF8_DONE; break;
-        case 15: must(wtf8_equal(&p->string, &q->string) == (compare_units(p, q) == 0), "equal"); code = WTF8_DONE; break;
-        case 16: must(wtf8_compare_units(&p->string, &q->string) == compare_units(p, q), "compare_units"); code = WTF8_DONE; break;
-        case 17: must(wtf8_compare_code_points(&p->string, &q->string) == compare_points(p, q), "compare_code_points"); code = WTF8_DONE; break;
+        case 14: must(wtf8_is_utf8(&p->string) == is_utf8(p), "is_utf8"); break;
+        case 15: must(wtf8_equal(&p->string, &q->string) == (compare_units(p, q) == 0), "equal"); break;
+        case 16: must(wtf8_compare_units(&p->string, &q->string) == compare_units(p, q), "compare_units"); break;
+        case 17: must(wtf8_compare_code_points(&p->string, &q->string) == compare_points(p, q), "compare_code_points"); break;
         case 18: {
-            size_t i = below(10) ? below((uint32_t)p->n + 2) : SIZE_MAX - below(3);
+            size_t i = an_index(p->n);
             code = wtf8_truncate_units(&p->string, i);
             must(code == (i <= p->n ? WTF8_DONE : WTF8_POSITION), "truncate_units");
             if (code == WTF8_DONE) p->n = i;
             break;
         }
         case 19: {
-            size_t a = below((uint32_t)p->n + 2), b = below(10) ? below((uint32_t)p->n + 2) : SIZE_MAX;
+            size_t a = below((uint32_t)p->n + 2), b = an_index(p->n);
             code = wtf8_slice_units(&p->string, a, b, &q->string);
             must((code == WTF8_POSITION) == !(a <= b && b <= p->n), "slice_units");
-            if (code == WTF8_DONE) { memmove(q->units, p->units + a, 2 * (b - a)); q->n = b - a; }
+            if (code == WTF8_DONE) replace(q, p->units + a, b - a);
             break;
         }
         case 20: {
-            size_t i = below(10) ? below((uint32_t)byte_len(p) + 3) : SIZE_MAX - below(3);
+            size_t i = an_index(byte_len(p));
             int at_boundary = is_boundary(p, i);
             code = wtf8_truncate(&p->string, i);
             must(code == (at_boundary ? WTF8_DONE : WTF8_POSITION), "truncate");
@@ -272,27 +274,23 @@ static void step(int kind, struct pair *p, struct pair *q) {
         case 21: {
             int equal = compare_units(p, q) == 0;
             must((wtf8_hash(&p->string) == wtf8_hash(&q->string)) == equal, "hash");
-            code = WTF8_DONE;
             break;
         }
         case 22: {
-            uint16_t out[4 * MOST + 1];
-            size_t a = below((uint32_t)p->n + 2), b = below(10) ? below((uint32_t)p->n + 2) : SIZE_MAX;
-            size_t size = below((uint32_t)p->n + 3);
+            size_t a = below((uint32_t)p->n + 2), b = an_index(p->n), size = below((uint32_t)p->n + 3);
             int in_range = a <= b && b <= p->n;
+            uint16_t *out = an_array(2 * size);
             len = 77;
-            out[0] = 0x4321;
             code = wtf8_copy_slice(&p->string, a, b, size ? out : NULL, size, &len);
             must((code == WTF8_POSITION) == !in_range, "copy_slice, position");
             must((code == WTF8_TOO_SHORT) == (in_range && size < b - a), "copy_slice, short");
             must(code == WTF8_MEMORY || code == WTF8_POSITION ? len == 77 : len == b - a, "copy_slice, length");
-            if (code != WTF8_DONE || len == 0) must(out[0] == 0x4321, "copy_slice, array");
-            else must(memcmp(out, p->units + a, 2 * len) == 0, "copy_slice, units");
+            must_begin(out, 2 * size, p->units + (in_range ? a : 0), code == WTF8_DONE ? 2 * len : 0, "copy_slice, array");
             break;
         }
         case 23:
         case 24: {
-            static uint8_t bytes[16 * MOST], out[16 * MOST + 1];
+            static uint8_t bytes[16 * MOST];
             size_t needed = 0, taken = 0, size;
             int lossy = kind == 24, has_surrogate = !is_utf8(p);
             for (size_t i = 0; i < p->n; i += taken) {
@@ -300,30 +298,33 @@ static void step(int kind, struct pair *p, struct pair *q) {
                 needed += encode(c >= 0xD800 && c < 0xE000 ? 0xFFFD : c, bytes + needed);
             }
             size = below(2) ? needed : below((uint32_t)needed + 3);
+            uint8_t *out = an_array(size);
             len = 77;
-            out[0] = 0x21;
+            needs_none = !has_surrogate && size >= needed;
+            if (needs_none && below(2)) refuse_after = 0;
             code = (lossy ? wtf8_copy_lossy : wtf8_copy_utf8)(&p->string, size ? out : NULL, size, &len);
             if (!lossy) must((code == WTF8_SURROGATE) == has_surrogate, "copy_utf8, surrogate");
             if (code != WTF8_SURROGATE && code != WTF8_MEMORY) must((code == WTF8_TOO_SHORT) == (size < needed), "copy_text, short");
             must(code == WTF8_SURROGATE || code == WTF8_MEMORY ? len == 77 : len == needed, "copy_text, length");
-            if (code != WTF8_DONE || needed == 0) must(out[0] == 0x21, "copy_text, array");
-            else must(memcmp(out, bytes, needed) == 0, "copy_text, bytes");
+            must_begin(out, size, bytes, code == WTF8_DONE ? needed : 0, "copy_text, array");
             break;
         }
         default: {
-            uint16_t out[4 * MOST + 1];
             size_t size = below((uint32_t)p->n + 3);
+            uint16_t *out = an_array(2 * size);
             len = 77;
-            out[0] = 0x4321;
             code = wtf8_copy_units(&p->string, size ? out : NULL, size, &len);
             must((code == WTF8_TOO_SHORT) == (size < p->n), "copy_units");
             must(code == WTF8_MEMORY ? len == 77 : len == p->n, "copy_units, length");
-            if (code != WTF8_DONE || p->n == 0) must(out[0] == 0x4321, "copy_units, array");
-            else must(memcmp(out, p->units, 2 * p->n) == 0, "copy_units, units");
+            must_begin(out, 2 * size, p->units, code == WTF8_DONE ? 2 * p->n : 0, "copy_units, array");
             break;
         }
     }
     must(code >= 0 && code < 7, "code");
+    must(code != WTF8_MEMORY || refused < refusals || more > PTRDIFF_MAX, "MEMORY, but no request was refused");
+    must(!needs_none || code == WTF8_DONE, "a call that needs no memory is not done");
+    /* push_units encodes into memory of its own if it gets it. */
+    must(!needs_none || kind == 8 || requests == requested, "a call that needs no memory requests it");
     counts[kind][code]++;
 }
 
@@ -342,6 +343,7 @@ int main(int count, char **words) {
         check(q);
     }
     for (int i = 0; i < STRINGS; i++) wtf8_free(&pairs[i].string);
+    must(blocks == 0, "a block is not given back");
     static const int reached[][2] = {
         {0, WTF8_MEMORY}, {1, WTF8_MEMORY}, {1, WTF8_NO_UTF8}, {2, WTF8_MEMORY}, {5, WTF8_MEMORY}, {6, WTF8_MEMORY},
         {7, WTF8_MEMORY}, {7, WTF8_NO_CODE_POINT}, {8, WTF8_MEMORY}, {9, WTF8_MEMORY}, {9, WTF8_NO_UTF8},

@@ -1,5 +1,5 @@
 // Calls that make a string and let it go.
-ghost use Rattle.std.specs.Prelude.{◌≡◌, [], ◌+◌, ◌≤◌, ◌⊎◌, ◌↔◌, IsFalse, length};
+ghost use Rattle.std.specs.Prelude.{◌≡◌, [], ◌+◌, ◌≤◌, ◌⊎◌, ◌↔◌, IsTrue, IsFalse, length};
 ghost use Rattle.std.specs.Str.{chars, IsUtf8};
 ghost use Rattle.wtf8.specs.Appending.{KeepsContents};
 ghost use Rattle.wtf8.specs.Unicode.{units};
@@ -94,6 +94,7 @@ pub extern "C" fn wtf8_reserve(alloc: Global, string: &mut Wtf8String, additiona
     ensures code { (result ≡ DONE) ⊎ (result ≡ MEMORY) }
     ensures done { result ≡ DONE → length (contents string.new).bytes + additional ≤ (contents string.new).capacity }
     ensures kept { KeepsContents (contents string.old) (contents string.new) }
+    ensures room { IsTrue string.old.full → length (contents string.old).bytes + additional ≤ (contents string.old).capacity → result ≡ DONE }
     ensures capacity { (contents string.old).capacity ≤ (contents string.new).capacity }
 {
     let Ok(mut buf) = string.open(alloc) else {

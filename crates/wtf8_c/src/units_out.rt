@@ -126,6 +126,7 @@ pub extern "C" fn wtf8_copy_lossy(
     len: &mut usize,
 ) -> i32
     ensures code { (result ≡ DONE) ⊎ ((result ≡ MEMORY) ⊎ (result ≡ TOO_SHORT)) }
+    ensures granted { AreScalar (contents string.old).form.points → ¬ (result ≡ MEMORY) }
     ensures short { result ≡ TOO_SHORT ↔ length out.old < length (contents string.old).bytes }
     ensures done { result ≡ DONE → out.new ≡ with_front (bytes (lossy_points (contents string.old).form.points)) out.old }
     ensures out { ¬ (result ≡ DONE) → out.new ≡ out.old }

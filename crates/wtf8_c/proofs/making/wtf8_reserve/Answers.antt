@@ -1,4 +1,5 @@
 use Rattle.std.proofs.Common.{refl, inr, sym, ap, subst, ◌∙◌, ◌+◌, ◌≤◌, length, to_z, of_z, w32}
+use Rattle.std.proofs.lemmas.Bool.{false≢true}
 use Rattle.wtf8_c.specs.Contents.{contents}
 use Rattle.wtf8_c.proofs.Outcomes.{other_code, IsCodeOf, returned, done_or_memory, Opened, opened, once_done, kept_same, capacity_kept}
 use Rattle.wtf8_c.proofs.Outcomes.{capacity_same}
@@ -9,6 +10,7 @@ returns-in_default c = record {
   code = inr refl;
   done = other_code _ _ refl;
   kept = kept_same c.in_default.ensures.kept;
+  room = λ full _. absurd (false≢true (c.in_default.ensures.full full));
   capacity = capacity_same c.in_default.ensures.kept;
 }
 
@@ -32,6 +34,10 @@ returns-clause-kept c = record {
   units = ap (λ x. x.units) c.put.ensures.contents ∙ c.reserve-reserved.ensures.units ∙ (taken c).units;
   bytes = ap (λ x. x.bytes) c.put.ensures.contents ∙ c.reserve-reserved.ensures.bytes ∙ (taken c).bytes;
 }
+
+pub returns-clause-room : goal.returns-clause-room
+returns-clause-room c full fits =
+    (code c).done.1 (c.reserve-reserved.ensures.room (subst (λ x. length x.bytes + c.args.additional ≤ x.capacity) (sym ((taken c).held full)) fits))
 
 pub returns-clause-capacity : goal.returns-clause-capacity
 returns-clause-capacity c = capacity_kept (taken c) c.put.ensures.contents c.reserve-reserved.ensures.capacity

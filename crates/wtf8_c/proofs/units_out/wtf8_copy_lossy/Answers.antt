@@ -7,6 +7,7 @@ returns-then-out-needed c =
     let is = c.len-needed.ensures.bytes ∙ ap length (c.view-text.ensures.bytes ∙ ap (λ x. x.bytes) c.take-held.ensures.contents) in
     record {
       code = inr (inr refl);
+      granted = λ _. other_code 3 1 refl;
       short = (λ _. rw is at c.if-out-needed.true, λ _. refl);
       done = other_code _ _ refl;
       out = λ _. refl;
@@ -14,6 +15,9 @@ returns-then-out-needed c =
       len_kept = other_code _ _ refl;
       kept = c.put_back.ensures ∙ c.take-held.ensures.contents;
     }
+
+pub returns-clause-granted : goal.returns-clause-granted
+returns-clause-granted c = search rules
 
 pub returns-clause-short : goal.returns-clause-short
 returns-clause-short c = search rules

@@ -1,0 +1,189 @@
+/* The edges: of code points, of UTF-8, of indexes, of capacities. The hash of four strings. Linked as requests.h says. */
+#include "../wtf8.h"
+#include "requests.h"
+
+enum { LETTERS = 70000 };
+
+static uint8_t letters[LETTERS];
+
+static void must_have(wtf8_string *string, const uint16_t *units, size_t n, const char *what) {
+    uint16_t *out = an_array(2 * n);
+    size_t len = 0;
+    must(wtf8_copy_units(string, n ? out : NULL, n, &len) == WTF8_DONE, what);
+    must(len == n && wtf8_unit_len(string) == n, what);
+    must_begin(out, 2 * n, units, 2 * n, what);
+}
+
+static const struct {
+    uint32_t value;
+    size_t byte_len, n;
+    uint16_t units[2];
+} points[] = {
+    {0, 1, 1, {0}}, {0x7F, 1, 1, {0x7F}}, {0x80, 2, 1, {0x80}}, {0x7FF, 2, 1, {0x7FF}}, {0x800, 3, 1, {0x800}},
+    {0xD7FF, 3, 1, {0xD7FF}}, {0xD800, 3, 1, {0xD800}}, {0xDBFF, 3, 1, {0xDBFF}}, {0xDC00, 3, 1, {0xDC00}},
+    {0xDFFF, 3, 1, {0xDFFF}}, {0xE000, 3, 1, {0xE000}}, {0xFFFE, 3, 1, {0xFFFE}}, {0xFFFF, 3, 1, {0xFFFF}},
+    {0x10000, 4, 2, {0xD800, 0xDC00}}, {0x10001, 4, 2, {0xD800, 0xDC01}}, {0x103FF, 4, 2, {0xD800, 0xDFFF}},
+    {0x10400, 4, 2, {0xD801, 0xDC00}}, {0x10FFFF, 4, 2, {0xDBFF, 0xDFFF}}};
+
+static const uint32_t no_points[] = {0x110000, 0x110001, 0x200000, 0x80000000, 0xFFFF0041, UINT32_MAX};
+
+static void code_points(void) {
+    for (size_t i = 0; i < sizeof points / sizeof points[0]; i++) {
+        wtf8_string string = WTF8_EMPTY, by_units = WTF8_EMPTY;
+        must(wtf8_push_code_point(&string, points[i].value) == WTF8_DONE, "a code point");
+        for (size_t k = 0; k < sizeof no_points / sizeof no_points[0]; k++)
+            must(wtf8_push_code_point(&string, no_points[k]) == WTF8_NO_CODE_POINT, "no code point");
+        must(wtf8_byte_len(&string) == points[i].byte_len, "a code point's length");
+        must_have(&string, points[i].units, points[i].n, "a code point's units");
+        for (size_t k = 0; k < points[i].n; k++) must(wtf8_push_unit(&by_units, points[i].units[k]) == WTF8_DONE, "a unit");
+        must_have(&by_units, points[i].units, points[i].n, "the units pushed");
+        must(wtf8_equal(&string, &by_units), "a code point and its units");
+        wtf8_free(&string);
+        wtf8_free(&by_units);
+    }
+}
+
+#define TEXT(text) text, sizeof(text) - 1
+
+static const struct {
+    const char *bytes;
+    size_t len, n;
+    uint16_t units[7];
+} texts[] = {
+    {TEXT(""), 0, {0}}, {TEXT("\0"), 1, {0}}, {TEXT("a\0b"), 3, {'a', 0, 'b'}}, {TEXT("\x7F"), 1, {0x7F}},
+    {TEXT("seventh"), 7, {'s', 'e', 'v', 'e', 'n', 't', 'h'}}, {TEXT("\xC2\x80"), 1, {0x80}},
+    {TEXT("\xDF\xBF"), 1, {0x7FF}}, {TEXT("\xE0\xA0\x80"), 1, {0x800}}, {TEXT("\xED\x9F\xBF"), 1, {0xD7FF}},
+    {TEXT("\xEE\x80\x80"), 1, {0xE000}}, {TEXT("\xEF\xBF\xBF"), 1, {0xFFFF}},
+    {TEXT("\xF0\x90\x80\x80"), 2, {0xD800, 0xDC00}}, {TEXT("\xF4\x8F\xBF\xBF"), 2, {0xDBFF, 0xDFFF}}};
+
+static const struct {
+    const char *bytes;
+    size_t len;
+} no_texts[] = {
+    {TEXT("\x80")}, {TEXT("\xBF")}, {TEXT("\xC0\x80")}, {TEXT("\xC1\xBF")}, {TEXT("\xC3")}, {TEXT("\xC3" "a")},
+    {TEXT("\xE0\x9F\xBF")}, {TEXT("\xE4\xB8")}, {TEXT("\xE4\xB8" "a")}, {TEXT("\xED\xA0\x80")}, {TEXT("\xED\xBF\xBF")},
+    {TEXT("\xED\xA0\xBD\xED\xB2\xA9")}, {TEXT("\xF0\x8F\xBF\xBF")}, {TEXT("\xF0\x9F\x92")}, {TEXT("\xF0\x9F\x92" "a")},
+    {TEXT("\xF4\x90\x80\x80")}, {TEXT("\xF5\x80\x80\x80")}, {TEXT("\xF8\x88\x80\x80\x80")}, {TEXT("\xFE")}, {TEXT("\xFF")}};
+
+/* Texts after `front` letters, set and pushed. */
+static void utf8_after(size_t front) {
+    uint8_t text[64];
+    uint16_t units[128];
+    wtf8_string string = WTF8_EMPTY;
+    memcpy(text, letters, front);
+    for (size_t i = 0; i < sizeof texts / sizeof texts[0]; i++) {
+        size_t len = front + texts[i].len, n = front + texts[i].n;
+        memcpy(text + front, texts[i].bytes, texts[i].len);
+        for (size_t k = 0; k < front; k++) units[k] = letters[k];
+        memcpy(units + front, texts[i].units, 2 * texts[i].n);
+        memcpy(units + n, units, 2 * n);
+        must(wtf8_set_utf8(&string, len ? text : NULL, len) == WTF8_DONE, "a text is set");
+        must_have(&string, units, n, "a text that was set");
+        must(wtf8_push_utf8(&string, len ? text : NULL, len) == WTF8_DONE, "a text is pushed");
+        must_have(&string, units, 2 * n, "a text that was pushed");
+        must(wtf8_byte_len(&string) == 2 * len && wtf8_is_utf8(&string), "a text's length");
+        for (size_t k = 0; k < sizeof no_texts / sizeof no_texts[0]; k++) {
+            memcpy(text + front, no_texts[k].bytes, no_texts[k].len);
+            must(wtf8_set_utf8(&string, text, front + no_texts[k].len) == WTF8_NO_UTF8, "no text is set");
+            must(wtf8_push_utf8(&string, text, front + no_texts[k].len) == WTF8_NO_UTF8, "no text is pushed");
+        }
+        must_have(&string, units, 2 * n, "a text after bytes that are none");
+    }
+    wtf8_free(&string);
+}
+
+/* As CPython 3.11 hashes the bytes and FE after them, by SipHash-1-3, if its key is 0:
+ * PYTHONHASHSEED=0 python3 -c 'print("%016X" % (hash(b"\xED\xA0\xBD\xFE") % 2**64))'. */
+static const struct {
+    size_t n;
+    uint16_t units[16];
+    uint64_t hash;
+} hashes[] = {
+    {0, {0}, 0x65F705B1795901A4},
+    {1, {'a'}, 0x973594DBF3FE377B},
+    {1, {0xD83D}, 0x643FA58BA1C9B89E},
+    {16, {'s', 'i', 'x', 't', 'e', 'e', 'n', ' ', 'l', 'e', 't', 't', 'e', 'r', 's', '!'}, 0xF1BF75ED98DBA035}};
+
+static void hash(void) {
+    for (size_t i = 0; i < sizeof hashes / sizeof hashes[0]; i++) {
+        wtf8_string string = WTF8_EMPTY;
+        must(wtf8_set_units(&string, hashes[i].units, hashes[i].n) == WTF8_DONE, "a string to hash");
+        must(wtf8_hash(&string) == hashes[i].hash, "a hash");
+        wtf8_free(&string);
+    }
+}
+
+/* A string of more units than 16 bits count, of which no two that are 65536 apart are equal. */
+static void indexes(void) {
+    static uint16_t units[LETTERS];
+    wtf8_string string = WTF8_EMPTY, part = WTF8_EMPTY;
+    uint16_t unit = 0;
+    for (size_t i = 0; i < LETTERS; i++) units[i] = (uint16_t)(i * 7 + i / 65536);
+    must(wtf8_set_units(&string, units, LETTERS) == WTF8_DONE, "a long string");
+    must_have(&string, units, LETTERS, "a long string's units");
+    for (size_t i = 0; i < LETTERS; i += i < 65530 || 65540 < i ? 877 : 1)
+        must(wtf8_unit_at(&string, i, &unit) == WTF8_DONE && unit == units[i], "a unit of a long string");
+    must(wtf8_unit_at(&string, LETTERS, &unit) == WTF8_POSITION, "a unit after a long string");
+    must(wtf8_slice_units(&string, 65530, 65545, &part) == WTF8_DONE, "a slice of a long string");
+    must_have(&part, units + 65530, 15, "a slice's units");
+    must(wtf8_truncate_units(&string, 65537) == WTF8_DONE, "a long string's truncation");
+    must_have(&string, units, 65537, "a long string's front");
+    wtf8_free(&part);
+    wtf8_free(&string);
+}
+
+/* Appends `n` letters with each request refused: they must fit. */
+static void must_take(wtf8_string *string, size_t n, const char *what) {
+    long requested = requests;
+    refuse_after = 0;
+    must(wtf8_push_utf8(string, letters, n) == WTF8_DONE, what);
+    refuse_after = -1;
+    must(requests == requested, what);
+}
+
+static void reserve(void) {
+    static const size_t sizes[] = {1, 99, 100, 101, 255, 256, 1000, 65535, 65536, LETTERS};
+    for (size_t i = 0; i < sizeof sizes / sizeof sizes[0]; i++) {
+        for (size_t len = 0; len < 4; len++) {
+            wtf8_string string = WTF8_EMPTY;
+            must(len == 0 || wtf8_push_utf8(&string, letters, len) == WTF8_DONE, "letters before reserve");
+            must(wtf8_reserve(&string, sizes[i]) == WTF8_DONE, "reserve");
+            for (size_t k = 0; k < 4; k++)
+                must(wtf8_reserve(&string, SIZE_MAX - k * (SIZE_MAX / 8)) == WTF8_MEMORY, "reserve of too much");
+            refuse_after = 0;
+            must(wtf8_reserve(&string, sizes[i]) == WTF8_DONE, "reserve of what fits");
+            must_take(&string, sizes[i], "what was reserved");
+            must(wtf8_byte_len(&string) == len + sizes[i], "the length after reserve");
+            wtf8_free(&string);
+        }
+    }
+}
+
+/* What shortens a string keeps its capacity. */
+static void kept_capacity(void) {
+    for (int way = 0; way < 5; way++) {
+        wtf8_string string = WTF8_EMPTY;
+        size_t left = way < 3 ? 0 : 400;
+        must(wtf8_set_utf8(&string, letters, 1000) == WTF8_DONE, "letters to shorten");
+        refuse_after = 0;
+        if (way == 0) wtf8_clear(&string);
+        else must((way % 2 ? wtf8_truncate : wtf8_truncate_units)(&string, left) == WTF8_DONE, "a truncation");
+        must(wtf8_byte_len(&string) == left, "the length after a truncation");
+        must_take(&string, 1000 - left, "the capacity that is kept");
+        wtf8_free(&string);
+        wtf8_free(&string);
+        must(blocks == 0, "the block of a freed string");
+    }
+}
+
+int main(void) {
+    memset(letters, 'a', LETTERS);
+    code_points();
+    for (size_t front = 0; front < 48; front++) utf8_after(front);
+    hash();
+    indexes();
+    reserve();
+    kept_capacity();
+    printf("edges: %ld requests, no difference\n", requests);
+    return 0;
+}
