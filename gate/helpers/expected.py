@@ -12,9 +12,9 @@ def as_expected(kind, found):
     """Whether the numbers by name are those of the file's lines `KIND NAME: NUMBER`. Prints each line that is another."""
     lines = re.findall(rf"^{re.escape(kind)} (\S+): (\d+)$", FILE.read_text(encoding="utf-8"), re.M)
     expected = {name: int(number) for name, number in lines}
-    wrong = [name for name in sorted({*expected, *found}) if expected.get(name, 0) != found.get(name, 0)]
+    wrong = [name for name in sorted({*expected, *found}) if expected.get(name) != found.get(name)]
     for name in wrong:
-        print(f"{kind} {name}: {found.get(name, 0)}, and {expected.get(name, 0)} in gate/expected_counts.txt, which changes with them")
+        print(f"{kind} {name}: {found.get(name, 0)}, and {expected.get(name, 'nothing')} in gate/expected_counts.txt, which changes with them")
     return not wrong and bool(expected)
 
 
