@@ -56,3 +56,35 @@ fn both_strings_are_pushed_into_the_reserved_room(rt: HostRuntime) {
     assert!(rt; are_pushed(&mut string) && string.len() == 40);
     assert!(rt; heap.requests() == 1 && heap.bytes() == 40);
 }
+
+/// Whether `push_two_points` of two code points of four bytes each succeeds.
+fn are_points_pushed<A: Allocator>(string: &mut Wtf8Buf<A>) -> bool {
+    let point = CodePoint::from_char('💩');
+    refusals::push_two_points(string, point, point).is_ok()
+}
+
+#[test]
+fn no_point_is_pushed_without_room_for_two(rt: HostRuntime) -> Result<(), Wrong> {
+    let heap = Refusing::new(rt.alloc(), 1);
+    let mut string = made(Wtf8Buf::with_capacity(&heap, 7))?;
+    assert!(rt; !are_points_pushed(&mut string) && string.is_empty());
+    heap.grant(1);
+    assert!(rt; are_points_pushed(&mut string) && heap.requests() == 1);
+    Ok(())
+}
+
+/// Whether `push_list` of two calls, which append two bytes, succeeds.
+fn is_list_pushed<A: Allocator>(string: &mut Wtf8Buf<A>) -> bool {
+    let calls = [Build::PushChar('a'), Build::PushStr("b")];
+    refusals::push_list(string, &calls, 2).is_ok()
+}
+
+#[test]
+fn no_call_is_made_without_room_for_the_list(rt: HostRuntime) -> Result<(), Wrong> {
+    let heap = Refusing::new(rt.alloc(), 1);
+    let mut string = made(Wtf8Buf::with_capacity(&heap, 1))?;
+    assert!(rt; !is_list_pushed(&mut string) && string.is_empty());
+    heap.grant(1);
+    assert!(rt; is_list_pushed(&mut string) && heap.requests() == 1);
+    Ok(())
+}
