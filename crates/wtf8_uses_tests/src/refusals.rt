@@ -63,28 +63,16 @@ fn are_points_pushed<A: Allocator>(string: &mut Wtf8Buf<A>) -> bool {
     refusals::push_two_points(string, point, point).is_ok()
 }
 
+/// Whether `push_list` of two pushes of four bytes each succeeds.
+fn is_list_pushed<A: Allocator>(string: &mut Wtf8Buf<A>) -> bool {
+    let calls = [Build::PushChar('💩'), Build::PushChar('💩')];
+    refusals::push_list(string, &calls, 8).is_ok()
+}
+
 #[test]
-fn no_point_is_pushed_without_room_for_two(rt: HostRuntime) -> Result<(), Wrong> {
+fn nothing_is_pushed_without_room_for_all(rt: HostRuntime) -> Result<(), Wrong> {
     let heap = Refusing::new(rt.alloc(), 1);
     let mut string = made(Wtf8Buf::with_capacity(&heap, 7))?;
-    assert!(rt; !are_points_pushed(&mut string) && string.is_empty());
-    heap.grant(1);
-    assert!(rt; are_points_pushed(&mut string) && heap.requests() == 1);
-    Ok(())
-}
-
-/// Whether `push_list` of two calls, which append two bytes, succeeds.
-fn is_list_pushed<A: Allocator>(string: &mut Wtf8Buf<A>) -> bool {
-    let calls = [Build::PushChar('a'), Build::PushStr("b")];
-    refusals::push_list(string, &calls, 2).is_ok()
-}
-
-#[test]
-fn no_call_is_made_without_room_for_the_list(rt: HostRuntime) -> Result<(), Wrong> {
-    let heap = Refusing::new(rt.alloc(), 1);
-    let mut string = made(Wtf8Buf::with_capacity(&heap, 1))?;
-    assert!(rt; !is_list_pushed(&mut string) && string.is_empty());
-    heap.grant(1);
-    assert!(rt; is_list_pushed(&mut string) && heap.requests() == 1);
-    Ok(())
+    let is_pushed = are_points_pushed(&mut string) || is_list_pushed(&mut string);
+    expect(!is_pushed && string.is_empty(), Wrong::Outcome)
 }
