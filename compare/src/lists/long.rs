@@ -364,9 +364,8 @@ fn calls_inside(filling: u16, front: usize, body: &[u16]) -> Vec<Call> {
     calls
 }
 
-/// A lone surrogate among ASCII and, after it, letters of three and two bytes, in strings of each length from 8 to 130:
-/// that the surrogate is there must not be forgotten when a letter is appended, nor in any tail. Only `into_string` shows
-/// that; `as_str` searches for the surrogate.
+/// A lone surrogate and, after it, letters of three and two bytes among ASCII, in strings of each length from 8 to 130:
+/// `into_string` must not take the string for UTF-8 since no later unit is a surrogate. `as_str` would search for one.
 fn letters_after_a_surrogate() -> Vec<Call> {
     let ended = |len| {
         let units = changed(&vec![0x61; len], &[(1, 0xD800), (3, 0x4E2D), (5, 0xE9)]);
