@@ -183,6 +183,8 @@ def main():
     if shutil.which("node"):
         compare("the engine's model", lines, expected, output(["node", os.path.join(HERE, "model.js")], lines))
         models += " and the JavaScript engine's strings"
+    else:
+        print("left out: the engine's model of the program's language, since node is not there")
     # The last line needs no newline.
     end = lines[-1] if lines[-1] else b"0041"
     if output_without_newline(options.program, end) != output_for(end) + b"\n":

@@ -611,6 +611,13 @@ function cutScript(units, isMarked, below) {
   return calls;
 }
 
+// A text with marks, whose last unit before a mark is a lead, cut at that mark and grown by a trail: the mark would divide
+// their pair.
+function cutAtMarkScript() {
+  const units = textOfKind([0xE9], 300).with(2 * SPACING - 1, 0xD83D);
+  return [['set', ...units], ['mark'], ['truncate', 2 * SPACING], ['push', 0xDCA9, ...units.slice(0, 20)], ...readsAbout(277)];
+}
+
 function cutScripts(below) {
   const texts = KINDS_OF_MARKED.flatMap((kind) => [300, 1000].map((length) => unitsOfKind(kind, length, below)));
   return texts.flatMap((units) => [false, true].map((isMarked) => cutScript(units, isMarked, below)));
@@ -805,6 +812,12 @@ function linesScript(units) {
   return calls;
 }
 
+// A line of more than 300 units, and the marks at and past its end.
+function longLineScript() {
+  const calls = [['set', 0x61, 0x0A, ...textOfKind([0x61, 0xE9], 320)], ['lines']];
+  return [...calls, ...[300, 301, 319, 320, 321].map((column) => ['markAtColumn', 1, column])];
+}
+
 // Two lists as JSON texts, and the first read from its text, which another follows.
 function jsonScript(units, others) {
   const text = JSON.stringify(textOf(units)) + textOf(others);
@@ -883,7 +896,7 @@ function randomScriptsOfAll(seed, cases) {
 function fixedScripts() {
   const lists = listScripts().filter((_, at) => at % 97 === 0);
   const marked = markedScripts([300], [129]).filter((_, at) => at % 4 === 2);
-  return [...exampleScripts(), ...workedScripts(), ...lists, ...longScripts(), ...marked, ...randomScripts(1, 100)];
+  return [...exampleScripts(), ...workedScripts(), ...lists, ...longScripts(), ...marked, cutAtMarkScript(), longLineScript(), ...randomScripts(1, 100)];
 }
 
 // Writes the scripts and their transcripts after the given lines.

@@ -364,7 +364,25 @@ fn calls_inside(filling: u16, front: usize, body: &[u16]) -> Vec<Call> {
     calls
 }
 
-/// A part of these scripts, and three joins and comparisons of long strings, for the fixed list that the gate replays.
+/// A lone surrogate and, after it, letters of three and two bytes among ASCII, in strings of each length from 8 to 130:
+/// `into_string` must not take the string for UTF-8 since no later unit is a surrogate. `as_str` would search for one.
+fn letters_after_a_surrogate() -> Vec<Call> {
+    let ended = |len| {
+        let units = changed(&vec![0x61; len], &[(1, 0xD800), (3, 0x4E2D), (5, 0xE9)]);
+        [&[from_units(0, &units)][..], &on(0, &[Opcode::IntoString])].concat()
+    };
+    (8..=130).flat_map(ended).collect()
+}
+
+/// Lossy texts of a string of 3,060 bytes with a surrogate in the middle and at both ends.
+fn long_lossy_texts() -> Vec<Call> {
+    let surrogates = [(0, 0xD800), (510, 0xDBFF), (1019, 0xDC00)];
+    let mut calls = string_in(0, &changed(&string_of(BASES[3], 1020), &surrogates));
+    calls.extend(on(0, &[Opcode::ToStringLossy, Opcode::IntoStringLossy]));
+    calls
+}
+
+/// A part of these scripts, and some on long strings, for the fixed list that the gate replays.
 pub fn chosen() -> Vec<Vec<Call>> {
     let mut scripts: Vec<Vec<Call>> = inside().into_iter().step_by(19).collect();
     for base in [BASES[0], BASES[3], BASES[6]] {
@@ -383,6 +401,7 @@ pub fn chosen() -> Vec<Vec<Call>> {
     calls.push(registers(Opcode::Comparisons, 0, 1));
     calls.extend(on(1, &[Opcode::AsStr, Opcode::ToStringLossy, Opcode::Hash]));
     scripts.push(calls);
+    scripts.extend([letters_after_a_surrogate(), long_lossy_texts()]);
     scripts
 }
 

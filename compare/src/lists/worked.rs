@@ -2,6 +2,7 @@
 //! calls and the result of each in words.
 
 use crate::lists::generate::{call_on, from_units, push, pushed, registers, with_text};
+use crate::lists::long::changed;
 use crate::script::{Build, Call, Opcode, Operand, Step, UNBOUNDED};
 
 /// A text with characters of one, two and four bytes.
@@ -275,10 +276,19 @@ fn texts() -> Vec<Vec<Call>> {
         each(pushed(0, &[0xD800])),
         each(pushed(0, &[0xD55C])),
         vec![from_units(0, &[0xD55C; 40]), call_on(0, Opcode::AsStr)],
+        with_letter_after_surrogate(0xE9),
+        with_letter_after_surrogate(0x4E2D),
         into_string_after(&[push(0, 0xD800)]),
         into_string_after(&[push(0, 0xD83D), push(0, 0xDCA9)]),
         letter_again(),
     ]
+}
+
+/// A lone surrogate and then `letter` among 16 units of ASCII: `into_string` must not forget the surrogate, which `as_str`
+/// searches for.
+fn with_letter_after_surrogate(letter: u16) -> Vec<Call> {
+    let units = changed(&[0x61; 16], &[(1, 0xD800), (3, letter)]);
+    vec![from_units(0, &units), call_on(0, Opcode::IntoString)]
 }
 
 /// `into_string` of "a" after calls on it.
@@ -359,11 +369,32 @@ fn read() -> Vec<Vec<Call>> {
         calls.push(items(Opcode::CodePoints));
         scripts.push(calls);
     }
+    scripts.push([pushed(0, &OF_EACH_LENGTH), vec![call_on(0, Opcode::Left)]].concat());
+    scripts.extend([9, 17].map(another_letter_at_each_index));
     for (own, other) in LESS {
         let compared = registers(Opcode::Comparisons, 0, 1);
         scripts.push([pushed(0, own), pushed(1, other), vec![compared]].concat());
     }
     scripts
+}
+
+/// The first and the last code point of each encoded length, and those about the surrogates. A trail comes before a lead,
+/// so that they do not join.
+const OF_EACH_LENGTH: [u32; 12] = [
+    0x0000, 0x007F, 0x0080, 0x07FF, 0x0800, 0xD7FF, 0xDFFF, 0xD800, 0xE000, 0xFFFF, 0x10000,
+    0x10FFFF,
+];
+
+/// A string of `len` letters, one more than the least that is compared by two loads of a size, against those with another
+/// letter at one index: the loads overlap, and each byte must be in one of them.
+fn another_letter_at_each_index(len: usize) -> Vec<Call> {
+    let letters = vec![0x61; len];
+    let mut calls = vec![from_units(0, &letters)];
+    for index in 0..len {
+        calls.push(from_units(1, &changed(&letters, &[(index, 0x62)])));
+        calls.push(registers(Opcode::Comparisons, 0, 1));
+    }
+    calls
 }
 
 /// Lists of building calls on the empty string.

@@ -56,3 +56,23 @@ fn both_strings_are_pushed_into_the_reserved_room(rt: HostRuntime) {
     assert!(rt; are_pushed(&mut string) && string.len() == 40);
     assert!(rt; heap.requests() == 1 && heap.bytes() == 40);
 }
+
+/// Whether `push_two_points` of two code points of four bytes each succeeds.
+fn are_points_pushed<A: Allocator>(string: &mut Wtf8Buf<A>) -> bool {
+    let point = CodePoint::from_char('💩');
+    refusals::push_two_points(string, point, point).is_ok()
+}
+
+/// Whether `push_list` of two pushes of four bytes each succeeds.
+fn is_list_pushed<A: Allocator>(string: &mut Wtf8Buf<A>) -> bool {
+    let calls = [Build::PushChar('💩'), Build::PushChar('💩')];
+    refusals::push_list(string, &calls, 8).is_ok()
+}
+
+#[test]
+fn nothing_is_pushed_without_room_for_all(rt: HostRuntime) -> Result<(), Wrong> {
+    let heap = Refusing::new(rt.alloc(), 1);
+    let mut string = made(Wtf8Buf::with_capacity(&heap, 7))?;
+    let is_pushed = are_points_pushed(&mut string) || is_list_pushed(&mut string);
+    expect(!is_pushed && string.is_empty(), Wrong::Outcome)
+}
