@@ -323,8 +323,7 @@ static void step(int kind, struct pair *p, struct pair *q) {
     must(code >= 0 && code < 7, "code");
     must(code != WTF8_MEMORY || refused < refusals || more > PTRDIFF_MAX, "MEMORY, but no request was refused");
     must(!needs_none || code == WTF8_DONE, "a call that needs no memory is not done");
-    /* push_units encodes into memory of its own if it gets it. */
-    must(!needs_none || kind == 8 || requests == requested, "a call that needs no memory requests it");
+    must(!needs_none || requests == requested, "a call that needs no memory requests it");
     counts[kind][code]++;
 }
 

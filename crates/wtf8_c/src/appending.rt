@@ -1,5 +1,5 @@
 // Calls that append.
-ghost use Rattle.std.specs.Prelude.{◌≡◌, ◌++◌, ◌∷◌, [], ◌≤◌, ◌⊎◌, ◌↔◌, IsTrue, IsOk, OnOk, OnErr};
+ghost use Rattle.std.specs.Prelude.{◌≡◌, ◌++◌, ◌∷◌, [], ◌≤◌, ◌⊎◌, ◌↔◌, IsTrue};
 ghost use Rattle.std.specs.Str.{chars, IsUtf8};
 ghost use Rattle.wtf8.specs.Appending.{AppendsUnits, KeepsContents, HasRoomFor};
 ghost use Rattle.wtf8.specs.Unicode.{IsCodePoint, units, units_of};
@@ -8,9 +8,9 @@ ghost use Rattle.wtf8_c.specs.Contents.{contents};
 use crate::codes::{DONE, MEMORY, NO_CODE_POINT, NO_UTF8, code_of};
 use crate::handle::Wtf8String;
 use crate::opening::view;
-use std::alloc::{AllocError, Global};
+use std::alloc::Global;
 use std::str;
-use wtf8::{CodePoint, Wtf8Buf, laws};
+use wtf8::CodePoint;
 
 /// Appends a unit. A trail after a lead completes the pair.
 #[unsafe(no_mangle)]
@@ -24,7 +24,7 @@ pub extern "C" fn wtf8_push_unit(alloc: Global, string: &mut Wtf8String, unit: u
     let Ok(mut buf) = string.open(alloc) else {
         return MEMORY;
     };
-    let pushed = buf.push(CodePoint::from_u32_unchecked(u32::from(unit)));
+    let pushed = buf.push_unit(unit);
     string.put(buf);
     code_of(pushed)
 }
@@ -57,12 +57,12 @@ pub extern "C" fn wtf8_push_units(alloc: Global, string: &mut Wtf8String, units:
     ensures done { result ≡ DONE → AppendsUnits (contents string.old) units.now (contents string.new) }
     ensures kept { result ≡ MEMORY → KeepsContents (contents string.old) (contents string.new) }
     ensures room { IsTrue string.old.full → HasRoomFor (contents string.old) units.now → result ≡ DONE }
-    ensures capacity { result ≡ DONE → (contents string.old).capacity ≤ (contents string.new).capacity }
+    ensures capacity { (contents string.old).capacity ≤ (contents string.new).capacity }
 {
     let Ok(mut buf) = string.open(alloc) else {
         return MEMORY;
     };
-    let pushed = push_units(alloc, &mut buf, units);
+    let pushed = buf.push_ill_formed_utf16(units);
     string.put(buf);
     code_of(pushed)
 }
@@ -110,35 +110,4 @@ pub extern "C" fn wtf8_push_string(
     other.put_back(held);
     string.put(buf);
     code_of(pushed)
-}
-
-/// Appends units to a buffer: all at once, or one by one if memory to encode them apart is refused.
-fn push_units(alloc: Global, buf: &mut Wtf8Buf<Global>, units: &[u16]) -> Result<(), AllocError>
-    ensures ok { OnOk result (AppendsUnits buf.old units.now buf.new) }
-    ensures kept { OnErr result (KeepsContents buf.old buf.new) }
-    ensures room { HasRoomFor buf.old units.now → IsOk result }
-    ensures capacity { OnOk result (buf.old.capacity ≤ buf.new.capacity) }
-{
-    match Wtf8Buf::from_ill_formed_utf16(alloc, units) {
-        Ok(back) => buf.push_wtf8(back.as_wtf8()),
-        Err(_) => push_each(buf, units),
-    }
-}
-
-/// Appends units to a buffer, one by one.
-fn push_each(buf: &mut Wtf8Buf<Global>, units: &[u16]) -> Result<(), AllocError>
-    ensures ok { OnOk result (AppendsUnits buf.old units.now buf.new) }
-    ensures kept { OnErr result (KeepsContents buf.old buf.new) }
-    ensures room { HasRoomFor buf.old units.now → IsOk result }
-    ensures capacity { OnOk result (buf.old.capacity ≤ buf.new.capacity) }
-{
-    laws::law_equal_strings();
-    let len = buf.as_wtf8().unit_len();
-    for &unit in units {
-        if let Err(error) = buf.push(CodePoint::from_u32_unchecked(u32::from(unit))) {
-            buf.truncate_units(len);
-            return Err(error);
-        }
-    }
-    Ok(())
 }

@@ -1,4 +1,5 @@
-use Rattle.std.proofs.Common.{refl, inr, ◌∙◌, arith, to_z, of_z, w32}
+use Rattle.std.proofs.Common.{refl, inr, arith, to_z, of_z, w32}
+use Rattle.wtf8.proofs.lemmas.codec.Readings.{units_one}
 use Rattle.std.proofs.lemmas.Bool.{false≢true}
 use Rattle.wtf8_c.specs.Contents.{contents}
 use Rattle.wtf8_c.proofs.Outcomes.{other_code, IsCodeOf, returned, done_or_memory, Opened, opened, appended, kept, kept_same, room}
@@ -14,7 +15,7 @@ returns-in_default c = record {
   capacity = capacity_same c.in_default.ensures.kept;
 }
 
-code : (c : goal.After-code_of) → IsCodeOf c.push-pushed.result (to_z w32 (of_z w32 c.code_of.result))
+code : (c : goal.After-code_of) → IsCodeOf c.push_unit-pushed.result (to_z w32 (of_z w32 c.code_of.result))
 code c = returned c.code_of.type_inv c.code_of.ensures.done c.code_of.ensures.memory
 
 taken : (c : goal.After-code_of) → Opened (contents c.args.string.now) c.deref_mut.result.now c.args.string.now.full
@@ -25,18 +26,14 @@ pub returns-clause-code : goal.returns-clause-code
 returns-clause-code c = done_or_memory _ _ (code c)
 
 pub returns-clause-done : goal.returns-clause-done
-returns-clause-done c =
-    let is = c.from_u32_unchecked.ensures ∙ c.from.ensures in
-    let one = c.push-pushed.ensures.one_unit (omega (arith, is, c.ranges.unit.fits)) in
-    appended _ (code c) (taken c) c.put.ensures.contents (rw is at one)
+returns-clause-done c = appended _ (code c) (taken c) c.put.ensures.contents c.push_unit-pushed.ensures.ok
 
 pub returns-clause-kept : goal.returns-clause-kept
-returns-clause-kept c = kept (code c) (taken c) c.put.ensures.contents c.push-pushed.ensures.kept
+returns-clause-kept c = kept (code c) (taken c) c.put.ensures.contents c.push_unit-pushed.ensures.kept
 
 pub returns-clause-room : goal.returns-clause-room
 returns-clause-room c =
-    let is = c.from_u32_unchecked.ensures ∙ c.from.ensures in
-    room _ (code c) (taken c) (λ fit. c.push-pushed.ensures.room (rw is fit))
+    room _ (code c) (taken c) (λ fit. c.push_unit-pushed.ensures.room (rw (← units_one c.args.unit (omega (arith, c.ranges.unit.fits))) fit))
 
 pub returns-clause-capacity : goal.returns-clause-capacity
-returns-clause-capacity c = capacity_kept (taken c) c.put.ensures.contents c.push-pushed.ensures.capacity
+returns-clause-capacity c = capacity_kept (taken c) c.put.ensures.contents c.push_unit-pushed.ensures.capacity

@@ -1,8 +1,8 @@
 use Rattle.std.proofs.Common.{refl, inr, to_z, of_z, w32}
 use Rattle.std.proofs.lemmas.Bool.{false≢true}
 use Rattle.wtf8_c.specs.Contents.{contents}
-use Rattle.wtf8_c.proofs.Outcomes.{other_code, IsCodeOf, returned, done_or_memory, Opened, opened, once_done, appended, kept, kept_same}
-use Rattle.wtf8_c.proofs.Outcomes.{room, capacity_kept}
+use Rattle.wtf8_c.proofs.Outcomes.{other_code, IsCodeOf, returned, done_or_memory, Opened, opened, appended, kept, kept_same}
+use Rattle.wtf8_c.proofs.Outcomes.{room, capacity_kept, capacity_same}
 use Rattle.wtf8_c.proofs.appending.wtf8_push_units.Goals as goal
 
 pub returns-in_default : goal.returns-in_default
@@ -11,10 +11,10 @@ returns-in_default c = record {
   done = other_code _ _ refl;
   kept = λ _. kept_same c.in_default.ensures.kept;
   room = λ full _. absurd (false≢true (c.in_default.ensures.full full));
-  capacity = other_code _ _ refl;
+  capacity = capacity_same c.in_default.ensures.kept;
 }
 
-code : (c : goal.After-code_of) → IsCodeOf c.push_units-pushed.result (to_z w32 (of_z w32 c.code_of.result))
+code : (c : goal.After-code_of) → IsCodeOf c.push_ill_formed_utf16-pushed.result (to_z w32 (of_z w32 c.code_of.result))
 code c = returned c.code_of.type_inv c.code_of.ensures.done c.code_of.ensures.memory
 
 taken : (c : goal.After-code_of) → Opened (contents c.args.string.now) c.deref_mut.result.now c.args.string.now.full
@@ -25,14 +25,13 @@ pub returns-clause-code : goal.returns-clause-code
 returns-clause-code c = done_or_memory _ _ (code c)
 
 pub returns-clause-done : goal.returns-clause-done
-returns-clause-done c = appended _ (code c) (taken c) c.put.ensures.contents c.push_units-pushed.ensures.ok
+returns-clause-done c = appended _ (code c) (taken c) c.put.ensures.contents c.push_ill_formed_utf16-pushed.ensures.ok
 
 pub returns-clause-kept : goal.returns-clause-kept
-returns-clause-kept c = kept (code c) (taken c) c.put.ensures.contents c.push_units-pushed.ensures.kept
+returns-clause-kept c = kept (code c) (taken c) c.put.ensures.contents c.push_ill_formed_utf16-pushed.ensures.kept
 
 pub returns-clause-room : goal.returns-clause-room
-returns-clause-room c = room _ (code c) (taken c) c.push_units-pushed.ensures.room
+returns-clause-room c = room _ (code c) (taken c) c.push_ill_formed_utf16-pushed.ensures.room
 
 pub returns-clause-capacity : goal.returns-clause-capacity
-returns-clause-capacity c e =
-    capacity_kept (taken c) c.put.ensures.contents (once_done (code c) c.push_units-pushed.ensures.capacity e)
+returns-clause-capacity c = capacity_kept (taken c) c.put.ensures.contents c.push_ill_formed_utf16-pushed.ensures.capacity
