@@ -1,5 +1,5 @@
 // The UTF-8 prefix of a buffer: the bytes at its front that are known to hold no surrogate.
-ghost use Rattle.std.specs.Prelude.{◌≡◌, ◌<◌, ◌≤◌, ℕ, List, length};
+ghost use Rattle.std.specs.Prelude.{◌≡◌, ◌<◌, ◌≤◌, ℕ, List, length, IsTrue};
 ghost use Rattle.wtf8.specs.Form.{bytes};
 ghost use Rattle.wtf8.specs.private.Prefixes.{AreScalarTo};
 ghost use Rattle.wtf8.specs.Surrogates.{AreScalar};
@@ -16,6 +16,20 @@ pub(crate) struct Utf8Prefix {
 impl Utf8Prefix {
     /// The prefix of a buffer without surrogates. It stays right when text is appended, so no push has to update it.
     pub(crate) const ALL: Utf8Prefix = Utf8Prefix { len: usize::MAX };
+
+    /// The prefix of a buffer of which nothing is known.
+    pub(crate) const NONE: Utf8Prefix = Utf8Prefix { len: 0 };
+
+    /// The prefix of a new buffer: all of it if `is_utf8` says that it holds no surrogate, else none.
+    pub(crate) fn new(is_utf8: bool) -> Utf8Prefix
+        ensures { (c : List ℕ) → (IsTrue is_utf8 → AreScalar c) → AreScalarTo result.len c }
+    {
+        if is_utf8 {
+            Utf8Prefix::ALL
+        } else {
+            Utf8Prefix::NONE
+        }
+    }
 
     #[inline(always)]
     pub(crate) fn up_to(self, len: usize) -> Utf8Prefix

@@ -4,7 +4,7 @@ use Rattle.wtf8.proofs.Common.{replicate, Fits, refl, sym, ap, ◌∙◌, arith,
 use Rattle.wtf8.proofs.Common.{AreAscii, IsSurrogate, ◌+◌, ◌/◌, ◌++◌, IsTrue, take, drop, get_or, subst, take-append-drop, common_steps}
 use Rattle.wtf8.proofs.Common.{append_assoc, append-nil, length-chunk, MeetsAsPair, IsKnownForm, DividesPair, w16, get_or-drop, length-take, take-add, AreScalarUnits}
 use Rattle.wtf8.proofs.Common.{take-append-add, min, length-map, take-take, zip2_splat, IsLead, IsReadTo}
-use Rattle.wtf8.proofs.Common.{ReadsOn, HasRoomFrom, vec_capacity}
+use Rattle.wtf8.proofs.Common.{IsForm, ReadsOn, HasRoomFrom, take_all, vec_capacity}
 use Rattle.std.specs.declared.vec.Vec.{Vec}
 use Rattle.std.proofs.Math.Bool.{and-true}
 use Rattle.std.proofs.Math.Seq.{take-suc}
@@ -12,7 +12,7 @@ use Rattle.wtf8.proofs.lemmas.lanes.AsciiFronts.{saturated_front}
 use Rattle.std.proofs.lemmas.Bool.{eqb-false}
 use Rattle.std.proofs.lemmas.List.{get_or-take}
 use Rattle.std.proofs.lemmas.Simd.{bitmask_splat, map-map, Each1-get_or}
-use Rattle.wtf8.proofs.lemmas.codec.Readings.{form_append-unpaired, meets_by, unpaired-after_no_lead, MeetsAsPair-back}
+use Rattle.wtf8.proofs.lemmas.codec.Readings.{form_append-unpaired, meets_by, same_form, unpaired-after_no_lead, unpaired-nil_left, MeetsAsPair-back}
 use Rattle.wtf8.proofs.lemmas.codec.Scalars.{IsKnownForm-ascii, scalar-append}
 
 -- Masks of blocks of units.
@@ -41,6 +41,21 @@ none_surrogate xs l f e =
 pub IsKnownForm-nil : {w : List ℕ} (known : Bool) → w ≡ [] → IsKnownForm w [] known
 IsKnownForm-nil known e =
     record { form = record { points = []; reads = record { clean = tt; same_units = refl }; encoded = sym e }; scalar = λ _. tt }
+
+-- before the first unit of a new string
+pub read_none : {w u : List ℕ} (known : Bool) → w ≡ [] → IsReadTo w [] u 0 known
+read_none known e = record { within = omega arith; divides_no_pair = unpaired-nil_left; form = IsKnownForm-nil known e }
+
+-- no units need no room
+pub HasRoomFrom-none : {Z : Type 0} (new : Vec ℕ Z) {u : List ℕ} (known : Bool) → new.items ≡ [] → u ≡ [] → HasRoomFrom new u 0 known
+HasRoomFrom-none new {u} known e none =
+    let fits : (n : ℕ) (w : List ℕ) → IsForm w (take n u) → length w ≤ vec_capacity new =
+    λ n w form. omega (
+      arith,
+      ap length (same_form w [] [] (subst (IsForm w) (take_all n u (omega (arith, ap length none)) ∙ none) form)
+          (IsKnownForm-nil {w = []} true refl).form),
+    ) in
+    ([], read_none known e, fits)
 
 -- no pair is divided after a unit that is no lead
 pub undivided-after_no_lead : (u : List ℕ) (j : ℕ) → j < length u → ¬ (IsLead (get_or u j 0)) → ¬ (DividesPair u (j + 1))
