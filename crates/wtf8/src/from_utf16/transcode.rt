@@ -205,11 +205,17 @@ fn append_rest<A: Allocator>(
     ensures room { HasRoomFrom bytes.old v.now from.at from.is_utf8 → IsOk result }
     ensures capacity { vec_capacity bytes.old ≤ vec_capacity bytes.new }
 {
-    let mut read = from;
-    while read.at < v.len() {
-        read = append_point(bytes, v, read)?;
+    let mut is_utf8 = from.is_utf8;
+    for item in decode::decode_utf16(v[from.at..].iter().copied()) {
+        match item {
+            Ok(character) => encoding::append(bytes, CodePoint::from_char(character))?,
+            Err(surrogate) => {
+                is_utf8 = false;
+                encoding::append(bytes, CodePoint::from_unit(surrogate))?;
+            }
+        }
     }
-    Ok(read.is_utf8)
+    Ok(is_utf8)
 }
 
 /// Appends the bytes of all units from index `from.at` on, after bytes with which they form no pair. Returns whether
