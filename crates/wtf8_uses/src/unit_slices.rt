@@ -1,41 +1,9 @@
-//! A string that grows by code units, and one that is cut at a code unit and joined again.
-ghost use Rattle.std.specs.Prelude.{◌≡◌, [], ◌∷◌, ◌≤◌, length, IfOk, OnOk};
-ghost use Rattle.std.specs.Option.{option_to_list};
-ghost use Rattle.wtf8.specs.Appending.{AppendsUnits};
-ghost use Rattle.wtf8.specs.UnitPosition.{units_of_slice};
+//! A string that is cut at a code unit, also inside a surrogate pair, and joined again.
+ghost use Rattle.std.specs.Prelude.{◌≡◌, ◌≤◌, length, IfOk};
 ghost use Rattle.wtf8.specs.View.{view_units};
 
 use std::alloc::{AllocError, Allocator};
-use wtf8::{CodePoint, UnitSlice, Wtf8, Wtf8Buf, laws};
-
-/// Appends one code unit.
-pub fn push_unit<A: Allocator>(text: &mut Wtf8Buf<A>, unit: u16) -> Result<(), AllocError>
-    ensures { OnOk result (AppendsUnits text.old (unit ∷ []) text.new) }
-{
-    text.push(CodePoint::from_u32_unchecked(u32::from(unit)))
-}
-
-/// Appends half of a surrogate pair, if there is one.
-fn push_half<A: Allocator>(text: &mut Wtf8Buf<A>, half: Option<u16>) -> Result<(), AllocError>
-    ensures { OnOk result (AppendsUnits text.old (option_to_list half) text.new) }
-{
-    match half {
-        None => Ok(()),
-        Some(unit) => push_unit(text, unit),
-    }
-}
-
-/// Appends a slice that was cut at code units: its trail, its whole code points and its lead.
-pub fn push_slice<A: Allocator>(
-    text: &mut Wtf8Buf<A>,
-    slice: UnitSlice<'_>,
-) -> Result<(), AllocError>
-    ensures { OnOk result (AppendsUnits text.old (units_of_slice slice.entry) text.new) }
-{
-    push_half(text, slice.trail)?;
-    text.push_wtf8(slice.whole)?;
-    push_half(text, slice.lead)
-}
+use wtf8::{Wtf8, Wtf8Buf};
 
 /// Copies `text`, truncates the copy to `n` code units, also inside a surrogate pair, and appends the rest again. The
 /// result has the units of `text`.
@@ -50,6 +18,6 @@ pub fn cut_at_units_and_joined<A: Allocator>(
     let mut whole = Wtf8Buf::new(alloc);
     whole.push_wtf8(text)?;
     whole.truncate_units(n);
-    push_slice(&mut whole, text.slice_units(n, text.unit_len()))?;
+    whole.push_unit_slice(text.slice_units(n, text.unit_len()))?;
     Ok(whole)
 }
