@@ -1,19 +1,12 @@
-//! A string that grows by code units, and one that is cut at a code unit and joined again.
-ghost use Rattle.std.specs.Prelude.{◌≡◌, [], ◌∷◌, ◌≤◌, length, IfOk, OnOk};
+//! A string that is cut at a code unit and joined again.
+ghost use Rattle.std.specs.Prelude.{◌≡◌, ◌≤◌, length, IfOk, OnOk};
 ghost use Rattle.std.specs.Option.{option_to_list};
 ghost use Rattle.wtf8.specs.Appending.{AppendsUnits};
 ghost use Rattle.wtf8.specs.UnitPosition.{units_of_slice};
 ghost use Rattle.wtf8.specs.View.{view_units};
 
 use std::alloc::{AllocError, Allocator};
-use wtf8::{CodePoint, UnitSlice, Wtf8, Wtf8Buf, laws};
-
-/// Appends one code unit.
-pub fn push_unit<A: Allocator>(text: &mut Wtf8Buf<A>, unit: u16) -> Result<(), AllocError>
-    ensures { OnOk result (AppendsUnits text.old (unit ∷ []) text.new) }
-{
-    text.push(CodePoint::from_u32_unchecked(u32::from(unit)))
-}
+use wtf8::{UnitSlice, Wtf8, Wtf8Buf, laws};
 
 /// Appends half of a surrogate pair, if there is one.
 fn push_half<A: Allocator>(text: &mut Wtf8Buf<A>, half: Option<u16>) -> Result<(), AllocError>
@@ -21,7 +14,7 @@ fn push_half<A: Allocator>(text: &mut Wtf8Buf<A>, half: Option<u16>) -> Result<(
 {
     match half {
         None => Ok(()),
-        Some(unit) => push_unit(text, unit),
+        Some(unit) => text.push_unit(unit),
     }
 }
 
