@@ -15,7 +15,7 @@ use crate::script::Call;
 /// The name of a list, and the function that makes its scripts.
 pub type List = (&'static str, fn() -> Vec<Vec<Call>>);
 
-pub const LISTS: [List; 32] = [
+pub const LISTS: [List; 33] = [
     ("worked examples", worked::scripts),
     ("examples", examples::all),
     ("code points at edges", generate::edge_calls),
@@ -54,6 +54,10 @@ pub const LISTS: [List; 32] = [
     ("positions about blocks", blocks::positions),
     ("far positions", blocks::far),
     ("pushed after each length", pushed::after_each_length),
+    (
+        "units pushed from each index",
+        pushed::units_from_each_index,
+    ),
     ("six thousand units", pushed::far),
     ("marks of up to four units", marked::up_to_four_units),
     ("marks about blocks", marked::about_blocks),

@@ -78,13 +78,16 @@ pub enum Opcode {
     ShrinkToFit = 45,
     Marks = 46,
     Left = 47,
+    PushIllFormedUtf16 = 48,
+    PushUnit = 49,
+    WriteUnits = 50,
 }
 
 /// The first opcode of a call on texts. `javascript/text_calls.js` makes these calls.
 pub const FIRST_OF_TEXTS: u8 = 64;
 
 /// The calls on strings with the kinds of their operands, in the order of the opcodes.
-pub const CALLS: [(Opcode, &[Kind]); 48] = [
+pub const CALLS: [(Opcode, &[Kind]); 51] = [
     (Opcode::New, &[Register]),
     (Opcode::WithCapacity, &[Register, Number]),
     (Opcode::FromString, &[Register, Text]),
@@ -139,10 +142,20 @@ pub const CALLS: [(Opcode, &[Kind]); 48] = [
     (Opcode::ShrinkToFit, &[Register]),
     (Opcode::Marks, &[Register]),
     (Opcode::Left, &[Register]),
+    (Opcode::PushIllFormedUtf16, &[Register, Units]),
+    (Opcode::PushUnit, &[Register, Number]),
+    (Opcode::WriteUnits, &[Register, Units]),
 ];
 
-/// The number of calls, the first ones, among which random scripts choose. Only lists make the others.
+/// The number of calls, the first ones, among which the random scripts of the fixed list choose.
 pub const RANDOM_CALLS: usize = 46;
+
+/// The calls that random scripts make besides, except those of the fixed list, which stay as they are.
+pub const CALLS_BETWEEN: [Opcode; 3] = [
+    Opcode::PushIllFormedUtf16,
+    Opcode::PushUnit,
+    Opcode::WriteUnits,
+];
 
 // The index of a call in `CALLS` is its opcode.
 const _: () = {

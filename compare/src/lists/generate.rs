@@ -1,7 +1,9 @@
 //! Random scripts, and scripts for the exhaustive lists.
 
 use crate::random::Random;
-use crate::script::{Build, Call, Kind, Opcode, Operand, Step, CALLS, RANDOM_CALLS, UNBOUNDED};
+use crate::script::{
+    Build, Call, Kind, Opcode, Operand, Step, CALLS, CALLS_BETWEEN, RANDOM_CALLS, UNBOUNDED,
+};
 
 /// Code points, among them the ends of each encoded length, and two numbers above U+10FFFF.
 pub const EDGES: [u32; 32] = [
@@ -69,7 +71,20 @@ const STEPS: [Step; 10] = [
     Step::Collect,
 ];
 
-/// A script of up to twenty calls.
+/// A script of up to twenty calls, with one of `CALLS_BETWEEN` after every fourth on average.
+pub fn script_with_all_calls(random: &mut Random) -> Vec<Call> {
+    let mut calls = Vec::new();
+    for call in script(random) {
+        calls.push(call);
+        if random.below(4) == 0 {
+            let opcode = random.pick(&CALLS_BETWEEN);
+            calls.push(call_of(random, opcode as usize));
+        }
+    }
+    calls
+}
+
+/// A script of up to twenty calls, as the fixed list has them.
 pub fn script(random: &mut Random) -> Vec<Call> {
     let count = random.between(1, 20);
     (0..count).map(|_| call(random)).collect()
@@ -81,6 +96,11 @@ fn call(random: &mut Random) -> Call {
         0 => random.below(RANDOM_CALLS as u64) as usize,
         _ => random.between(Opcode::FromString as u32, Opcode::SliceTo as u32) as usize,
     };
+    call_of(random, index)
+}
+
+/// The call of that index in `CALLS`, with random operands.
+fn call_of(random: &mut Random, index: usize) -> Call {
     let (opcode, kinds) = CALLS[index];
     let mut operands: Vec<Operand> = kinds.iter().map(|kind| operand(random, *kind)).collect();
     if opcode == Opcode::ApplyAll {
@@ -357,8 +377,18 @@ fn cut_at(position: u16) -> Vec<Call> {
 }
 
 pub fn from_units(register: u8, units: &[u16]) -> Call {
+    with_units(register, Opcode::FromIllFormedUtf16, units)
+}
+
+/// Appends units to the string of a register.
+pub fn push_units(register: u8, units: &[u16]) -> Call {
+    with_units(register, Opcode::PushIllFormedUtf16, units)
+}
+
+/// A call on the string of a register with units.
+pub fn with_units(register: u8, opcode: Opcode, units: &[u16]) -> Call {
     let operands = vec![Operand::Register(register), Operand::Units(units.to_vec())];
-    Call::new(Opcode::FromIllFormedUtf16, operands)
+    Call::new(opcode, operands)
 }
 
 /// Pushes a code point to the string of a register.

@@ -1,6 +1,6 @@
-//! Lists of scripts on a code point that is pushed to strings of every length, and on strings of 6,000 units.
+//! Lists of scripts on a code point or units that are pushed to strings of every length, and on strings of 6,000 units.
 
-use crate::lists::generate::{push, registers};
+use crate::lists::generate::{call_on, from_units, push, push_units, registers, with_units};
 use crate::lists::long::{changed, on, string_in, BASES};
 use crate::script::{Call, Opcode, Operand, Step};
 
@@ -43,6 +43,42 @@ fn pushed_after(units: &[u16]) -> Vec<Call> {
         }
     }
     calls
+}
+
+/// The most units of a string in `units_from_each_index`.
+const MOST_CUT: usize = 70;
+
+/// Strings of every length up to `MOST_CUT`, cut at each index, unchanged and with a pair cut in two or another
+/// surrogate at the cut: the units after it appended by `push_ill_formed_utf16`, `into_string`, and `write_units`.
+pub fn units_from_each_index() -> Vec<Vec<Call>> {
+    let mut scripts = Vec::new();
+    for base in BASES {
+        for len in 1..=MOST_CUT {
+            let units = string_of(base, len);
+            scripts.push(
+                (1..len)
+                    .flat_map(|cut| cut_and_pushed(&units, cut))
+                    .collect(),
+            );
+        }
+    }
+    scripts
+}
+
+fn cut_and_pushed(units: &[u16], cut: usize) -> Vec<Call> {
+    let pair = changed(units, &[(cut - 1, 0xD83D), (cut, 0xDCA9)]);
+    let surrogate = changed(units, &[(cut, 0xDCA9)]);
+    let lists = [units, &pair, &surrogate].into_iter();
+    lists
+        .flat_map(|units| {
+            [
+                from_units(0, &units[..cut]),
+                push_units(0, &units[cut..]),
+                call_on(0, Opcode::IntoString),
+                with_units(0, Opcode::WriteUnits, &[0xD800]),
+            ]
+        })
+        .collect()
 }
 
 /// Strings of 6,000 units: with a surrogate or another unit at some indexes, joined in the middle of a pair, and read

@@ -1,7 +1,9 @@
 //! Worked examples of the calls on strings, each a short script on its own input. `gate/worked_examples.txt` has the
 //! calls and the result of each in words.
 
-use crate::lists::generate::{call_on, from_units, push, pushed, registers, with_text};
+use crate::lists::generate::{
+    call_on, from_units, push, push_units, pushed, registers, with_text, with_units,
+};
 use crate::lists::long::changed;
 use crate::script::{Build, Call, Opcode, Operand, Step, UNBOUNDED};
 
@@ -455,6 +457,8 @@ fn joined(units: &[u16]) -> Vec<Vec<Call>> {
         in_two_pieces(units),
         in_three_pieces(units),
         whole_read(units),
+        units_pushed_from_each_index(units),
+        pushed_and_written(units),
     ]
 }
 
@@ -487,6 +491,26 @@ fn in_two_pieces(units: &[u16]) -> Vec<Call> {
         ]
     };
     (0..=units.len()).flat_map(joined).collect()
+}
+
+/// The string of the first units with the others appended by `push_ill_formed_utf16`, cut at each index.
+fn units_pushed_from_each_index(units: &[u16]) -> Vec<Call> {
+    let pushed = |index| {
+        [
+            from_units(0, &units[..index]),
+            push_units(0, &units[index..]),
+        ]
+    };
+    (0..=units.len()).flat_map(pushed).collect()
+}
+
+/// `push_unit` of each unit in turn, and `write_units` to a slice with room for one more.
+fn pushed_and_written(units: &[u16]) -> Vec<Call> {
+    let push_unit = |unit| with_number(0, Opcode::PushUnit, unit);
+    let mut calls = vec![call_on(0, Opcode::New)];
+    calls.extend(units.iter().copied().map(push_unit));
+    calls.push(with_units(0, Opcode::WriteUnits, &[0x0062]));
+    calls
 }
 
 /// The strings of three pieces, cut at each two indexes, joined by `push_wtf8`.

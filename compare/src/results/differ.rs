@@ -50,7 +50,7 @@ pub fn run(seed: u64, cases: u64, every_point: bool) -> bool {
         say!("every code point and the number after the last: the results are the same");
     }
     let mut random = Random::new(seed);
-    let scripts = (0..cases).map(|_| generate::script(&mut random));
+    let scripts = (0..cases).map(|_| generate::script_with_all_calls(&mut random));
     if !tally.agrees_on("random scripts", scripts) {
         return false;
     }

@@ -273,6 +273,9 @@ impl Machine {
             Opcode::ShrinkToFit => self.show(reader.register()),
             Opcode::Marks => self.marks(reader),
             Opcode::Left => self.left(reader),
+            Opcode::PushIllFormedUtf16 => self.push_units(reader),
+            Opcode::PushUnit => self.push_unit(reader),
+            Opcode::WriteUnits => self.write_units(reader),
         }
     }
 

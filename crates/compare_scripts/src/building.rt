@@ -88,6 +88,8 @@ impl Machine {
             Append::Extend => extend(string, tape),
             Append::ExtendCodePoints => self.extend_by_string(at, tape),
             Append::ExtendHinted => extend_hinted(string, tape),
+            Append::PushIllFormedUtf16 => push_units(string, tape),
+            Append::PushUnit => allocated(string.push_unit(tape.reader.unit()?)),
         }
     }
 
@@ -186,6 +188,13 @@ fn reserve(string: &mut Wtf8Buf<Global>, tape: &mut Tape<'_>) -> Result<(), Stop
     let additional = tape.reader.number()?;
     allocated(string.reserve(additional))?;
     tape.write_room(string, additional)
+}
+
+/// `push_ill_formed_utf16`.
+fn push_units(string: &mut Wtf8Buf<Global>, tape: &mut Tape<'_>) -> Result<(), Stop> {
+    let count = usize::from(tape.reader.byte()?);
+    let units = tape.reader.units(tape.alloc, count)?;
+    allocated(string.push_ill_formed_utf16(units.as_slice()))
 }
 
 /// `extend` by code points.

@@ -119,6 +119,10 @@ pub enum Append {
     ExtendCodePoints,
     /// Number, points: `extend` by points with the number as the lower size hint.
     ExtendHinted,
+    /// Units: `push_ill_formed_utf16`.
+    PushIllFormedUtf16,
+    /// Number: `push_unit`.
+    PushUnit,
 }
 
 /// A call that truncates a string. Writes whether the capacity is unchanged.
@@ -174,6 +178,8 @@ pub enum Read {
     Marks,
     /// `as_wtf8` of both iterators after each step, and `encoded_len` of each code point.
     Left,
+    /// Units: `write_units` to a slice that has room for the string's units, and these units after them.
+    WriteUnits,
 }
 
 /// A call on the texts.
@@ -338,6 +344,7 @@ impl StringCall {
             44 => StringCall::Read(Read::AppendUnits),
             46 => StringCall::Read(Read::Marks),
             47 => StringCall::Read(Read::Left),
+            50 => StringCall::Read(Read::WriteUnits),
             _ => StringCall::Change(Change::from_opcode(opcode)?),
         };
         Some(call)
@@ -374,6 +381,8 @@ impl Change {
             38 => Change::Make(Make::FromIterHinted),
             40 => Change::Make(Make::ApplyAll),
             45 => Change::ShrinkToFit,
+            48 => Change::Append(Append::PushIllFormedUtf16),
+            49 => Change::Append(Append::PushUnit),
             _ => return None,
         };
         Some(call)

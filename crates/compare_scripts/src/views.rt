@@ -31,6 +31,7 @@ impl Machine {
             Read::AppendUnits => write_appended_units(tape, view),
             Read::Marks => write_marks(tape, view),
             Read::Left => write_left(tape, view),
+            Read::WriteUnits => write_units_to_slice(tape, view),
         }
     }
 
@@ -220,12 +221,28 @@ fn write_appended_units(tape: &mut Tape<'_>, view: Wtf8<'_>) -> Result<(), Stop>
     let count = usize::from(tape.reader.byte()?);
     let mut units = tape.reader.units(tape.alloc, count)?;
     allocated(view.append_units(&mut units))?;
+    tape.write_word("appended")?;
     write_all_units(tape, units.as_slice())
 }
 
-/// Writes the line of `append_units`.
+/// `write_units` to zeros, one for each unit, with units of the script after them: writes the number of units that it
+/// returns, and all units of the slice.
+fn write_units_to_slice(tape: &mut Tape<'_>, view: Wtf8<'_>) -> Result<(), Stop> {
+    let count = usize::from(tape.reader.byte()?);
+    let after = tape.reader.units(tape.alloc, count)?;
+    let mut units = Vec::new(tape.alloc);
+    allocated(units.resize(view.unit_len(), 0))?;
+    allocated(units.extend_from_slice(after.as_slice()))?;
+    if units.len() < view.unit_len() {
+        return Err(Stop::Refused);
+    }
+    let count = view.write_units(&mut units);
+    write!(tape, "{count} written")?;
+    write_all_units(tape, units.as_slice())
+}
+
+/// Writes units, and ends the line.
 fn write_all_units(tape: &mut Tape<'_>, units: &[u16]) -> Result<(), Stop> {
-    tape.write_word("appended")?;
     for unit in units {
         tape.write_item(Some(*unit), NONE)?;
     }

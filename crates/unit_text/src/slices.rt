@@ -1,13 +1,12 @@
 // Slices of units, copied and compared.
 ghost use Rattle.std.specs.Option.{option_to_list};
-ghost use Rattle.std.specs.Prelude.{◌≡◌, ◌↔◌, ◌≤◌, length, take, [], ◌∷◌, ◌++◌, None, IfOk, IsOk, IsTrue, OnOk, OnErr};
-ghost use Rattle.wtf8.specs.Appending.{AppendsUnits, KeepsContents};
+ghost use Rattle.std.specs.Prelude.{◌≡◌, ◌↔◌, ◌≤◌, length, take, [], ◌++◌, None, IfOk, IsOk, IsTrue, OnOk};
 ghost use Rattle.wtf8.specs.UnitMark.{IsMark};
 ghost use Rattle.wtf8.specs.UnitPosition.{units_of_slice};
 ghost use Rattle.wtf8.specs.View.{view_units};
 
 use std::alloc::{AllocError, Allocator};
-use wtf8::{CodePoint, UnitMark, UnitSlice, Wtf8, Wtf8Buf, laws};
+use wtf8::{UnitMark, UnitSlice, Wtf8, Wtf8Buf, laws};
 
 /// Copies a slice to a new string. Does not allocate if the slice is empty.
 pub(crate) fn buf_of_slice<A: Allocator>(
@@ -31,18 +30,9 @@ fn push_half<A: Allocator>(text: &mut Wtf8Buf<A>, half: Option<u16>) -> Result<(
     ensures none { half ≡ None → IsOk result }
 {
     match half {
-        Some(unit) => push_unit(text, unit),
+        Some(unit) => text.push_unit(unit),
         None => Ok(()),
     }
-}
-
-/// Appends a code unit.
-#[inline(always)]
-pub(crate) fn push_unit<A: Allocator>(text: &mut Wtf8Buf<A>, unit: u16) -> Result<(), AllocError>
-    ensures ok { OnOk result (AppendsUnits text.old (unit ∷ []) text.new) }
-    ensures kept { OnErr result (KeepsContents text.old text.new) }
-{
-    text.push(CodePoint::from_u32_unchecked(u32::from(unit)))
 }
 
 /// Keeps the first `n` units of a string. `mark` is the mark for `n`: if a pair is split there, units are counted from

@@ -12,7 +12,7 @@ ghost use Rattle.unit_text.specs.Positions.{AreUnitsBefore};
 ghost use Rattle.unit_text.specs.Reading.{reading};
 
 use crate::marks::{self, CountedView, MarkedView, Marks};
-use crate::slices::{self, push_unit};
+use crate::slices;
 use std::alloc::{AllocError, Allocator};
 use std::cmp::Ordering;
 use std::marker::Model;
@@ -208,7 +208,7 @@ impl<A: Allocator> UnitText<A> {
         ensures ok { OnOk result (self.new ≡ self.old ++ unit ∷ []) }
         ensures err { OnErr result (self.new ≡ self.old) }
     {
-        push_unit(&mut self.text, unit)?;
+        self.text.push_unit(unit)?;
         laws::law_marks();
         prove!(self.text.len() <= usize::MAX);
         self.count += 1;

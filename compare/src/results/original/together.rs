@@ -34,6 +34,30 @@ impl Machine {
         self.line(&line.join(" "));
     }
 
+    /// The crate appends units only as a string of their own.
+    pub fn push_units(&mut self, reader: &mut Reader<'_>) {
+        self.change(reader, |string, reader| {
+            string.push_wtf8(&Wtf8Buf::from_ill_formed_utf16(&reader.units()));
+        });
+    }
+
+    pub fn push_unit(&mut self, reader: &mut Reader<'_>) {
+        self.change(reader, |string, reader| {
+            let point = CodePoint::from_u32(u32::from(reader.unit()));
+            string.push(point.expect("each unit is the number of a code point"));
+        });
+    }
+
+    /// The units of the crate's iterator, and after them those that a slice has past its end.
+    pub fn write_units(&mut self, reader: &mut Reader<'_>) {
+        let register = reader.register();
+        let mut units: Vec<u16> = self.strings[register].to_ill_formed_utf16().collect();
+        let mut line = vec![format!("{} written", units.len())];
+        units.extend(reader.units());
+        line.extend(units.into_iter().map(unit_text));
+        self.line(&line.join(" "));
+    }
+
     /// The crate compares code points, so this compares its iterators of units.
     pub fn compare_units(&mut self, reader: &mut Reader<'_>) {
         let [own, other] = [reader.register(), reader.register()];
