@@ -1,6 +1,5 @@
 // Slices of units, copied and compared.
-ghost use Rattle.std.specs.Option.{option_to_list};
-ghost use Rattle.std.specs.Prelude.{◌≡◌, ◌↔◌, ◌≤◌, length, take, [], ◌++◌, None, IfOk, IsOk, IsTrue, OnOk};
+ghost use Rattle.std.specs.Prelude.{◌≡◌, ◌↔◌, ◌≤◌, length, take, [], IfOk, IsOk, IsTrue};
 ghost use Rattle.wtf8.specs.UnitMark.{IsMark};
 ghost use Rattle.wtf8.specs.UnitPosition.{units_of_slice};
 ghost use Rattle.wtf8.specs.View.{view_units};
@@ -17,22 +16,8 @@ pub(crate) fn buf_of_slice<A: Allocator>(
     ensures empty { units_of_slice slice.entry ≡ [] → IsOk result }
 {
     let mut text = Wtf8Buf::new(alloc);
-    push_half(&mut text, slice.trail)?;
-    text.push_wtf8(slice.whole)?;
-    push_half(&mut text, slice.lead)?;
+    text.push_unit_slice(slice)?;
     Ok(text)
-}
-
-/// Appends half of a surrogate pair, if there is one.
-#[inline(always)]
-fn push_half<A: Allocator>(text: &mut Wtf8Buf<A>, half: Option<u16>) -> Result<(), AllocError>
-    ensures ok { OnOk result (text.new.units ≡ text.old.units ++ option_to_list half) }
-    ensures none { half ≡ None → IsOk result }
-{
-    match half {
-        Some(unit) => text.push_unit(unit),
-        None => Ok(()),
-    }
 }
 
 /// Keeps the first `n` units of a string. `mark` is the mark for `n`: if a pair is split there, units are counted from
