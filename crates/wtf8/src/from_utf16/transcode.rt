@@ -18,8 +18,12 @@ const ASCII_BLOCK: usize = 2 * TAIL_ASCII_BLOCK;
 /// The number of units that are searched for an ASCII run at once if fewer than `ASCII_BLOCK` are left.
 const TAIL_ASCII_BLOCK: usize = 16;
 
-/// The least number of units that are searched for an ASCII run at once, or encoded as a block.
+/// The least number of units that are encoded as a block, and the number that are searched for an ASCII run at once if
+/// fewer than `TAIL_ASCII_BLOCK` are left.
 const SMALL_BLOCK: usize = TAIL_ASCII_BLOCK / 2;
+
+/// The number of units that are searched for an ASCII run at once if fewer than `SMALL_BLOCK` are appended.
+const SHORT_RUN: usize = SMALL_BLOCK / 2;
 
 /// The number of units from which on the kernel's scratch buffer has `LONG_SCRATCH_BYTES`. If it has them from 32 units
 /// on, lists of 40 with lone surrogates take 1.5 to 2.9% more instructions.
@@ -233,4 +237,66 @@ pub(crate) fn append_utf16<A: Allocator>(
 {
     let read = append_steps(bytes, v, from)?;
     append_rest(bytes, v, read)
+}
+
+/// Appends the ASCII run at the front of the `SHORT_RUN` units at index `from.at` and the code point after it, or nothing
+/// if these are fewer or the first is not ASCII. Returns how far units are encoded.
+#[inline(always)]
+fn append_short_run<A: Allocator>(
+    bytes: &mut Vec<u8, A>,
+    v: &[u16],
+    from: Progress,
+) -> Result<Progress, AllocError>
+    requires within { from.at ≤ length v.now }
+    ensures within { IfOk result (λ to. to.at ≤ length v.now) }
+    ensures read { IfOk result (λ to. ReadsOn bytes.old.items bytes.new.items v.now from.at from.is_utf8 to.at to.is_utf8) }
+    ensures begins { take (length bytes.old.items) bytes.new.items ≡ bytes.old.items }
+    ensures room { HasRoomFrom bytes.old v.now from.at from.is_utf8 → IsOk result }
+    ensures capacity { vec_capacity bytes.old ≤ vec_capacity bytes.new }
+{
+    if SHORT_RUN <= v.len() - from.at && v[from.at] < 0x80 {
+        return append_ascii_run::<SHORT_RUN, A>(bytes, v, from);
+    }
+    Ok(from)
+}
+
+/// Appends the bytes of few units from index `from.at` on, one code point at a time after a short ASCII run. Returns whether
+/// `from.is_utf8` and none of them is a lone surrogate.
+#[inline(always)]
+fn append_few<A: Allocator>(
+    bytes: &mut Vec<u8, A>,
+    v: &[u16],
+    from: Progress,
+) -> Result<bool, AllocError>
+    requires within { from.at ≤ length v.now }
+    ensures ok { IfOk result (λ known. (front : List ℕ) → IsReadTo bytes.old.items front v.now from.at from.is_utf8 → IsKnownForm bytes.new.items (front ++ v.now) known) }
+    ensures begins { take (length bytes.old.items) bytes.new.items ≡ bytes.old.items }
+    ensures room { HasRoomFrom bytes.old v.now from.at from.is_utf8 → IsOk result }
+    ensures capacity { vec_capacity bytes.old ≤ vec_capacity bytes.new }
+{
+    let mut read = append_short_run(bytes, v, from)?;
+    while read.at < v.len() {
+        read = append_point(bytes, v, read)?;
+    }
+    Ok(read.is_utf8)
+}
+
+/// `append_utf16` for a caller that often has fewer than `SMALL_BLOCK` units: these do not pay for what blocks need of
+/// registers and stack.
+#[inline(always)]
+pub(crate) fn append_few_or_many<A: Allocator>(
+    bytes: &mut Vec<u8, A>,
+    v: &[u16],
+    from: Progress,
+) -> Result<bool, AllocError>
+    requires within { from.at ≤ length v.now }
+    ensures ok { IfOk result (λ known. (front : List ℕ) → IsReadTo bytes.old.items front v.now from.at from.is_utf8 → IsKnownForm bytes.new.items (front ++ v.now) known) }
+    ensures begins { take (length bytes.old.items) bytes.new.items ≡ bytes.old.items }
+    ensures room { HasRoomFrom bytes.old v.now from.at from.is_utf8 → IsOk result }
+    ensures capacity { vec_capacity bytes.old ≤ vec_capacity bytes.new }
+{
+    if v.len() - from.at < SMALL_BLOCK {
+        return append_few(bytes, v, from);
+    }
+    append_utf16(bytes, v, from)
 }

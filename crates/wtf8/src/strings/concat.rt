@@ -268,11 +268,13 @@ fn append_utf16<A: Allocator>(
                 },
             )
         }
-        None => transcode::append_utf16(bytes, v, Progress { at: 0, is_utf8 }),
+        None => transcode::append_few_or_many(bytes, v, Progress { at: 0, is_utf8 }),
     }
 }
 
-/// Takes back what was appended to the first `len` bytes, which `lead` ended if it is one.
+/// Takes back what was appended to the first `len` bytes, which `lead` ended if it is one. Not inlined, since few pushes are
+/// refused.
+#[inline(never)]
 pub(crate) fn take_back<A: Allocator>(bytes: &mut Vec<u8, A>, len: usize, lead: Option<u32>)
     requires within { len ≤ length bytes.old.items }
     requires lead { IfSome lead (λ l. IsLead l × (3 ≤ len)) }
