@@ -2,7 +2,7 @@
 ghost use Rattle.std.specs.Prelude.{◌≤◌, length};
 
 use std::alloc::{AllocError, Global};
-use wtf8::{CodePoint, UnitSlice, Wtf8, Wtf8Buf};
+use wtf8::{UnitSlice, Wtf8, Wtf8Buf};
 
 /// A string, and indexes of its code units: its middle, and where its middle half begins and ends. `len` makes 64 bytes
 /// of the struct, so that a loop indexes an array of them by a shift.
@@ -69,7 +69,7 @@ fn string_of(alloc: Global, slice: UnitSlice<'_>) -> Result<Wtf8Buf<Global>, All
 #[inline(always)]
 fn push_half(string: &mut Wtf8Buf<Global>, half: Option<u16>) -> Result<(), AllocError> {
     match half {
-        Some(unit) => string.push(CodePoint::from_u32_unchecked(u32::from(unit))),
+        Some(unit) => string.push_unit(unit),
         None => Ok(()),
     }
 }

@@ -4,7 +4,7 @@ ghost use Rattle.std.specs.Prelude.{◌≡◌, ◌<◌, ◌≤◌, length};
 use refusing::{Refusal, Refusing};
 use std::alloc::{AllocError, Global};
 use unit_text::UnitText;
-use wtf8::{CodePoint, UnitSlice, Wtf8Buf};
+use wtf8::{UnitSlice, Wtf8Buf};
 
 /// The number of the last loop.
 pub const LAST: u32 = 12;
@@ -192,7 +192,7 @@ fn appended(
 pub fn pushed(alloc: Global, units: &[u16]) -> Result<Wtf8Buf<Global>, AllocError> {
     let mut string = Wtf8Buf::new(alloc);
     for unit in units {
-        string.push(CodePoint::from_u32_unchecked(u32::from(*unit)))?;
+        string.push_unit(*unit)?;
     }
     Ok(string)
 }

@@ -3,7 +3,7 @@ use crate::shared::{FULL, filled, full, push_letters, succeeds};
 use refusing::{Lent, REFUSALS, Refusal, Refusing};
 use std::alloc::{AllocError, Allocator, Global};
 use wtf8::{Build, CodePoint, Wtf8, Wtf8Buf};
-use wtf8_tests::examples::{TEXT, joined, point_of_unit};
+use wtf8_tests::examples::{TEXT, joined};
 use wtf8_tests::way::Way;
 use wtf8_tests::wrong::{Wrong, expect_bytes};
 
@@ -19,10 +19,14 @@ fn one_request<'a>(
 ) -> [(Build<'a>, &'static str, usize); 13] {
     let [a, e, hiragana, pile] = ['a', 'é', 'あ', '💩'].map(CodePoint::from_char);
     [
-        (Build::Push(point_of_unit(0x0061)), "61 ED A0 BD 61", 8),
+        (
+            Build::Push(CodePoint::from_unit(0x0061)),
+            "61 ED A0 BD 61",
+            8,
+        ),
         (Build::Push(joining[0]), "61 F0 9F 92 A9", 8),
         (
-            Build::Push(point_of_unit(0xD83D)),
+            Build::Push(CodePoint::from_unit(0xD83D)),
             "61 ED A0 BD ED A0 BD",
             8,
         ),
@@ -69,7 +73,7 @@ fn two_requests(points: &[CodePoint; 3]) -> Row<'_> {
 
 /// Fails unless a trail surrogate is refused, and the string of "a" and D83D is unchanged, also after an empty text.
 fn expect_trail_refused<A: Allocator>(alloc: Global, text: &mut Wtf8Buf<A>) -> Result<(), Wrong> {
-    if text.push(point_of_unit(0xDCA9)).is_ok() {
+    if text.push(CodePoint::from_unit(0xDCA9)).is_ok() {
         return Err(Wrong::Outcome);
     }
     expect_bytes(alloc, text.as_wtf8(), FULL)?;
@@ -173,14 +177,14 @@ fn expect_rows(
     trails: Wtf8<'_>,
     refusal: Option<Refusal>,
 ) -> Result<(), Wrong> {
-    let joining = [point_of_unit(0xDCA9), point_of_unit(0x62)];
+    let joining = [CodePoint::from_unit(0xDCA9), CodePoint::from_unit(0x62)];
     for (call, granted, asked) in one_request(trails, &joining) {
         expect_row(alloc, heap, (call, granted, asked, &[FULL]), refusal)?;
     }
     for call in no_request() {
         expect_row(alloc, heap, (call, FULL, 0, &[]), refusal)?;
     }
-    let points = [point_of_unit(0x0800); 3];
+    let points = [CodePoint::from_unit(0x0800); 3];
     expect_row(alloc, heap, two_requests(&points), refusal)
 }
 

@@ -3,7 +3,7 @@ use refusing::{Lent, REFUSALS, Refusing};
 use std::alloc::{AllocError, Allocator, Global};
 use std::cell::Cell;
 use wtf8::{CodePoint, Wtf8, Wtf8Buf};
-use wtf8_tests::examples::{expect_units, joined, point_of_unit};
+use wtf8_tests::examples::{expect_units, joined};
 use wtf8_tests::wrong::{Wrong, expect_bytes};
 
 /// Yields a code point `left` times, with size hints that the test chooses, of which the lower one may be wrong. Counts
@@ -46,7 +46,7 @@ impl<'a> Iterator for Hinted<'a> {
 
 /// U+DCA9, `left` times, with the lower size hint `hint` and the upper one `upper`.
 fn items(left: u32, hint: usize, upper: Option<usize>, taken: &Cell<u32>) -> Hinted<'_> {
-    let point = point_of_unit(0xDCA9);
+    let point = CodePoint::from_unit(0xDCA9);
     Hinted {
         point,
         left,

@@ -14,6 +14,8 @@ mod making;
 #[cfg(test)]
 mod no_requests;
 #[cfg(test)]
+mod pushed_units;
+#[cfg(test)]
 mod samples;
 #[cfg(test)]
 mod shared;

@@ -3,7 +3,7 @@ use crate::shared::{FULL, call_named, full};
 use refusing::{Lent, REFUSALS, Refusal, Refusing};
 use std::alloc::{AllocError, Allocator, Global};
 use wtf8::{Build, CodePoint, Wtf8, Wtf8Buf};
-use wtf8_tests::examples::{expect_made, joined, point_of_unit};
+use wtf8_tests::examples::{expect_made, joined};
 use wtf8_tests::wrong::{Wrong, expect_bytes};
 
 /// The string that the calls build, each made by the method of its name.
@@ -138,7 +138,7 @@ fn expect_applied(
 /// A list with each kind of call. `joining` begins with a trail surrogate; `points` is the extension.
 fn every_call<'a>(joining: Wtf8<'a>, points: &'a [CodePoint]) -> [Build<'a>; 13] {
     [
-        Build::Push(point_of_unit(0xD83D)),
+        Build::Push(CodePoint::from_unit(0xD83D)),
         Build::PushWtf8(joining),
         Build::Truncate(3),
         Build::PushStr("é "),
@@ -149,14 +149,14 @@ fn every_call<'a>(joining: Wtf8<'a>, points: &'a [CodePoint]) -> [Build<'a>; 13]
         Build::Truncate(5),
         Build::TruncateUnits(3),
         Build::TruncateUnits(1),
-        Build::Push(point_of_unit(0xDCA9)),
-        Build::Push(point_of_unit(0x61)),
+        Build::Push(CodePoint::from_unit(0xDCA9)),
+        Build::Push(CodePoint::from_unit(0x61)),
     ]
 }
 
 /// Fails unless the list of `every_call` stops at each request that is refused, and is applied if all are granted.
 fn expect_every_call(alloc: Global, heap: Lent<'_>, joining: Wtf8<'_>) -> Result<(), Wrong> {
-    let points = [point_of_unit(0x0800); 3];
+    let points = [CodePoint::from_unit(0x0800); 3];
     let calls = every_call(joining, &points);
     expect_stops(alloc, heap, &calls)?;
     expect_applied(alloc, heap, &calls, "F0 9F 92 A9 61")?;
@@ -175,8 +175,8 @@ fn a_list_of_every_call_stops_at_each_request(rt: HostRuntime) -> Result<(), Wro
 fn stops_at_push(heap: Lent<'_>, text: &mut Wtf8Buf<Lent<'_>>, refusal: Refusal) -> bool {
     let calls = [
         Build::Reserve(0),
-        Build::Push(point_of_unit(0xDCA9)),
-        Build::Push(point_of_unit(0x61)),
+        Build::Push(CodePoint::from_unit(0xDCA9)),
+        Build::Push(CodePoint::from_unit(0x61)),
     ];
     heap.refuse_after(0, refusal);
     stops_at(text, &calls, 1) && heap.requests() == 1
@@ -228,7 +228,7 @@ fn expect_part<A: Allocator>(text: &mut Wtf8Buf<A>, points: &[CodePoint]) -> Res
 /// Fails unless an extension of a string of small capacity stops, with the code points appended that fit.
 fn expect_extension_stopped(alloc: Global, heap: Lent<'_>) -> Result<(), Wrong> {
     let mut text = Wtf8Buf::with_capacity(heap, 4)?;
-    let points: Vec<CodePoint> = vec![in alloc; point_of_unit(0x0800); text.capacity()]?;
+    let points: Vec<CodePoint> = vec![in alloc; CodePoint::from_unit(0x0800); text.capacity()]?;
     expect_part(&mut text, &points)
 }
 

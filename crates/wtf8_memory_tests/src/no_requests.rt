@@ -5,7 +5,7 @@ use refusing::{Lent, Refusing};
 use std::alloc::{AllocError, Allocator, Global};
 use std::borrow::CowStr;
 use wtf8::{Build, CodePoint, Wtf8, Wtf8Buf};
-use wtf8_tests::examples::{TEXT, TEXT_DUMP, expect_made, expect_true, point_of_unit, pushed};
+use wtf8_tests::examples::{TEXT, TEXT_DUMP, expect_made, expect_true, pushed};
 use wtf8_tests::wrong::{Wrong, expect_bytes};
 
 const LEAD: u16 = 0xD83D;
@@ -99,8 +99,8 @@ fn nothing_and_borrowed_texts_make_no_request(rt: HostRuntime) -> Result<(), Wro
 
 /// Appends the two surrogates of a pair.
 fn push_pair<A: Allocator>(text: &mut Wtf8Buf<A>) -> Result<(), AllocError> {
-    text.push(point_of_unit(LEAD))?;
-    text.push(point_of_unit(TRAIL))
+    text.push(CodePoint::from_unit(LEAD))?;
+    text.push(CodePoint::from_unit(TRAIL))
 }
 
 /// Empties a string and appends the pair as one character.
@@ -138,7 +138,7 @@ fn pushes_within_capacity_make_no_request(rt: HostRuntime) -> Result<(), Wrong> 
 fn push_text_and_lead<A: Allocator>(text: &mut Wtf8Buf<A>) -> Result<(), AllocError> {
     text.push_str(TEXT)?;
     text.push_char('a')?;
-    text.push(point_of_unit(LEAD))
+    text.push(CodePoint::from_unit(LEAD))
 }
 
 /// Appends a string and the two surrogates of a pair, and reserves two bytes.
@@ -147,7 +147,7 @@ fn push_string_and_pair<A: Allocator>(
     other: Wtf8<'_>,
 ) -> Result<(), AllocError> {
     text.push_wtf8(other)?;
-    text.extend([point_of_unit(LEAD), point_of_unit(TRAIL)])?;
+    text.extend([CodePoint::from_unit(LEAD), CodePoint::from_unit(TRAIL)])?;
     text.reserve(2)
 }
 
@@ -180,8 +180,8 @@ fn each_call_within_capacity_makes_no_request(rt: HostRuntime) -> Result<(), Wro
 /// Whether a list that appends the two surrogates of a pair, by an extension each with an empty push between them, is
 /// applied with no truncation refused.
 fn is_pair_applied<A: Allocator>(text: &mut Wtf8Buf<A>) -> bool {
-    let lead = [point_of_unit(LEAD)];
-    let trail = [point_of_unit(TRAIL)];
+    let lead = [CodePoint::from_unit(LEAD)];
+    let trail = [CodePoint::from_unit(TRAIL)];
     let calls = [
         Build::Extend(&lead),
         Build::PushStr(""),
@@ -235,7 +235,7 @@ fn expect_each_applied<A: Allocator>(
     text: &mut Wtf8Buf<A>,
     piece: Wtf8<'_>,
 ) -> Result<(), Wrong> {
-    let lead = [point_of_unit(LEAD)];
+    let lead = [CodePoint::from_unit(LEAD)];
     for row in applied_rows(&lead, piece) {
         expect_step(alloc, text, row)?;
     }
@@ -265,7 +265,7 @@ fn applied_calls_within_capacity_make_no_request(rt: HostRuntime) -> Result<(), 
 fn push_text<A: Allocator>(text: &mut Wtf8Buf<A>, has_lead: bool) -> Result<(), AllocError> {
     text.push_str(TEXT)?;
     if has_lead {
-        text.push(point_of_unit(0xD800))?;
+        text.push(CodePoint::from_unit(0xD800))?;
     }
     Ok(())
 }

@@ -2,7 +2,7 @@
 use refusing::{Lent, REFUSALS};
 use std::alloc::{AllocError, Allocator, Global};
 use wtf8::{Build, CodePoint, Wtf8, Wtf8Buf};
-use wtf8_tests::examples::{point_of_unit, points_of_units};
+use wtf8_tests::examples::points_of_units;
 use wtf8_tests::wrong::Wrong;
 
 /// A string with spare capacity, and the units and the code points that it is made of.
@@ -68,7 +68,7 @@ fn push_each<A: Allocator>(text: &mut Wtf8Buf<A>, points: &[CodePoint]) -> Resul
 
 /// Appends a lead surrogate, then the string of the sample.
 fn join<A: Allocator>(text: &mut Wtf8Buf<A>, sample: &Sample<A>) -> Result<(), AllocError> {
-    text.push(point_of_unit(0xD83D))?;
+    text.push(CodePoint::from_unit(0xD83D))?;
     text.push_wtf8(sample.text.as_wtf8())
 }
 

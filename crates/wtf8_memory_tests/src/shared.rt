@@ -1,8 +1,7 @@
 // Strings and calls that several test modules use.
 use refusing::Lent;
 use std::alloc::{AllocError, Allocator, Global};
-use wtf8::{Build, Wtf8Buf};
-use wtf8_tests::examples::point_of_unit;
+use wtf8::{Build, CodePoint, Wtf8Buf};
 use wtf8_tests::way::Way;
 use wtf8_tests::wrong::{Wrong, expect_bytes};
 
@@ -12,7 +11,7 @@ pub const FULL: &str = "61 ED A0 BD";
 /// Appends "a" and the lead surrogate D83D.
 fn fill<A: Allocator>(text: &mut Wtf8Buf<A>) -> Result<(), AllocError> {
     text.push_char('a')?;
-    text.push(point_of_unit(0xD83D))
+    text.push(CodePoint::from_unit(0xD83D))
 }
 
 /// A string of "a" and D83D with a capacity of `capacity` bytes.

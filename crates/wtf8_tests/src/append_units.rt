@@ -1,10 +1,11 @@
-// `append_units` appends all code units of a string after a vector's own, wherever a block of one kind ends.
+// `append_units` appends all code units of a string after a vector's own, and `write_units` writes them to the front of a
+// slice, wherever a block of one kind ends.
 use crate::wrong::Wrong;
 use refusing::{Lent, Refusing};
 use std::alloc::{AllocError, Global};
 use wtf8::{Wtf8, Wtf8Buf};
 
-/// The units that a vector holds before the call of `append_units`.
+/// The units that a vector holds before the call of `append_units`, and a slice after those of `write_units`.
 const BEFORE: [u16; 2] = [0xDC00, 0x0061];
 
 /// Lists of units of each kind, written over or into a list of other units.
@@ -66,6 +67,19 @@ fn whole_of(alloc: Global, units: &[u16]) -> Result<Vec<u16>, AllocError> {
     Ok(whole)
 }
 
+/// Whether `write_units` returns the number of `units`, writes them, and leaves the rest of a slice unchanged.
+fn writes_front(alloc: Global, text: Wtf8<'_>, units: &[u16]) -> Result<bool, AllocError> {
+    let mut slice = Vec::new(alloc);
+    slice.resize(units.len(), 0)?;
+    slice.extend_from_slice(&BEFORE)?;
+    if slice.len() < text.unit_len() {
+        return Ok(false);
+    }
+    let count = text.write_units(&mut slice);
+    let (front, rest) = slice.split_at(units.len());
+    Ok(count == units.len() && front == units && rest == BEFORE.as_slice())
+}
+
 /// Whether `append_units` appends the units of `text` if there is memory or capacity, and else leaves the vector
 /// unchanged.
 fn appends_each_way(alloc: Global, text: Wtf8<'_>, units: &[u16]) -> Result<bool, AllocError> {
@@ -74,13 +88,16 @@ fn appends_each_way(alloc: Global, text: Wtf8<'_>, units: &[u16]) -> Result<bool
     come_back(&heap, text, &whole)
 }
 
-/// Whether the units of the string of `units` come back by `append_units`.
+/// Whether the units of the string of `units` come back by `append_units` and `write_units`.
 fn are_units_back(alloc: Global, units: &[u16]) -> Result<bool, AllocError> {
     let text = Wtf8Buf::from_ill_formed_utf16(alloc, units)?;
-    appends_each_way(alloc, text.as_wtf8(), units)
+    Ok(
+        appends_each_way(alloc, text.as_wtf8(), units)?
+            && writes_front(alloc, text.as_wtf8(), units)?,
+    )
 }
 
-/// Fails unless the units come back by `append_units`.
+/// Fails unless the units come back by `append_units` and `write_units`.
 fn expect_units_back(alloc: Global, units: Result<Vec<u16>, AllocError>) -> Result<(), Wrong> {
     let units = units?;
     if !are_units_back(alloc, &units)? {
@@ -115,7 +132,7 @@ fn expect_overwritten_back(alloc: Global, unit: u16, length: usize) -> Result<()
 }
 
 #[test]
-fn all_units_are_appended(rt: HostRuntime) -> Result<(), Wrong> {
+fn all_units_are_appended_and_written(rt: HostRuntime) -> Result<(), Wrong> {
     let alloc = rt.alloc();
     for length in 0..=50 {
         for unit in [

@@ -1,5 +1,5 @@
 // Each call of a string on one example. Scripts compare the calls with the original crate on many strings.
-use crate::examples::{TEXT, TEXT_DUMP, expect_units, has_numbers, joining, point_of_unit};
+use crate::examples::{TEXT, TEXT_DUMP, expect_units, has_numbers, joining};
 use crate::wrong::{Wrong, expect, expect_bytes, made};
 use std::alloc::{AllocError, Global};
 use std::borrow::CowStr;
@@ -16,7 +16,7 @@ const DUMP: &str = "61 C3 A9 20 F0 9F 92 A9 ED A0 BD";
 fn append_trail_and_lead(alloc: Global, text: &mut Wtf8Buf<Global>) -> Result<(), AllocError> {
     let trail = Wtf8Buf::from_ill_formed_utf16(alloc, &[0xDCA9])?;
     text.push_wtf8(trail.as_wtf8())?;
-    text.extend([point_of_unit(0xD83D)])
+    text.extend([CodePoint::from_unit(0xD83D)])
 }
 
 /// The string of `UNITS`, by each call that appends.
@@ -24,7 +24,7 @@ fn appended(alloc: Global) -> Result<Wtf8Buf<Global>, AllocError> {
     let mut text = Wtf8Buf::from_str(alloc, "a")?;
     text.push_char('é')?;
     text.push_str(" ")?;
-    text.push(point_of_unit(0xD83D))?;
+    text.push(CodePoint::from_unit(0xD83D))?;
     append_trail_and_lead(alloc, &mut text)?;
     Ok(text)
 }
@@ -42,6 +42,35 @@ fn each_call_that_appends_keeps_the_units_before(rt: HostRuntime) -> Result<(), 
     let text = appended(alloc)?;
     expect_string(alloc, &text)?;
     expect_string(alloc, &text.clone()?)
+}
+
+/// The string of `UNITS`, by the calls that append units.
+fn pushed_as_units(alloc: Global) -> Result<Wtf8Buf<Global>, AllocError> {
+    let mut text = Wtf8Buf::from_str(alloc, "a")?;
+    text.push_ill_formed_utf16(&UNITS[1..4])?;
+    text.push_ill_formed_utf16(&UNITS[4..5])?;
+    text.push_unit(0xD83D)?;
+    Ok(text)
+}
+
+/// Whether `write_units` writes `UNITS` to the front of a slice, and leaves its rest unchanged.
+fn writes_units(text: Wtf8<'_>) -> bool {
+    let mut slice = [0x7A; 8];
+    if slice.len() < text.unit_len() {
+        return false;
+    }
+    let count = text.write_units(&mut slice);
+    count == 6 && slice == [0x61, 0xE9, 0x20, 0xD83D, 0xDCA9, 0xD83D, 0x7A, 0x7A]
+}
+
+#[test]
+fn units_are_pushed_and_written(rt: HostRuntime) -> Result<(), Wrong> {
+    let alloc = rt.alloc();
+    let text = pushed_as_units(alloc)?;
+    expect_string(alloc, &text)?;
+    expect(writes_units(text.as_wtf8()), Wrong::Units)?;
+    // A lone surrogate was pushed, so this is no text.
+    expect(text.into_string().is_err(), Wrong::Outcome)
 }
 
 /// The string of the code points of `UNITS`, collected from the string itself.
@@ -139,7 +168,7 @@ fn expect_truncated(alloc: Global, text: &mut Wtf8Buf<Global>) -> Result<(), Wro
     }
     text.truncate_units(4);
     expect_bytes(alloc, text.as_wtf8(), "61 C3 A9 20 ED A0 BD")?;
-    text.push(point_of_unit(0xDCA9))?;
+    text.push(CodePoint::from_unit(0xDCA9))?;
     expect_bytes(alloc, text.as_wtf8(), TEXT_DUMP)
 }
 
@@ -161,7 +190,7 @@ fn a_cleared_string_is_empty_and_begins_anew(rt: HostRuntime) -> Result<(), Wron
     let mut text = appended(rt.alloc())?;
     assert!(rt; !text.is_empty() && !text.as_wtf8().is_empty());
     assert!(rt; clears(&mut text));
-    text.push(point_of_unit(0xDCA9))?;
+    text.push(CodePoint::from_unit(0xDCA9))?;
     expect_bytes(rt.alloc(), text.as_wtf8(), "ED B2 A9")
 }
 
@@ -243,8 +272,8 @@ fn usize_max_is_no_boundary(rt: HostRuntime) -> Result<(), Wrong> {
 
 /// Whether a list of an extension by a lead and one by its trail and "a" is applied.
 fn extends_twice(text: &mut Wtf8Buf<Global>) -> bool {
-    let front = [point_of_unit(0xD83D)];
-    let back = [point_of_unit(0xDCA9), point_of_unit(0x61)];
+    let front = [CodePoint::from_unit(0xD83D)];
+    let back = [CodePoint::from_unit(0xDCA9), CodePoint::from_unit(0x61)];
     text.apply_all(&[Build::Extend(&front), Build::Extend(&back)]) == Ok(0)
 }
 

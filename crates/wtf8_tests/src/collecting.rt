@@ -1,6 +1,6 @@
 // Strings built from what the standard library makes of code points: arrays and options. Scripts compare
 // strings built from slices with the original crate.
-use crate::examples::{expect_made, joined, point_of_unit};
+use crate::examples::{expect_made, joined};
 use crate::wrong::Wrong;
 use std::alloc::{AllocError, Allocator, Global};
 use wtf8::{CodePoint, Wtf8Buf};
@@ -20,7 +20,7 @@ fn of_arrays(
 fn arrays_are_taken(rt: HostRuntime) -> Result<(), Wrong> {
     let alloc = rt.alloc();
     let [a, b] = ['a', 'b'].map(CodePoint::from_char);
-    let pair = [point_of_unit(0xD83D), point_of_unit(0xDCA9)];
+    let pair = [CodePoint::from_unit(0xD83D), CodePoint::from_unit(0xDCA9)];
     let text = of_arrays(alloc, [a, pair[0]], [pair[1], b]);
     expect_made(alloc, text, "61 F0 9F 92 A9 62")
 }
@@ -37,7 +37,7 @@ fn extend_by_options<A: Allocator>(
 /// The string of D83D, extended by DCA9.
 fn of_options(alloc: Global) -> Result<Wtf8Buf<Global>, AllocError> {
     let mut text = joined(alloc, &[0xD83D])?;
-    extend_by_options(&mut text, point_of_unit(0xDCA9))?;
+    extend_by_options(&mut text, CodePoint::from_unit(0xDCA9))?;
     Ok(text)
 }
 

@@ -24,7 +24,7 @@ fn expect_pushed(alloc: Global, string: &mut Wtf8Buf<Global>) -> Result<(), Wron
 /// Fails unless "é" and a trail are pushed to a lead as two code points.
 fn expect_two_points(alloc: Global) -> Result<(), Wrong> {
     let mut both = string_of(alloc, &[LEAD])?;
-    let trail = CodePoint::from_u32_unchecked(u32::from(TRAIL));
+    let trail = CodePoint::from_unit(TRAIL);
     made(refusals::push_two_points(&mut both, CodePoint::from_char('é'), trail))?;
     expect_bytes(alloc, both.as_wtf8(), "ED A0 BD C3 A9 ED B2 A9")
 }

@@ -3,11 +3,6 @@ use crate::wrong::Wrong;
 use std::alloc::{AllocError, Allocator, Global};
 use wtf8::{CodePoint, Wtf8Buf};
 
-/// The code point with the value of `unit`.
-pub fn point_of_unit(unit: u16) -> CodePoint {
-    CodePoint::from_u32_unchecked(u32::from(unit))
-}
-
 /// The code point with the value `number`, if there is one.
 pub fn point_of_number(number: u32) -> Result<CodePoint, Wrong> {
     match CodePoint::from_u32(number) {
@@ -20,7 +15,7 @@ pub fn point_of_number(number: u32) -> Result<CodePoint, Wrong> {
 pub fn points_of_units(alloc: Global, units: &[u16]) -> Result<Vec<CodePoint>, AllocError> {
     let mut points = Vec::new(alloc);
     for unit in units {
-        points.push(point_of_unit(*unit))?;
+        points.push(CodePoint::from_unit(*unit))?;
     }
     Ok(points)
 }
@@ -29,7 +24,7 @@ pub fn points_of_units(alloc: Global, units: &[u16]) -> Result<Vec<CodePoint>, A
 pub fn joined<A: Allocator>(alloc: A, units: &[u16]) -> Result<Wtf8Buf<A>, AllocError> {
     let mut text = Wtf8Buf::new(alloc);
     for unit in units {
-        text.push(point_of_unit(*unit))?;
+        text.push(CodePoint::from_unit(*unit))?;
     }
     Ok(text)
 }
