@@ -2,7 +2,7 @@
 use crate::shared::{FULL, full};
 use refusing::{Lent, REFUSALS, Refusal, Refusing};
 use std::alloc::{AllocError, Allocator, Global};
-use wtf8::Wtf8Buf;
+use wtf8::{Wtf8, Wtf8Buf};
 use wtf8_tests::examples::{expect_units, joining};
 use wtf8_tests::unit_lists::{lists, long_list};
 use wtf8_tests::wrong::{Wrong, expect, expect_bytes};
@@ -73,14 +73,36 @@ fn expect_pushed(
     expect_units(alloc, text.as_wtf8(), if fits { units } else { front })
 }
 
+/// Like `expect_pushed`, for a push of the slice of `whole` after unit `cut`.
+fn expect_slice_pushed(
+    alloc: Global,
+    heap: Lent<'_>,
+    (units, whole): (&[u16], Wtf8<'_>),
+    cut: usize,
+    spare: usize,
+) -> Result<(), Wrong> {
+    let front = &units[..cut.min(units.len())];
+    let mut text = with_spare(heap, front, spare)?;
+    let fits = byte_len(units).wrapping_sub(byte_len(front)) <= spare;
+    let end = whole.unit_len();
+    let is_pushed = text
+        .push_unit_slice(whole.slice_units(cut.min(end), end))
+        .is_ok();
+    expect(is_pushed == fits, Wrong::Outcome)?;
+    expect((heap.requests() == 0) == fits, Wrong::Requests)?;
+    expect_units(alloc, text.as_wtf8(), if fits { units } else { front })
+}
+
 /// Fails unless pushes from each index on, at each spare capacity up to one byte more than they need, do what
-/// `expect_pushed` requires.
+/// `expect_pushed` and `expect_slice_pushed` require.
 fn expect_each_push(alloc: Global, heap: Lent<'_>, units: &[u16]) -> Result<(), Wrong> {
     let len = byte_len(units);
+    let whole = Wtf8Buf::from_ill_formed_utf16(alloc, units)?;
     for cut in 0..=units.len() {
         let growth = len.wrapping_sub(byte_len(&units[..cut]));
         for spare in 0..=growth.saturating_add(1) {
             expect_pushed(alloc, heap, units, cut, spare)?;
+            expect_slice_pushed(alloc, heap, (units, whole.as_wtf8()), cut, spare)?;
         }
     }
     Ok(())

@@ -53,6 +53,16 @@ fn pushed_as_units(alloc: Global) -> Result<Wtf8Buf<Global>, AllocError> {
     Ok(text)
 }
 
+/// The string of `UNITS`, by slices of it that are cut inside its pair.
+fn pushed_as_slices(alloc: Global) -> Result<Wtf8Buf<Global>, AllocError> {
+    let whole = Wtf8Buf::from_ill_formed_utf16(alloc, &UNITS)?;
+    let mut text = Wtf8Buf::new(alloc);
+    let end = whole.as_wtf8().unit_len();
+    text.push_unit_slice(whole.as_wtf8().slice_units(0, 4.min(end)))?;
+    text.push_unit_slice(whole.as_wtf8().slice_units(4.min(end), end))?;
+    Ok(text)
+}
+
 /// Whether `write_units` writes `UNITS` to the front of a slice, and leaves its rest unchanged.
 fn writes_units(text: Wtf8<'_>) -> bool {
     let mut slice = [0x7A; 8];
@@ -68,6 +78,7 @@ fn units_are_pushed_and_written(rt: HostRuntime) -> Result<(), Wrong> {
     let alloc = rt.alloc();
     let text = pushed_as_units(alloc)?;
     expect_string(alloc, &text)?;
+    expect_string(alloc, &pushed_as_slices(alloc)?)?;
     expect(writes_units(text.as_wtf8()), Wrong::Units)?;
     // A lone surrogate was pushed, so this is no text.
     expect(text.into_string().is_err(), Wrong::Outcome)
