@@ -139,8 +139,8 @@ impl<A: Allocator> UnitText<A> {
     }
 
     /// The byte position in the view of the code point boundary before the code unit at index `i`, or of the end if `i`
-    /// is the length, which it must not exceed. If `i` splits a surrogate pair, that is the position of the pair. Counts
-    /// at most 129 units if marks are kept, else those before `i`.
+    /// is the length, which it must not exceed. If `i` splits a surrogate pair, that is the position of the pair.
+    /// Counts at most 129 units if marks are kept, else those before `i`.
     pub fn position_at(&self, i: usize) -> usize
         requires { i ≤ length self.now }
         ensures whole { ¬ (DividesPair self.now i) → IsFront self.now result (take i self.now) }

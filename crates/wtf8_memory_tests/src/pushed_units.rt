@@ -1,4 +1,5 @@
-// Units pushed to a string: at each spare capacity, with every request for memory refused, and with each refused in turn.
+// Units pushed to a string: at each spare capacity, with every request for memory refused, and with each refused in
+// turn.
 use crate::shared::{FULL, full};
 use refusing::{Lent, REFUSALS, Refusal, Refusing};
 use std::alloc::{AllocError, Allocator, Global};
@@ -191,7 +192,8 @@ fn expect_granted(alloc: Global, heap: Lent<'_>, row: Row, is_single: bool) -> R
     expect_bytes(alloc, text.as_wtf8(), dump)
 }
 
-/// Grants `granted` requests and refuses the next one. Fails unless the push fails there and leaves the string as it was.
+/// Grants `granted` requests and refuses the next one. Fails unless the push fails there and leaves the string as it
+/// was.
 fn expect_refused(
     alloc: Global,
     heap: Lent<'_>,

@@ -1,5 +1,5 @@
-// `append_units` appends all code units of a string after a vector's own, and `write_units` writes them to the front of a
-// slice, wherever a block of one kind ends.
+// `append_units` appends all code units of a string after a vector's own, and `write_units` writes them to the front of
+// a slice, wherever a block of one kind ends.
 use crate::wrong::Wrong;
 use refusing::{Lent, Refusing};
 use std::alloc::{AllocError, Global};

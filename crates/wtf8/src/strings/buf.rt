@@ -335,9 +335,9 @@ impl<A: Allocator> Wtf8Buf<A> {
         concat::push_wtf8(&mut self.bytes, &mut self.utf8_prefix, other)
     }
 
-    /// Appends 16-bit code units, paired or not. A trail surrogate at their front completes a lead surrogate at the end. If
-    /// memory is refused, the string is unchanged. Reserves a byte for each unit first; grows like `push` from there on.
-    /// Amortized linear in the number of units.
+    /// Appends 16-bit code units, paired or not. A trail surrogate at their front completes a lead surrogate at the
+    /// end. If memory is refused, the string is unchanged. Reserves a byte for each unit first; grows like `push` from
+    /// there on. Amortized linear in the number of units.
     pub fn push_ill_formed_utf16(&mut self, v: &[u16]) -> Result<(), AllocError>
         ensures ok { OnOk result (AppendsUnits self.old v.now self.new) }
         ensures kept { OnErr result (KeepsContents self.old self.new) }
@@ -347,8 +347,8 @@ impl<A: Allocator> Wtf8Buf<A> {
         ensures empty { v.now ≡ [] → IsOk result }
         ensures capacity { self.old.capacity ≤ self.new.capacity }
 
-        // In bytes: the length grows by at most three for each unit, spare capacity for that is enough, and no units change
-        // nothing.
+        // In bytes: the length grows by at most three for each unit, spare capacity for that is enough, and no units
+        // change nothing.
         ensures at_most { OnOk result (length self.new.bytes ≤ length self.old.bytes + 3 * length v.now) }
         ensures room_left { length self.old.bytes + 3 * length v.now ≤ self.old.capacity → IsOk result }
         ensures nothing { v.now ≡ [] → KeepsContents self.old self.new }
@@ -356,8 +356,8 @@ impl<A: Allocator> Wtf8Buf<A> {
         concat::push_utf16(&mut self.bytes, &mut self.utf8_prefix, v)
     }
 
-    /// Appends a 16-bit code unit. A trail surrogate after a lead surrogate completes the pair. If memory is refused, the
-    /// string is unchanged. Amortized constant.
+    /// Appends a 16-bit code unit. A trail surrogate after a lead surrogate completes the pair. If memory is refused,
+    /// the string is unchanged. Amortized constant.
     #[inline(always)]
     #[tactic(auto, using(crate::proofs::lemmas::codec::Readings::units_one))]
     pub fn push_unit(&mut self, unit: u16) -> Result<(), AllocError>
@@ -371,9 +371,9 @@ impl<A: Allocator> Wtf8Buf<A> {
         self.push(CodePoint::from_unit(unit))
     }
 
-    /// Appends a part that was cut at code units: its whole code points between the halves of pairs that the cuts split. A
-    /// string that is cut at any unit, even inside a pair, is whole again after the second part is appended to the first. If
-    /// memory is refused, the string is unchanged. Amortized linear in the length of the part.
+    /// Appends a part that was cut at code units: its whole code points between the halves of pairs that the cuts
+    /// split. A string that is cut at any unit, even inside a pair, is whole again after the second part is appended to
+    /// the first. If memory is refused, the string is unchanged. Amortized linear in the length of the part.
     pub fn push_unit_slice(&mut self, slice: UnitSlice<'_>) -> Result<(), AllocError>
         ensures ok { OnOk result (AppendsUnits self.old (units_of_slice slice.entry) self.new) }
         ensures kept { OnErr result (KeepsContents self.old self.new) }

@@ -103,8 +103,9 @@ pub(crate) fn push<A: Allocator>(
     // The spare capacity is computed before the match, so that a loop can keep the length in a register: computed in
     // each arm, with as many instructions, pushes of CJK take 3.8 ns for 2.5.
     let spare = spare_capacity(bytes);
-    // Each arm has its own call, in which the compiler knows the encoded length: one call for all takes 20.7 instructions
-    // a unit for 14.7 of ASCII and 35.7 for 30.7 of CJK, though 17.8 for 20.8 of supplementary code points.
+    // Each arm has its own call, in which the compiler knows the encoded length: one call for all takes 20.7
+    // instructions a unit for 14.7 of ASCII and 35.7 for 30.7 of CJK, though 17.8 for 20.8 of supplementary code
+    // points.
     match code_point.to_u32() {
         0..=0x7F => push_unpaired(bytes, spare, code_point),
         0x80..=0x7FF => push_unpaired(bytes, spare, code_point),
@@ -161,7 +162,8 @@ fn append_completing_pair<A: Allocator>(
     Ok(())
 }
 
-/// Appends a view to a string that may hold surrogates: a lead at the end and a trail at its front become one code point.
+/// Appends a view to a string that may hold surrogates: a lead at the end and a trail at its front become one code
+/// point.
 #[inline(always)]
 fn append_joining<A: Allocator>(bytes: &mut Vec<u8, A>, other: Wtf8<'_>) -> Result<(), AllocError>
     requires { IsWellFormed bytes.old.items }
@@ -234,9 +236,9 @@ fn lead_before<A: Allocator>(bytes: &Vec<u8, A>, v: &[u16]) -> Option<u32>
     }
 }
 
-/// Appends code units to well-formed bytes. `lead` is the lead surrogate at their end that the first unit completes, and
-/// `is_utf8` whether they are known to hold no surrogate. Returns whether the new bytes hold none. If memory is refused,
-/// some units may have been appended.
+/// Appends code units to well-formed bytes. `lead` is the lead surrogate at their end that the first unit completes,
+/// and `is_utf8` whether they are known to hold no surrogate. Returns whether the new bytes hold none. If memory is
+/// refused, some units may have been appended.
 fn append_utf16<A: Allocator>(
     bytes: &mut Vec<u8, A>,
     is_utf8: bool,
@@ -272,8 +274,8 @@ fn append_utf16<A: Allocator>(
     }
 }
 
-/// Takes back what was appended to the first `len` bytes, which `lead` ended if it is one. Not inlined, since few pushes are
-/// refused.
+/// Takes back what was appended to the first `len` bytes, which `lead` ended if it is one. Not inlined, since few
+/// pushes are refused.
 #[inline(never)]
 pub(crate) fn take_back<A: Allocator>(bytes: &mut Vec<u8, A>, len: usize, lead: Option<u32>)
     requires within { len ≤ length bytes.old.items }

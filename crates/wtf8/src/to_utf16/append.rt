@@ -101,8 +101,8 @@ fn decode_point<'a>(units: &mut [u16], left: Undecoded<'a>) -> Undecoded<'a>
     }
 }
 
-/// Writes the first `count` units of `block`, and skips the `width` bytes that encode them. The units of the block after
-/// these are written too, where later units come, or never read.
+/// Writes the first `count` units of `block`, and skips the `width` bytes that encode them. The units of the block
+/// after these are written too, where later units come, or never read.
 #[inline(always)]
 fn write_front<'a, const N: usize>(
     units: &mut [u16],
@@ -240,8 +240,8 @@ fn decode_all(units: &mut [u16], from: usize, view: Wtf8<'_>) -> usize
     left.at
 }
 
-/// Appends the units of a string of fewer than `SCRATCH_UNITS` bytes, by way of a buffer on the stack: cheaper for these
-/// than to count the units first. Not inlined, since a caller would pay for the buffer at each entry.
+/// Appends the units of a string of fewer than `SCRATCH_UNITS` bytes, by way of a buffer on the stack: cheaper for
+/// these than to count the units first. Not inlined, since a caller would pay for the buffer at each entry.
 #[inline(never)]
 fn append_short<B: Allocator>(units: &mut Vec<u16, B>, view: Wtf8<'_>) -> Result<(), AllocError>
     requires { length view.bytes.now < SCRATCH_UNITS }
@@ -268,8 +268,9 @@ fn append_counted<B: Allocator>(units: &mut Vec<u16, B>, view: Wtf8<'_>) -> Resu
 }
 
 impl<'a> Wtf8<'a> {
-    /// Writes the 16-bit code units of the string to the front of `out`, which must have room for them, and returns their
-    /// number. The rest of `out` is unchanged. There are no more units than bytes. Does not allocate. Linear in the length.
+    /// Writes the 16-bit code units of the string to the front of `out`, which must have room for them, and returns
+    /// their number. The rest of `out` is unchanged. There are no more units than bytes. Does not allocate. Linear in
+    /// the length.
     pub fn write_units(&self, out: &mut [u16]) -> usize
         requires { length (view_units self.now) ≤ length out.old }
         ensures units { take result out.new ≡ view_units self.now }
