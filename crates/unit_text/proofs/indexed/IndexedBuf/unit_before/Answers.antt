@@ -1,7 +1,7 @@
 use Rattle.std.proofs.Common.{◌≡◌, sym, ap, ◌∙◌, arith, rules, length-take-le, length}
 use Rattle.wtf8.specs.Position.{IsBoundary, IsFront}
 use Rattle.wtf8.specs.View.{view_units, view_form}
-use Rattle.unit_text.proofs.text.UnitText.unit_before.Goals as goal
+use Rattle.unit_text.proofs.indexed.IndexedBuf.unit_before.Goals as goal
 
 pub returns-clause-before : goal.returns-clause-before
 returns-clause-before g c =
