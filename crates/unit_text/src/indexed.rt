@@ -390,6 +390,21 @@ impl<A: Allocator> IndexedBuf<A> {
         marks::truncate_kept(text, &mut self.marks);
     }
 
+    /// Shortens the string to `new_len` bytes, which must be a code point boundary. Does not allocate.
+    pub fn truncate(&mut self, new_len: usize)
+        requires { IsBoundary self.old.units new_len }
+        ensures units { IsFront self.old.units new_len self.new.units }
+        ensures bytes { self.new.bytes ≡ take new_len self.old.bytes }
+    {
+        self.count = self.unit_before(new_len);
+        self.text.truncate(new_len);
+        laws::law_marks();
+        laws::law_fronts();
+        laws::law_one_form();
+        let text = CountedView::new(&self.text, self.count);
+        marks::truncate_kept(text, &mut self.marks);
+    }
+
     /// Writes the code units from index `begin` to before index `end` to the front of `out`, which must have room for
     /// them, and leaves its rest unchanged. Does not allocate.
     pub fn copy_units(&self, begin: usize, end: usize, out: &mut [u16])
