@@ -31,6 +31,6 @@ impl<A: Allocator> fmt::Debug for IndexedBuf<A> {
         ensures writes { DisplaysOnOk W.write_str_gives f.old result (Some (debug self.now.form.points)) f.new }
         ensures styled { WritesStyledOnOk W.write_str_gives f.old result (debug self.now.form.points) f.new }
     {
-        self.as_wtf8().fmt(f)
+        self.text.fmt(f)
     }
 }
