@@ -401,8 +401,8 @@ impl<A: Allocator> IndexedBuf<A> {
         laws::law_marks();
         laws::law_fronts();
         laws::law_one_form();
-        let text = CountedView::new(&self.text, self.count);
-        marks::truncate_kept(text, &mut self.marks);
+        let front = CountedView::new(&self.text, self.count);
+        marks::truncate_kept(front, &mut self.marks);
     }
 
     /// Writes the code units from index `begin` to before index `end` to the front of `out`, which must have room for
