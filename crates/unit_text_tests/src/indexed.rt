@@ -507,6 +507,27 @@ fn expect_cut<A: Allocator>(
     expect_long(alloc, buf, units, kind)
 }
 
+/// Cuts a buffer at the byte position of index `n`, or of its pair. Fails unless it has the units before alone, and all
+/// again once the others are pushed.
+fn expect_cut_at_position<A: Allocator>(
+    alloc: Global,
+    buf: &mut IndexedBuf<A>,
+    (units, kind): (&[u16], Kind),
+    n: usize,
+) -> Result<(), Wrong> {
+    let position = position_of(kind, n);
+    let kept = units_before(kind, position).min(units.len());
+    let (front, back) = units.split_at(kept);
+    if !buf.as_wtf8().is_code_point_boundary(position) {
+        return Err(Wrong::Outcome);
+    }
+    buf.truncate(position);
+    expect(buf_has_units(buf, front), Wrong::Units)?;
+    expect(has_units_from(buf, front, kept / 2), Wrong::Units)?;
+    made(buf.push_units(back))?;
+    expect_long(alloc, buf, units, kind)
+}
+
 /// Empties a buffer. Fails unless it is empty, with the same capacity, and has the units again once they are pushed.
 fn expect_cleared<A: Allocator>(
     alloc: Global,
@@ -533,6 +554,7 @@ fn expect_shortened(alloc: Global, kind: Kind, is_marked: bool) -> Result<(), Wr
     }
     for n in indexes() {
         expect_cut(alloc, &mut buf, (&units, kind), n)?;
+        expect_cut_at_position(alloc, &mut buf, (&units, kind), n)?;
     }
     expect_cleared(alloc, &mut buf, &units, kind)
 }
