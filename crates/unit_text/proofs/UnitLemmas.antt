@@ -1,6 +1,6 @@
 -- Numbers of units, and units that are written one part after another.
 use Rattle.std.proofs.Common.{◌≡◌, ◌+◌, ◌-◌, ◌<◌, ◌≤◌, ◌++◌, ℕ, List, [], ◌∷◌, Option, Some, None, length, take, drop, ap, sym, ◌∙◌, arith}
-use Rattle.std.proofs.Common.{MatchOption, append_assoc, append-nil, length-append, length-take, length-drop}
+use Rattle.std.proofs.Common.{MatchOption, append_assoc, append-nil, length-append, length-take}
 use Rattle.std.proofs.Math.Seq.{take-append-add, drop-append-add}
 use Rattle.std.proofs.lemmas.List.{drop-drop, drop_all, take-append-drop}
 use Rattle.std.proofs.lemmas.Slice.{take-put_mid, drop-put_mid}
