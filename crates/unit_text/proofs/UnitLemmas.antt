@@ -25,13 +25,14 @@ WritesAt-append {old} {mid} {new} at v w x y =
     }
 
 -- a list whose part from index `at` on was replaced by one that begins with `v` and goes on as before
-pub WritesAt-part : (old ys v : List ℕ) (at k : ℕ) → k ≡ length old - at → at + length v ≤ length old → length ys ≡ k → take (length v) ys ≡ v
-    → drop (length v) ys ≡ drop (length v) (drop at old) → WritesAt old at v (put_mid at k old ys)
+pub WritesAt-part : (old ys v : List ℕ) (at k : ℕ) → k ≡ length old - at → at + length v ≤ length old → length ys ≡ k
+    → take (length v) ys ≡ v → drop (length v) ys ≡ drop (length v) (drop at old) → WritesAt old at v (put_mid at k old ys)
 WritesAt-part old ys v at k rest within long front back =
     let new = put_mid at k old ys in
     let n = length old in
     let all : new ≡ take at old ++ ys =
-    sym (take-append-drop n new) ∙ ap (λ z. z ++ drop n new) (take-put_mid at k old ys n (omega (arith, rest, within, long)) (omega (arith, within)))
+    sym (take-append-drop n new) ∙ ap (λ z. z ++ drop n new) (take-put_mid at k old ys n (omega (arith, rest, within, long))
+    (omega (arith, within)))
     ∙ ap (λ z. (take at old ++ ys) ++ z) (drop-put_mid at k old ys n (omega (arith, rest, within)) (omega (arith, within)) long
     ∙ drop_all n old (omega arith)) ∙ append-nil (take at old ++ ys) in
     let begin : at ≡ length (take at old) = omega (arith, length-take at old, within) in

@@ -9,7 +9,8 @@ returns-clause-units c =
     let ys = c.write_units.new.out in
     let v = view_units c.args.view in
     let written = c.write_units.ensures in
-    WritesAt-part old ys v c.args.at (length old - c.args.at) refl (omega (arith, c.requires)) (omega (arith, written.len, length-drop c.args.at old))
+    WritesAt-part old ys v c.args.at (length old - c.args.at) refl (omega (arith, c.requires))
+    (omega (arith, written.len, length-drop c.args.at old))
     (ap (λ n. take n ys) (sym written.count) ∙ written.units)
     (ap (λ n. drop n ys) (sym written.count) ∙ written.rest
     ∙ ap (drop c.write_units.result) (take_all (length old - c.args.at) (drop c.args.at old) (omega (arith, length-drop c.args.at old)))

@@ -8,7 +8,8 @@ use Rattle.unit_text.proofs.indexed.IndexedBuf.truncate_units.Goals as goal
 pub truncate_kept-requires : goal.truncate_kept-requires
 truncate_kept-requires g c =
     let view = c.new-text.result.view in
-    let within : c.args.n ≤ length c.self.inside.text.units = omega (arith, c.requires, ap (λ (s : UnitString). length s.units) c.self.view_is) in
+    let within : c.args.n ≤ length c.self.inside.text.units =
+    omega (arith, c.requires, ap (λ (s : UnitString). length s.units) c.self.view_is) in
     subst (λ n. IfSome c.self.inside.marks
     (λ m. AreMarks view.bytes.now (view_units view) (take ((n - 1) / spacing) m.kept.items) m.is_incomplete)) (sym c.new-text.ensures.count)
     (AreMarks-truncated c.law_marks.ensures.equal c.law_marks.ensures.cut c.law_one_form.ensures.equal c.self.inside.marks
