@@ -4,17 +4,14 @@ use Rattle.std.proofs.Common.{length-append, ◌≢◌, ◌*◌, ◌/◌, Bool, 
 use Rattle.std.proofs.lemmas.List.{get_or_append_left, get_or_push}
 use Rattle.wtf8.specs.UnitMark.{IsMark, RoundsDownTo, MarksStay}
 use Rattle.wtf8.specs.UnitString.{UnitString}
-use Rattle.wtf8.specs.View.{view_units, view_form}
-use Rattle.wtf8.specs.declared.strings.view.Wtf8.{Wtf8}
 use Rattle.wtf8.specs.declared.strings.unit_marks.UnitMark.{UnitMark}
 use Rattle.unit_text.specs.Marks.{AreEnough, AreKept, AreMarks, IsKept, spacing}
 
 -- kept marks are still kept after units are appended
-module _ (stay : MarksStay) (old : UnitString) (new : Wtf8) (v : List ℕ) (e : view_units new ≡ old.units ++ v) where
-  IsKept-append : (n : ℕ) (mark : UnitMark) → IsKept old.bytes old.units n mark → IsKept new.bytes.now (view_units new) n mark
+module _ (stay : MarksStay) (old new : UnitString) (v : List ℕ) (e : new.units ≡ old.units ++ v) where
+  IsKept-append : (n : ℕ) (mark : UnitMark) → IsKept old.bytes old.units n mark → IsKept new.bytes new.units n mark
   IsKept-append n mark k = record {
-    is_mark = rw e (stay old.bytes new.bytes.now old.units v mark.position mark.units old.form (rw e at (view_form new)) k.before_last
-        k.is_mark);
+    is_mark = rw e (stay old.bytes new.bytes old.units v mark.position mark.units old.form (rw e at new.form) k.before_last k.is_mark);
     at_most = k.at_most;
     at_least = k.at_least;
     before_last = omega (arith, ap length e, length-append old.units v);
@@ -22,7 +19,7 @@ module _ (stay : MarksStay) (old : UnitString) (new : Wtf8) (v : List ℕ) (e : 
 
   pub AreKept-append : {X : Type 0} (kept : Option X) (items : X → List UnitMark) (is_incomplete : X → Bool)
       → IfSome kept (λ k. AreMarks old.bytes old.units (items k) (is_incomplete k))
-      → IfSome kept (λ k. AreKept new.bytes.now (view_units new) (items k))
+      → IfSome kept (λ k. AreKept new.bytes new.units (items k))
   AreKept-append None items is_incomplete h = h
   AreKept-append (Some k) items is_incomplete h = λ i d l. IsKept-append _ _ (h.kept i d l)
 

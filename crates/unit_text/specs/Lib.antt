@@ -1,3 +1,4 @@
 pub mod Marks
 pub mod Positions
 pub mod Reading
+pub mod Written

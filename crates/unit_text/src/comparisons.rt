@@ -1,13 +1,17 @@
-// Equality and hashes of texts.
+// Equality and hashes of texts and buffers, and the order of buffers.
 ghost use Rattle.std.proofs.Common.{rules};
-ghost use Rattle.std.specs.Cmp.Lexicographic.{pointwise};
+ghost use Rattle.std.specs.Cmp.Lexicographic.{pointwise, slice_cmp};
 ghost use Rattle.std.specs.Cmp.Rules.{comparing, hashing};
+ghost use Rattle.std.specs.Cmp.{partial_order_from_own_ties};
 ghost use Rattle.std.specs.Hash as fed;
+ghost use Rattle.std.specs.Ordering.{as_partial_cmp, nat_cmp, on};
 ghost use Rattle.std.specs.Prelude.{◌≡◌, ◌↔◌, ◌∷◌, nat_eq, IsTrue};
 ghost use Rattle.wtf8.specs.Form.{bytes};
 
+use crate::indexed::IndexedBuf;
 use crate::text::UnitText;
 use std::alloc::Allocator;
+use std::cmp::Ordering;
 use std::hash::{Hash, Hasher};
 
 /// Two texts are equal if and only if their units are equal.
@@ -18,7 +22,7 @@ impl<A: Allocator> PartialEq for UnitText<A> {
         ensures units { IsTrue result ↔ (self.now ≡ other.now) }
         ensures value { result ≡ pointwise nat_eq self.now other.now }
     {
-        self.text == other.text
+        self.buf.as_wtf8() == other.buf.as_wtf8()
     }
 
     ghost laws = { Prim.search (comparing, rules) };
@@ -36,6 +40,62 @@ impl<A: Allocator> Hash for UnitText<A> {
 
     fn hash<H: Hasher>(&self, state: &mut H) {
         self.as_wtf8().hash(state);
+    }
+
+    ghost respects_eq = { Prim.search (hashing, rules) };
+}
+
+/// Buffers are equal if their bytes are equal, which is so if and only if their code units are.
+impl<A: Allocator> PartialEq for IndexedBuf<A> {
+    ghost eq = { on (λ string. string.bytes) (pointwise nat_eq) };
+
+    fn eq(&self, other: &IndexedBuf<A>) -> bool
+        ensures bytes { result ≡ pointwise nat_eq self.now.bytes other.now.bytes }
+        ensures units { IsTrue result ↔ (self.now.units ≡ other.now.units) }
+    {
+        self.text == other.text
+    }
+
+    ghost laws = { Prim.search (comparing, rules) };
+}
+
+impl<A: Allocator> Eq for IndexedBuf<A> {
+    ghost laws = { Prim.search (comparing, rules) };
+}
+
+impl<A: Allocator> PartialOrd for IndexedBuf<A> {
+    ghost partial_cmp = { as_partial_cmp (on (λ string. string.bytes) (slice_cmp nat_cmp)) };
+
+    fn partial_cmp(&self, other: &IndexedBuf<A>) -> Option<Ordering> {
+        Some(self.cmp(other))
+    }
+
+    ghost laws = { partial_order_from_own_ties (Prim.search (comparing, rules)) (Prim.search (comparing, rules)) };
+}
+
+/// Compares byte by byte, which is the order of code points.
+impl<A: Allocator> Ord for IndexedBuf<A> {
+    ghost cmp = { on (λ string. string.bytes) (slice_cmp nat_cmp) };
+
+    fn cmp(&self, other: &IndexedBuf<A>) -> Ordering
+        ensures bytes { result ≡ slice_cmp nat_cmp self.now.bytes other.now.bytes }
+    {
+        self.text.cmp(&other.text)
+    }
+
+    ghost total = { Prim.search (comparing, rules) };
+
+    ghost matches_partial_cmp = { Prim.search (comparing, rules) };
+
+    ghost matches_eq = { Prim.search (comparing, rules) };
+}
+
+/// Hashes what the view hashes.
+impl<A: Allocator> Hash for IndexedBuf<A> {
+    ghost hash_input = { λ string. string.bytes ∷ fed.u8 254 };
+
+    fn hash<H: Hasher>(&self, state: &mut H) {
+        self.text.hash(state);
     }
 
     ghost respects_eq = { Prim.search (hashing, rules) };

@@ -1,8 +1,9 @@
-// The debug text of texts.
+// The debug texts of texts and buffers.
 ghost use Rattle.std.specs.Prelude.{◌≡◌, Some};
 ghost use Rattle.std.specs.Fmt.{DisplaysOnOk, WritesStyledOnOk};
 ghost use Rattle.wtf8.specs.Debug.{debug};
 
+use crate::indexed::IndexedBuf;
 use crate::text::UnitText;
 use std::alloc::Allocator;
 use std::fmt;
@@ -19,5 +20,17 @@ impl<A: Allocator> fmt::Debug for UnitText<A> {
         ensures styled { WritesStyledOnOk W.write_str_gives f.old result (debug (reading self.now)) f.new }
     {
         self.as_wtf8().fmt(f)
+    }
+}
+
+/// Writes the debug text of the view.
+impl<A: Allocator> fmt::Debug for IndexedBuf<A> {
+    ghost debug_output = { λ string. Some (debug string.form.points) };
+
+    fn fmt<W: fmt::Write>(&self, f: &mut fmt::Formatter<W>) -> fmt::Result
+        ensures writes { DisplaysOnOk W.write_str_gives f.old result (Some (debug self.now.form.points)) f.new }
+        ensures styled { WritesStyledOnOk W.write_str_gives f.old result (debug self.now.form.points) f.new }
+    {
+        self.text.fmt(f)
     }
 }

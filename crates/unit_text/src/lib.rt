@@ -3,8 +3,10 @@
 
 mod comparisons;
 mod debug_text;
+mod indexed;
 mod marks;
 mod slices;
 mod text;
 
+pub use indexed::IndexedBuf;
 pub use text::UnitText;

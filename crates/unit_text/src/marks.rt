@@ -129,6 +129,24 @@ pub(crate) fn add_to_kept<A: Allocator>(text: CountedView<'_>, marks: &mut Optio
     }
 }
 
+/// Counts `more` units that were appended, and appends their marks, if marks are kept.
+#[inline(always)]
+pub(crate) fn count_more<A: Allocator>(
+    text: &Wtf8Buf<A>,
+    count: &mut usize,
+    marks: &mut Option<Marks<A>>,
+    more: usize,
+)
+    requires count { count.old + more ≡ length text.now.units }
+    requires marks { IfSome marks.old (λ m. AreKept text.now.bytes text.now.units m.kept.items) }
+    ensures count { count.new ≡ length text.now.units }
+    ensures marks { IfSome marks.new (λ m. AreMarks text.now.bytes text.now.units m.kept.items m.is_incomplete) }
+{
+    prove!(text.len() <= usize::MAX);
+    *count += more;
+    add_to_kept(CountedView::new(text, *count), marks);
+}
+
 /// Leaves out the marks, if marks are kept, that are not before the last unit of a text that became shorter.
 #[inline(always)]
 pub(crate) fn truncate_kept<A: Allocator>(text: CountedView<'_>, marks: &mut Option<Marks<A>>)

@@ -1,5 +1,7 @@
 // Slices of units, copied and compared.
-ghost use Rattle.std.specs.Prelude.{◌≡◌, ◌↔◌, ◌≤◌, length, take, [], IfOk, IsOk, IsTrue};
+ghost use Rattle.std.specs.Option.{option_to_list};
+ghost use Rattle.std.specs.Prelude.{◌≡◌, ◌↔◌, ◌+◌, ◌≤◌, length, take, [], IfOk, IsOk, IsTrue};
+ghost use Rattle.unit_text.specs.Written.{WritesAt};
 ghost use Rattle.wtf8.specs.UnitMark.{IsMark};
 ghost use Rattle.wtf8.specs.UnitPosition.{units_of_slice};
 ghost use Rattle.wtf8.specs.View.{view_units};
@@ -56,4 +58,40 @@ fn has_units_one_by_one(slice: UnitSlice<'_>, other: Wtf8<'_>) -> bool
     let rest = slice.whole.to_ill_formed_utf16().chain(slice.lead);
     let units = slice.trail.into_iter().chain(rest);
     units.cmp(other.to_ill_formed_utf16()).is_eq()
+}
+
+/// Writes the units of a slice to the front of `out`, which must have room for them.
+pub(crate) fn write_slice(slice: UnitSlice<'_>, out: &mut [u16])
+    requires { length (units_of_slice slice) ≤ length out.old }
+    ensures { WritesAt out.old 0 (units_of_slice slice.entry) out.new }
+{
+    let after_trail = write_half(out, 0, slice.trail);
+    let after_whole = write_view(out, after_trail, slice.whole);
+    write_half(out, after_whole, slice.lead);
+}
+
+/// Writes the units of a view from index `at` on, and returns the index after them.
+#[inline(always)]
+fn write_view(out: &mut [u16], at: usize, view: Wtf8<'_>) -> usize
+    requires { at + length (view_units view) ≤ length out.old }
+    ensures units { WritesAt out.old at (view_units view.entry) out.new }
+    ensures end { result ≡ at + length (view_units view.entry) }
+{
+    at + view.write_units(&mut out[at..])
+}
+
+/// Writes half of a surrogate pair at index `at`, if there is one, and returns the index after it.
+#[inline(always)]
+fn write_half(out: &mut [u16], at: usize, half: Option<u16>) -> usize
+    requires { at + length (option_to_list half) ≤ length out.old }
+    ensures units { WritesAt out.old at (option_to_list half) out.new }
+    ensures end { result ≡ at + length (option_to_list half) }
+{
+    match half {
+        Some(unit) => {
+            out[at] = unit;
+            at + 1
+        }
+        None => at,
+    }
 }

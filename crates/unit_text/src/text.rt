@@ -1,5 +1,5 @@
 // Texts that are indexed by code units.
-ghost use Rattle.std.specs.Prelude.{◌≡◌, ◌↔◌, ◌≤◌, ◌-◌, ℕ, List, [], ◌∷◌, ◌++◌, length, take, drop, slice_get, None, IsNone, IsTrue, IfOk, IsOk, OnOk, OnErr};
+ghost use Rattle.std.specs.Prelude.{◌≡◌, ◌↔◌, ◌-◌, ◌^◌, ◌<◌, ◌≤◌, ℕ, List, [], ◌∷◌, ◌++◌, length, take, drop, slice_get, None, IsNone, IsTrue, IfOk, IsOk, OnOk, OnErr};
 ghost use Rattle.std.specs.Cmp.Lexicographic.{slice_cmp};
 ghost use Rattle.std.specs.Str.{chars};
 ghost use Rattle.std.specs.Ordering.{MatchOrdering, is_ge, is_gt, is_le, is_lt, nat_cmp};
@@ -7,16 +7,17 @@ ghost use Rattle.wtf8.specs.Order.{Before};
 ghost use Rattle.wtf8.specs.Position.{IsFront};
 ghost use Rattle.wtf8.specs.Unicode.{units};
 ghost use Rattle.wtf8.specs.UnitPosition.{DividesPair};
+ghost use Rattle.wtf8.specs.Units.{unread_units};
 ghost use Rattle.wtf8.specs.View.{view_points, view_units};
 ghost use Rattle.unit_text.specs.Positions.{AreUnitsBefore};
 ghost use Rattle.unit_text.specs.Reading.{reading};
 
-use crate::marks::{self, CountedView, MarkedView, Marks};
+use crate::indexed::IndexedBuf;
 use crate::slices;
 use std::alloc::{AllocError, Allocator};
 use std::cmp::Ordering;
 use std::marker::Model;
-use wtf8::{Wtf8, Wtf8Buf, laws};
+use wtf8::{IllFormedUtf16CodeUnits, Wtf8, Wtf8Buf, laws};
 
 /// A text that is counted, cut and compared by its 16-bit units, as ECMAScript counts a string. It may hold any units,
 /// and is stored as WTF-8 with its number of units. `mark_units` adds marks, from which a unit is found without
@@ -25,9 +26,7 @@ use wtf8::{Wtf8, Wtf8Buf, laws};
 /// Contracts see it as the list of its units.
 #[derive(Drop)]
 pub struct UnitText<A: Allocator> {
-    pub(crate) text: Wtf8Buf<A>,
-    count: usize,
-    marks: Option<Marks<A>>,
+    pub(crate) buf: IndexedBuf<A>,
 }
 
 impl<A: Allocator> Model for UnitText<A> {
@@ -35,26 +34,36 @@ impl<A: Allocator> Model for UnitText<A> {
 
     ghost Value = { List ℕ };
 
-    ghost view = { λ t. t.text.units };
-
-    ghost use Rattle.std.specs.Prelude.{◌≡◌, length, IfSome};
-    ghost use Rattle.unit_text.specs.Marks.{AreMarks};
-
-    ghost invariant = { λ t. (t.count ≡ length t.text.units) × IfSome t.marks (λ m. AreMarks t.text.bytes t.text.units m.kept.items m.is_incomplete) };
+    ghost view = { λ t. t.buf.units };
 }
 
 impl<A: Allocator> UnitText<A> {
+    /// Makes an empty text. Does not allocate.
+    pub fn new(alloc: A) -> UnitText<A>
+        ensures { result ≡ [] }
+    {
+        UnitText {
+            buf: IndexedBuf::new(alloc),
+        }
+    }
+
+    /// Copies the text, with a clone of its allocator, and without its marks.
+    pub fn clone(&self) -> Result<UnitText<A>, AllocError>
+    where
+        A: Clone,
+        ensures { IfOk result (λ t. t ≡ self.now) }
+    {
+        let buf = self.buf.clone()?;
+        Ok(UnitText { buf })
+    }
+
     /// Makes the text of these code units, paired or not. Does not allocate if there are none.
     pub fn from_units(alloc: A, units: &[u16]) -> Result<UnitText<A>, AllocError>
         ensures ok { IfOk result (λ t. t ≡ units.now) }
         ensures empty { units.now ≡ [] → IsOk result }
     {
-        let text = Wtf8Buf::from_ill_formed_utf16(alloc, units)?;
-        Ok(UnitText {
-            text,
-            count: units.len(),
-            marks: None,
-        })
+        let buf = IndexedBuf::from_units(alloc, units)?;
+        Ok(UnitText { buf })
     }
 
     /// Copies a `&str`. An empty one does not allocate.
@@ -70,20 +79,16 @@ impl<A: Allocator> UnitText<A> {
     pub fn from_wtf8(text: Wtf8Buf<A>) -> UnitText<A>
         ensures { result ≡ text.units }
     {
-        let count = text.as_wtf8().unit_len();
-        UnitText {
-            text,
-            count,
-            marks: None,
-        }
+        let buf = IndexedBuf::from_buf(text);
+        UnitText { buf }
     }
 
     /// Returns the string with the text's code units, without copying it. Does not allocate.
     pub fn into_wtf8(self) -> Wtf8Buf<A>
         ensures { result.units ≡ self }
     {
-        let UnitText { text, .. } = self;
-        text
+        let UnitText { buf } = self;
+        buf.into_buf()
     }
 
     /// Keeps marks of the text, allocated by `alloc`, so that `unit_at` and `slice_units` need not count from the
@@ -93,15 +98,14 @@ impl<A: Allocator> UnitText<A> {
     pub fn mark_units(&mut self, alloc: A)
         ensures { self.new ≡ self.old }
     {
-        let text = CountedView::new(&self.text, self.count);
-        self.marks = Some(Marks::of(alloc, text));
+        self.buf.mark_units(alloc)
     }
 
     /// The length in code units.
     pub fn unit_len(&self) -> usize
         ensures { result ≡ length self.now }
     {
-        self.count
+        self.buf.unit_len()
     }
 
     /// The code unit at index `i`, or `None` at or past the end.
@@ -109,33 +113,7 @@ impl<A: Allocator> UnitText<A> {
         ensures unit { result ≡ slice_get self.now i }
         ensures none { IsNone result ↔ (length self.now ≤ i) }
     {
-        if self.count <= i {
-            return None;
-        }
-        let view = self.text.as_wtf8();
-        if view.len() == self.count {
-            return Some(view.ascii_unit_at(i));
-        }
-        if self.count <= marks::SPACING {
-            return view.unit_at(i);
-        }
-        self.unit_of_long(i)
-    }
-
-    /// The code unit at index `i` of a long text that is not ASCII. Not inlined, so that the short ways stay cheap.
-    #[inline(never)]
-    fn unit_of_long(&self, i: usize) -> Option<u16>
-        requires { i ≤ length self.now }
-        ensures { result ≡ slice_get self.now i }
-    {
-        // A kept mark is for an index of at least `SPACING`.
-        if i < marks::SPACING {
-            return self.text.as_wtf8().unit_at(i);
-        }
-        let marked = self.marked();
-        let mark = marked.kept_mark_at_or_before(i);
-        let rest = marked.text.view.slice_from_mark(mark);
-        rest.unit_at(i - mark.units)
+        self.buf.unit_at(i)
     }
 
     /// The byte position in the view of the code point boundary before the code unit at index `i`, or of the end if `i`
@@ -146,10 +124,7 @@ impl<A: Allocator> UnitText<A> {
         ensures whole { ¬ (DividesPair self.now i) → IsFront self.now result (take i self.now) }
         ensures divided { DividesPair self.now i → IsFront self.now result (take (i - 1) self.now) }
     {
-        let marked = self.marked();
-        let mark = marked.mark_at(i);
-        laws::law_mark(marked.text.view, mark);
-        mark.position
+        self.buf.position_at(i)
     }
 
     /// The number of code units before the last code point boundary of the view at or before the byte `position`; the
@@ -158,11 +133,7 @@ impl<A: Allocator> UnitText<A> {
         ensures before { AreUnitsBefore self.now position result }
         ensures exact { (v : List ℕ) → IsFront self.now position v → result ≡ length v }
     {
-        let marked = self.marked();
-        let mark = marked.mark_before(position.min(marked.text.view.len()));
-        laws::law_mark(marked.text.view, mark);
-        laws::law_positions();
-        mark.units
+        self.buf.unit_before(position)
     }
 
     /// Shortens the text to `n` code units, which must be at most its length. If that splits a surrogate pair, its lead
@@ -172,14 +143,7 @@ impl<A: Allocator> UnitText<A> {
         requires { n ≤ length self.old }
         ensures { self.new ≡ take n self.old }
     {
-        let view = CountedView::new(&self.text, self.count);
-        let mark = MarkedView::new(view, self.marks.as_ref()).mark_at(n);
-        slices::truncate_at(&mut self.text, mark, n);
-        self.count = n;
-        laws::law_marks();
-        laws::law_one_form();
-        let text = CountedView::new(&self.text, self.count);
-        marks::truncate_kept(text, &mut self.marks);
+        self.buf.truncate_units(n)
     }
 
     /// Copies the code units `begin..end` to a new text, allocated by `alloc`. `begin` must be at most `end`, and `end`
@@ -191,14 +155,9 @@ impl<A: Allocator> UnitText<A> {
         ensures ok { IfOk result (λ t. t ≡ drop begin (take end self.now)) }
         ensures empty { begin ≡ end → IsOk result }
     {
-        let count = end - begin;
-        let slice = self.marked().units_from(begin, count);
-        let text = slices::buf_of_slice(alloc, slice)?;
-        Ok(UnitText {
-            text,
-            count,
-            marks: None,
-        })
+        let text = slices::buf_of_slice(alloc, self.buf.slice_units(begin, end))?;
+        let buf = IndexedBuf::counted(text, end - begin);
+        Ok(UnitText { buf })
     }
 
     /// Appends a code unit. A trail surrogate after a lead completes the pair: the view then has its one code point,
@@ -208,13 +167,25 @@ impl<A: Allocator> UnitText<A> {
         ensures ok { OnOk result (self.new ≡ self.old ++ unit ∷ []) }
         ensures err { OnErr result (self.new ≡ self.old) }
     {
-        self.text.push_unit(unit)?;
-        laws::law_marks();
-        prove!(self.text.len() <= usize::MAX);
-        self.count += 1;
-        let text = CountedView::new(&self.text, self.count);
-        marks::add_to_kept(text, &mut self.marks);
-        Ok(())
+        self.buf.push_unit(unit)
+    }
+
+    /// Appends code units. If memory is refused, the text is unchanged; no units are never refused.
+    pub fn push_units(&mut self, units: &[u16]) -> Result<(), AllocError>
+        ensures ok { OnOk result (self.new ≡ self.old ++ units.now) }
+        ensures err { OnErr result (self.new ≡ self.old) }
+        ensures empty { units.now ≡ [] → IsOk result }
+    {
+        self.buf.push_units(units)
+    }
+
+    /// The code units from index `begin` on, which must be at most the length.
+    pub fn units_from(&self, begin: usize) -> IllFormedUtf16CodeUnits<'_>
+        requires { begin ≤ length self.now }
+        ensures units { unread_units result ≡ drop begin self.now }
+        ensures fits { length (unread_units result) < 2 ^ 64 }
+    {
+        self.buf.units_from(begin)
     }
 
     /// Appends the code units of `other`. If memory is refused, the text is unchanged; an empty `other` is never
@@ -224,7 +195,7 @@ impl<A: Allocator> UnitText<A> {
         ensures err { OnErr result (self.new ≡ self.old) }
         ensures empty { other.now ≡ [] → IsOk result }
     {
-        self.append_view(other.as_wtf8(), other.count)
+        self.buf.push_counted(other.as_wtf8(), other.unit_len())
     }
 
     /// Appends the characters of a `&str`. If memory is refused, the text is unchanged; an empty `other` is never
@@ -234,7 +205,7 @@ impl<A: Allocator> UnitText<A> {
         ensures err { OnErr result (self.new ≡ self.old) }
         ensures empty { other.now ≡ [] → IsOk result }
     {
-        self.push_wtf8(Wtf8::from_str(other))
+        self.buf.push_str(other)
     }
 
     /// Appends the code units of a string, and counts them. A trail surrogate at its front completes a lead at the end
@@ -244,23 +215,7 @@ impl<A: Allocator> UnitText<A> {
         ensures err { OnErr result (self.new ≡ self.old) }
         ensures empty { view_units other.entry ≡ [] → IsOk result }
     {
-        self.append_view(other, other.unit_len())
-    }
-
-    /// Appends a string of `count` code units.
-    fn append_view(&mut self, other: Wtf8<'_>, count: usize) -> Result<(), AllocError>
-        requires { count ≡ length (view_units other) }
-        ensures ok { OnOk result (self.new ≡ self.old ++ view_units other.entry) }
-        ensures err { OnErr result (self.new ≡ self.old) }
-        ensures empty { view_units other.entry ≡ [] → IsOk result }
-    {
-        self.text.push_wtf8(other)?;
-        laws::law_marks();
-        prove!(self.text.len() <= usize::MAX);
-        self.count += count;
-        let text = CountedView::new(&self.text, self.count);
-        marks::add_to_kept(text, &mut self.marks);
-        Ok(())
+        self.buf.push_wtf8(other)
     }
 
     /// Whether the code units from index `position` on begin with those of `other`. An empty `other` is found
@@ -268,11 +223,12 @@ impl<A: Allocator> UnitText<A> {
     pub fn starts_with_at<B: Allocator>(&self, position: usize, other: &UnitText<B>) -> bool
         ensures { IsTrue result ↔ (take (length other.now) (drop position self.now) ≡ other.now) }
     {
-        let begin = position.min(self.count);
-        if self.count - begin < other.count {
+        let len = self.unit_len();
+        let begin = position.min(len);
+        if len - begin < other.unit_len() {
             return false;
         }
-        let part = self.marked().units_from(begin, other.count);
+        let part = self.buf.part(begin, other.unit_len());
         slices::has_units(part, other.as_wtf8())
     }
 
@@ -298,16 +254,6 @@ impl<A: Allocator> UnitText<A> {
     {
         laws::law_one_reading();
         laws::law_concat();
-        self.text.as_wtf8()
-    }
-
-    /// The view of the text with its marks.
-    #[inline(always)]
-    fn marked(&self) -> MarkedView<'_, A>
-        ensures units { view_units result.text.view ≡ self.now }
-        ensures count { result.text.count ≡ length self.now }
-    {
-        let text = CountedView::new(&self.text, self.count);
-        MarkedView::new(text, self.marks.as_ref())
+        self.buf.as_wtf8()
     }
 }

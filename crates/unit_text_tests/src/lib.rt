@@ -6,6 +6,10 @@ mod calls;
 #[cfg(test)]
 mod conversions;
 #[cfg(test)]
+mod indexed;
+#[cfg(test)]
+mod indexed_memory;
+#[cfg(test)]
 mod lengths;
 #[cfg(test)]
 mod mark_requests;

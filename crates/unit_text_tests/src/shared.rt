@@ -1,6 +1,7 @@
-// Texts and checks that several test modules use.
-use std::alloc::{Allocator, Global};
-use unit_text::UnitText;
+// Texts, buffers and checks that several test modules use.
+use std::alloc::{AllocError, Allocator, Global};
+use unit_text::{IndexedBuf, UnitText};
+use wtf8::{CodePoint, Wtf8Buf};
 use wtf8_tests::wrong::{Wrong, expect, expect_bytes, made};
 
 /// The slice from unit `begin` to before unit `end`. Fails if this is no range of the text's units.
@@ -40,4 +41,58 @@ pub fn expect_text<A: Allocator>(
 ) -> Result<(), Wrong> {
     expect_units(text, units)?;
     expect_bytes(alloc, text.as_wtf8(), dump)
+}
+
+/// Whether the buffer has `units` by index, and no more.
+pub fn buf_has_units<A: Allocator>(buf: &IndexedBuf<A>, units: &[u16]) -> bool {
+    for i in 0..units.len().saturating_add(1) {
+        if buf.unit_at(i) != units.get(i).copied() {
+            return false;
+        }
+    }
+    buf.unit_len() == units.len() && buf.unit_at(usize::MAX).is_none()
+}
+
+/// Fails unless the buffer has `units` by index, and no more, and the bytes of `dump`.
+pub fn expect_buf<A: Allocator>(
+    alloc: Global,
+    buf: &IndexedBuf<A>,
+    units: &[u16],
+    dump: &str,
+) -> Result<(), Wrong> {
+    expect(buf_has_units(buf, units), Wrong::Units)?;
+    expect_bytes(alloc, buf.as_wtf8(), dump)
+}
+
+/// A call of a buffer that appends, with what it appends.
+#[derive(Clone, Copy)]
+pub enum Push {
+    Point(u32),
+    Unit(u16),
+    Char(char),
+    Str(&'static str),
+    Units(&'static [u16]),
+    View(&'static [u16]),
+}
+
+/// Makes the call. A view is of a string that `alloc` allocates. Fails if a `Point` is no code point.
+pub fn push_to<A: Allocator>(
+    alloc: Global,
+    buf: &mut IndexedBuf<A>,
+    push: Push,
+) -> Result<(), AllocError> {
+    match push {
+        Push::Point(number) => match CodePoint::from_u32(number) {
+            Some(code_point) => buf.push(code_point),
+            None => Err(AllocError),
+        },
+        Push::Unit(unit) => buf.push_unit(unit),
+        Push::Char(c) => buf.push_char(c),
+        Push::Str(value) => buf.push_str(value),
+        Push::Units(units) => buf.push_units(units),
+        Push::View(units) => {
+            let other = Wtf8Buf::from_ill_formed_utf16(alloc, units)?;
+            buf.push_wtf8(other.as_wtf8())
+        }
+    }
 }

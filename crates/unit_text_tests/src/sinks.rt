@@ -1,9 +1,9 @@
-// `Debug` output of texts through a sink that refuses a write.
+// `Debug` output of texts through a sink that refuses a write, and of a buffer.
 use std::alloc::{AllocError, Global};
 use std::fmt::Write;
-use unit_text::UnitText;
+use unit_text::{IndexedBuf, UnitText};
 use wtf8_tests::sinks::Sink;
-use wtf8_tests::wrong::Wrong;
+use wtf8_tests::wrong::{Wrong, expect, made};
 
 /// Writes the debug output, with a sign and a width if `is_styled`, to a sink that refuses write number `refused`.
 /// Fails unless it ends there, or is `expected` if no write is refused. Returns the number of writes.
@@ -66,4 +66,14 @@ fn a_debug_text_ends_at_a_refused_write(rt: HostRuntime) -> Result<(), Wrong> {
     )?;
     let (units, expected) = long_text(rt.alloc())?;
     expect_ends(rt.alloc(), &units, &expected)
+}
+
+#[test]
+fn a_buffer_has_the_debug_text_of_its_view(rt: HostRuntime) -> Result<(), Wrong> {
+    let units = [0x0061, 0xD83D, 0xDCA9, 0xD800];
+    let buf = made(IndexedBuf::from_units(rt.alloc(), &units))?;
+    let mut sink = Sink::new(rt.alloc(), u32::MAX);
+    let is_ok = write!(sink, "{buf:?}").is_ok();
+    let expected = "\"a\u{1F4A9}\\u{D800}\"";
+    expect(is_ok && sink.has_taken(expected), Wrong::Outcome)
 }

@@ -1,0 +1,50 @@
+-- Numbers of units, and units that are written one part after another.
+use Rattle.std.proofs.Common.{◌≡◌, ◌+◌, ◌-◌, ◌<◌, ◌≤◌, ◌++◌, ℕ, List, [], ◌∷◌, Option, Some, None, length, take, drop, ap, sym, ◌∙◌, arith}
+use Rattle.std.proofs.Common.{MatchOption, append_assoc, append-nil, length-append, length-take}
+use Rattle.std.proofs.Math.Seq.{take-append-add, drop-append-add}
+use Rattle.std.proofs.lemmas.List.{drop-drop, drop_all, take-append-drop}
+use Rattle.std.proofs.lemmas.Slice.{take-put_mid, drop-put_mid}
+use borrow.Rule.Slice.PartMut.{put_mid}
+use Rattle.wtf8.specs.Unicode.{units_of}
+use Rattle.wtf8.proofs.lemmas.codec.Readings.{units_one, units_two}
+use Rattle.unit_text.specs.Written.{WritesAt}
+
+pub units_of_lengths : (p : ℕ) → (p < 0x10000 → length (units_of p) ≡ 1) × (0x10000 ≤ p → length (units_of p) ≡ 2)
+units_of_lengths p = (λ h. ap length (units_one p h), λ h. ap length (units_two p h))
+
+-- two parts, one after the other
+pub WritesAt-append : {old mid new : List ℕ} (at : ℕ) (v w : List ℕ) → WritesAt old at v mid → WritesAt mid (at + length v) w new
+    → WritesAt old at (v ++ w) new
+WritesAt-append {old} {mid} {new} at v w x y =
+    let count : at + length (v ++ w) ≡ (at + length v) + length w = omega (arith, length-append v w) in
+    record {
+      front = ap (λ n. take n new) count ∙ y.front ∙ ap (λ z. z ++ w) x.front ∙ append_assoc (take at old) v w;
+      back = ap (λ n. drop n new) count ∙ y.back ∙ sym (drop-drop (length w) (at + length v) mid) ∙ ap (drop (length w)) x.back
+          ∙ drop-drop (length w) (at + length v) old ∙ sym (ap (λ n. drop n old) count);
+      len = y.len ∙ x.len;
+    }
+
+-- a list whose part from index `at` on was replaced by one that begins with `v` and goes on as before
+pub WritesAt-part : (old ys v : List ℕ) (at k : ℕ) → k ≡ length old - at → at + length v ≤ length old → length ys ≡ k
+    → take (length v) ys ≡ v → drop (length v) ys ≡ drop (length v) (drop at old) → WritesAt old at v (put_mid at k old ys)
+WritesAt-part old ys v at k rest within long front back =
+    let new = put_mid at k old ys in
+    let n = length old in
+    let all : new ≡ take at old ++ ys =
+    sym (take-append-drop n new) ∙ ap (λ z. z ++ drop n new) (take-put_mid at k old ys n (omega (arith, rest, within, long))
+    (omega (arith, within)))
+    ∙ ap (λ z. (take at old ++ ys) ++ z) (drop-put_mid at k old ys n (omega (arith, rest, within)) (omega (arith, within)) long
+    ∙ drop_all n old (omega arith)) ∙ append-nil (take at old ++ ys) in
+    let begin : at ≡ length (take at old) = omega (arith, length-take at old, within) in
+    record {
+      front = ap (take (at + length v)) all ∙ ap (λ n. take (n + length v) (take at old ++ ys)) begin
+          ∙ take-append-add (take at old) ys (length v) ∙ ap (λ z. take at old ++ z) front;
+      back = ap (drop (at + length v)) all ∙ ap (λ n. drop (n + length v) (take at old ++ ys)) begin
+          ∙ drop-append-add (take at old) ys (length v) ∙ back ∙ drop-drop (length v) at old;
+      len = omega (arith, ap length all, length-append (take at old) ys, begin, long, rest, within);
+    }
+
+-- the units left after the first of them was yielded
+pub after_first : (r : Option ℕ) (s t : List ℕ) → 0 < length s → MatchOption r ((s ≡ []) × (t ≡ [])) (λ x. s ≡ x ∷ t) → t ≡ drop 1 s
+after_first None s t n e = absurd (omega (arith, n, ap length e.0))
+after_first (Some x) s t n e = sym (ap (drop 1) e)

@@ -1,0 +1,452 @@
+// Buffers whose code units are found by their index.
+ghost use Rattle.std.specs.Prelude.{◌≡◌, ◌↔◌, ◌+◌, ◌*◌, ◌-◌, ◌^◌, ◌<◌, ◌≤◌, ℕ, List, [], ◌∷◌, ◌++◌, length, take, drop, slice_get, IsNone, IsTrue, IfOk, IsOk, OnOk, OnErr, vec_capacity};
+ghost use Rattle.std.specs.Str.{chars};
+ghost use Rattle.wtf8.specs.Appending.{AppendsUnits, KeepsContents, HasRoomFor, AddsLength};
+ghost use Rattle.wtf8.specs.CodePoint.{number};
+ghost use Rattle.wtf8.specs.Form.{encoding};
+ghost use Rattle.wtf8.specs.Position.{IsBoundary, IsFront};
+ghost use Rattle.wtf8.specs.Unicode.{units, units_of};
+ghost use Rattle.wtf8.specs.UnitPosition.{units_of_slice, DividesPair};
+ghost use Rattle.wtf8.specs.UnitString.{UnitString, unit_string_code};
+ghost use Rattle.wtf8.specs.Units.{unread_units};
+ghost use Rattle.wtf8.specs.View.{view_points, view_units};
+ghost use Rattle.unit_text.specs.Positions.{AreUnitsBefore};
+
+use crate::marks::{self, CountedView, MarkedView, Marks};
+use crate::slices;
+use std::alloc::{AllocError, Allocator};
+use std::marker::Model;
+use wtf8::{CodePoint, IllFormedUtf16CodeUnits, UnitSlice, Wtf8, Wtf8Buf, laws};
+
+/// A `Wtf8Buf` that knows the number of its code units, and finds any of them. `mark_units` adds marks, from which a unit
+/// is found without counting from the front; an ASCII string needs none.
+///
+/// Contracts see what they see of a `Wtf8Buf`.
+#[derive(Drop)]
+pub struct IndexedBuf<A: Allocator> {
+    pub(crate) text: Wtf8Buf<A>,
+    count: usize,
+    marks: Option<Marks<A>>,
+}
+
+impl<A: Allocator> Model for IndexedBuf<A> {
+    ghost use Rattle.wtf8.specs.UnitString.{UnitString, unit_string_code};
+
+    ghost Value = { UnitString };
+
+    ghost coded = { unit_string_code };
+
+    ghost view = { λ t. t.text };
+
+    ghost use Rattle.std.specs.Prelude.{◌≡◌, length, IfSome};
+    ghost use Rattle.unit_text.specs.Marks.{AreMarks};
+
+    ghost invariant = { λ t. (t.count ≡ length t.text.units) × IfSome t.marks (λ m. AreMarks t.text.bytes t.text.units m.kept.items m.is_incomplete) };
+}
+
+impl<A: Allocator> IndexedBuf<A> {
+    /// Makes an empty string. Does not allocate.
+    pub fn new(alloc: A) -> IndexedBuf<A>
+        ensures units { result.units ≡ [] }
+        ensures bytes { result.bytes ≡ [] }
+    {
+        IndexedBuf::counted(Wtf8Buf::new(alloc), 0)
+    }
+
+    /// Makes an empty string with room for at least `n` bytes. Does not allocate if `n` is 0.
+    pub fn with_capacity(alloc: A, n: usize) -> Result<IndexedBuf<A>, AllocError>
+        ensures units { IfOk result (λ b. b.units ≡ []) }
+        ensures bytes { IfOk result (λ b. b.bytes ≡ []) }
+        ensures capacity { IfOk result (λ b. n ≤ b.capacity) }
+        ensures zero { n ≡ 0 → IsOk result }
+    {
+        let text = Wtf8Buf::with_capacity(alloc, n)?;
+        Ok(IndexedBuf::counted(text, 0))
+    }
+
+    /// Makes the string with these code units, paired or not. Does not allocate if there are none.
+    pub fn from_units(alloc: A, units: &[u16]) -> Result<IndexedBuf<A>, AllocError>
+        ensures ok { IfOk result (λ b. b.units ≡ units.now) }
+        ensures empty { units.now ≡ [] → IsOk result }
+    {
+        let text = Wtf8Buf::from_ill_formed_utf16(alloc, units)?;
+        Ok(IndexedBuf::counted(text, units.len()))
+    }
+
+    /// Takes over a string without copying it, and counts its code units. Does not allocate. Linear in the length.
+    pub fn from_buf(text: Wtf8Buf<A>) -> IndexedBuf<A>
+        ensures { result ≡ text }
+    {
+        let count = text.as_wtf8().unit_len();
+        IndexedBuf::counted(text, count)
+    }
+
+    /// A string of `count` code units, without marks.
+    pub(crate) fn counted(text: Wtf8Buf<A>, count: usize) -> IndexedBuf<A>
+        requires { count ≡ length text.units }
+        ensures { result ≡ text }
+    {
+        IndexedBuf {
+            text,
+            count,
+            marks: None,
+        }
+    }
+
+    /// Returns the string, without copying it. Does not allocate.
+    pub fn into_buf(self) -> Wtf8Buf<A>
+        ensures { result ≡ self }
+    {
+        let IndexedBuf { text, .. } = self;
+        text
+    }
+
+    /// Copies the string, with a clone of its allocator, and without its marks. Linear in the length.
+    pub fn clone(&self) -> Result<IndexedBuf<A>, AllocError>
+    where
+        A: Clone,
+        ensures units { IfOk result (λ b. b.units ≡ self.now.units) }
+        ensures bytes { IfOk result (λ b. b.bytes ≡ self.now.bytes) }
+    {
+        let text = self.text.clone()?;
+        Ok(IndexedBuf::counted(text, self.count))
+    }
+
+    /// Keeps marks of the string, allocated by `alloc`, from which units are found; from then on each call that appends
+    /// adds marks of what it appends. If memory for a mark is refused, it and those after it are missing, and units there
+    /// are counted from the last mark that is kept, until a later append finds memory for them. A short string or an
+    /// ASCII one needs none.
+    pub fn mark_units(&mut self, alloc: A)
+        ensures { self.new ≡ self.old }
+    {
+        let text = CountedView::new(&self.text, self.count);
+        self.marks = Some(Marks::of(alloc, text));
+    }
+
+    /// The length in code units. Constant.
+    pub fn unit_len(&self) -> usize
+        ensures { result ≡ length self.now.units }
+    {
+        self.count
+    }
+
+    /// The number of bytes that the string can hold without allocating: at least the length.
+    pub fn capacity(&self) -> usize
+        ensures value { result ≡ self.now.capacity }
+        ensures at_least_length { length self.now.bytes ≤ result }
+    {
+        self.text.capacity()
+    }
+
+    /// A view of the whole string.
+    pub fn as_wtf8(&self) -> Wtf8<'_>
+        ensures bytes { result.bytes.now ≡ self.now.bytes }
+        ensures points { view_points result ≡ self.now.form.points }
+        ensures units { view_units result ≡ self.now.units }
+    {
+        self.text.as_wtf8()
+    }
+
+    /// The code unit at index `i`, or `None` at or past the end.
+    pub fn unit_at(&self, i: usize) -> Option<u16>
+        ensures unit { result ≡ slice_get self.now.units i }
+        ensures none { IsNone result ↔ (length self.now.units ≤ i) }
+    {
+        if self.count <= i {
+            return None;
+        }
+        let view = self.text.as_wtf8();
+        if view.len() == self.count {
+            return Some(view.ascii_unit_at(i));
+        }
+        if self.count <= marks::SPACING {
+            return view.unit_at(i);
+        }
+        self.unit_of_long(i)
+    }
+
+    /// The code unit at index `i` of a long string that is not ASCII. Not inlined, so that the short ways stay cheap.
+    #[inline(never)]
+    fn unit_of_long(&self, i: usize) -> Option<u16>
+        requires { i ≤ length self.now.units }
+        ensures { result ≡ slice_get self.now.units i }
+    {
+        // A kept mark is for an index of at least `SPACING`.
+        if i < marks::SPACING {
+            return self.text.as_wtf8().unit_at(i);
+        }
+        let marked = self.marked();
+        let mark = marked.kept_mark_at_or_before(i);
+        let rest = marked.text.view.slice_from_mark(mark);
+        rest.unit_at(i - mark.units)
+    }
+
+    /// The part from code unit `begin` to before code unit `end`, which must be in order and at most the number of code
+    /// units. If an end splits a surrogate pair, the half inside is returned beside the whole code points.
+    pub fn slice_units(&self, begin: usize, end: usize) -> UnitSlice<'_>
+        requires order { begin ≤ end }
+        requires within { end ≤ length self.now.units }
+        ensures { units_of_slice result ≡ drop begin (take end self.now.units) }
+    {
+        self.part(begin, end - begin)
+    }
+
+    /// The `len` code units from index `begin` on.
+    pub(crate) fn part(&self, begin: usize, len: usize) -> UnitSlice<'_>
+        requires { begin + len ≤ length self.now.units }
+        ensures { units_of_slice result ≡ take len (drop begin self.now.units) }
+    {
+        self.marked().units_from(begin, len)
+    }
+
+    /// The code units from index `begin` on, which must be at most the length.
+    pub fn units_from(&self, begin: usize) -> IllFormedUtf16CodeUnits<'_>
+        requires { begin ≤ length self.now.units }
+        ensures units { unread_units result ≡ drop begin self.now.units }
+        ensures fits { length (unread_units result) < 2 ^ 64 }
+    {
+        let marked = self.marked();
+        let mark = marked.mark_at(begin);
+        let mut units = marked.text.view.slice_from_mark(mark).to_ill_formed_utf16();
+        if mark.units < begin {
+            units.next();
+        }
+        units
+    }
+
+    /// The byte position of the code point boundary before the code unit at index `i`, or of the end if `i` is the length,
+    /// which it must not exceed. If `i` splits a surrogate pair, that is the position of the pair.
+    pub fn position_at(&self, i: usize) -> usize
+        requires { i ≤ length self.now.units }
+        ensures whole { ¬ (DividesPair self.now.units i) → IsFront self.now.units result (take i self.now.units) }
+        ensures divided { DividesPair self.now.units i → IsFront self.now.units result (take (i - 1) self.now.units) }
+    {
+        let marked = self.marked();
+        let mark = marked.mark_at(i);
+        laws::law_mark(marked.text.view, mark);
+        mark.position
+    }
+
+    /// The number of code units before the last code point boundary at or before the byte `position`; the length if
+    /// `position` is past the end.
+    pub fn unit_before(&self, position: usize) -> usize
+        ensures before { AreUnitsBefore self.now.units position result }
+        ensures exact { (v : List ℕ) → IsFront self.now.units position v → result ≡ length v }
+    {
+        let marked = self.marked();
+        let mark = marked.mark_before(position.min(marked.text.view.len()));
+        laws::law_mark(marked.text.view, mark);
+        laws::law_positions();
+        mark.units
+    }
+
+    /// Reserves capacity for at least `additional` more bytes, and does not allocate if there is enough. The units and
+    /// bytes of the string never change, even if memory is refused.
+    pub fn reserve(&mut self, additional: usize) -> Result<(), AllocError>
+        ensures ok { OnOk result (length self.new.bytes + additional ≤ self.new.capacity) }
+        ensures units { self.new.units ≡ self.old.units }
+        ensures bytes { self.new.bytes ≡ self.old.bytes }
+        ensures room { length self.old.bytes + additional ≤ self.old.capacity → IsOk result }
+        ensures capacity { self.old.capacity ≤ self.new.capacity }
+    {
+        self.text.reserve(additional)
+    }
+
+    /// Appends a code point. A trail surrogate after a lead surrogate completes the pair. If memory is refused, the string is
+    /// unchanged. No push is refused for a mark.
+    pub fn push(&mut self, code_point: CodePoint) -> Result<(), AllocError>
+        ensures ok { OnOk result (AppendsUnits self.old (units_of (number code_point)) self.new) }
+        ensures kept { OnErr result (KeepsContents self.old self.new) }
+
+        // A push whose bytes fit is never refused, and the capacity never shrinks.
+        ensures room { HasRoomFor self.old (units_of (number code_point)) → IsOk result }
+        ensures capacity { self.old.capacity ≤ self.new.capacity }
+    {
+        self.text.push(code_point)?;
+        laws::law_marks();
+        marks::count_more(
+            &self.text,
+            &mut self.count,
+            &mut self.marks,
+            unit_count(code_point),
+        );
+        Ok(())
+    }
+
+    /// Appends a 16-bit code unit. If memory is refused, the string is unchanged.
+    #[inline(always)]
+    pub fn push_unit(&mut self, unit: u16) -> Result<(), AllocError>
+        ensures ok { OnOk result (AppendsUnits self.old (unit ∷ []) self.new) }
+        ensures kept { OnErr result (KeepsContents self.old self.new) }
+
+        // A push whose bytes fit is never refused, and the capacity never shrinks.
+        ensures room { HasRoomFor self.old (unit ∷ []) → IsOk result }
+        ensures capacity { self.old.capacity ≤ self.new.capacity }
+    {
+        self.text.push_unit(unit)?;
+        laws::law_marks();
+        marks::count_more(&self.text, &mut self.count, &mut self.marks, 1);
+        Ok(())
+    }
+
+    /// Appends a character. If memory is refused, the string is unchanged.
+    pub fn push_char(&mut self, c: char) -> Result<(), AllocError>
+        ensures ok { OnOk result (AppendsUnits self.old (units_of c) self.new) }
+        ensures kept { OnErr result (KeepsContents self.old self.new) }
+
+        // A push whose bytes fit is never refused, and the capacity never shrinks.
+        ensures room { HasRoomFor self.old (units_of c) → IsOk result }
+        ensures capacity { self.old.capacity ≤ self.new.capacity }
+    {
+        self.text.push_char(c)?;
+        laws::law_marks();
+        marks::count_more(
+            &self.text,
+            &mut self.count,
+            &mut self.marks,
+            unit_count(CodePoint::from_char(c)),
+        );
+        Ok(())
+    }
+
+    /// Appends a `&str`, and counts its code units. If memory is refused, the string is unchanged.
+    pub fn push_str(&mut self, other: &str) -> Result<(), AllocError>
+        ensures ok { OnOk result (AppendsUnits self.old (units (chars other.now)) self.new) }
+        ensures kept { OnErr result (KeepsContents self.old self.new) }
+
+        // A push whose bytes fit is never refused, and the capacity never shrinks.
+        ensures room { HasRoomFor self.old (units (chars other.now)) → IsOk result }
+        ensures empty { other.now ≡ [] → IsOk result }
+        ensures capacity { self.old.capacity ≤ self.new.capacity }
+    {
+        self.text.push_str(other)?;
+        laws::law_marks();
+        marks::count_more(
+            &self.text,
+            &mut self.count,
+            &mut self.marks,
+            Wtf8::from_str(other).unit_len(),
+        );
+        Ok(())
+    }
+
+    /// Appends code units, paired or not. If memory is refused, the string is unchanged.
+    pub fn push_units(&mut self, units: &[u16]) -> Result<(), AllocError>
+        ensures ok { OnOk result (AppendsUnits self.old (units.now) self.new) }
+        ensures kept { OnErr result (KeepsContents self.old self.new) }
+
+        // A push whose bytes fit is never refused, and the capacity never shrinks.
+        ensures room { HasRoomFor self.old (units.now) → IsOk result }
+        ensures empty { units.now ≡ [] → IsOk result }
+        ensures capacity { self.old.capacity ≤ self.new.capacity }
+    {
+        self.text.push_ill_formed_utf16(units)?;
+        laws::law_marks();
+        marks::count_more(&self.text, &mut self.count, &mut self.marks, units.len());
+        Ok(())
+    }
+
+    /// Appends another string, and counts its code units. If memory is refused, the string is unchanged.
+    pub fn push_wtf8(&mut self, other: Wtf8<'_>) -> Result<(), AllocError>
+        ensures ok { OnOk result (AppendsUnits self.old (view_units other.entry) self.new) }
+        ensures kept { OnErr result (KeepsContents self.old self.new) }
+
+        // A push whose bytes fit is never refused, nor is an empty string, and the capacity never shrinks.
+        ensures room { HasRoomFor self.old (view_units other.entry) → IsOk result }
+        ensures empty { view_units other.entry ≡ [] → IsOk result }
+        ensures capacity { self.old.capacity ≤ self.new.capacity }
+    {
+        self.push_counted(other, other.unit_len())
+    }
+
+    /// Appends another string of `count` code units.
+    pub(crate) fn push_counted(&mut self, other: Wtf8<'_>, count: usize) -> Result<(), AllocError>
+        requires { count ≡ length (view_units other) }
+        ensures ok { OnOk result (AppendsUnits self.old (view_units other.entry) self.new) }
+        ensures kept { OnErr result (KeepsContents self.old self.new) }
+        ensures room { HasRoomFor self.old (view_units other.entry) → IsOk result }
+        ensures empty { view_units other.entry ≡ [] → IsOk result }
+        ensures capacity { self.old.capacity ≤ self.new.capacity }
+    {
+        self.text.push_wtf8(other)?;
+        laws::law_marks();
+        marks::count_more(&self.text, &mut self.count, &mut self.marks, count);
+        Ok(())
+    }
+
+    /// Shortens the string to `n` code units, which must be at most the number of code units. If that splits a surrogate
+    /// pair, its lead stays as a lone surrogate. Does not allocate.
+    pub fn truncate_units(&mut self, n: usize)
+        requires { n ≤ length self.old.units }
+        ensures { self.new.units ≡ take n self.old.units }
+    {
+        let view = CountedView::new(&self.text, self.count);
+        let mark = MarkedView::new(view, self.marks.as_ref()).mark_at(n);
+        slices::truncate_at(&mut self.text, mark, n);
+        self.count = n;
+        laws::law_marks();
+        laws::law_one_form();
+        let text = CountedView::new(&self.text, self.count);
+        marks::truncate_kept(text, &mut self.marks);
+    }
+
+    /// Shortens the string to `new_len` bytes, which must be a code point boundary. Does not allocate.
+    pub fn truncate(&mut self, new_len: usize)
+        requires { IsBoundary self.old.units new_len }
+        ensures units { IsFront self.old.units new_len self.new.units }
+        ensures bytes { self.new.bytes ≡ take new_len self.old.bytes }
+    {
+        self.count = self.unit_before(new_len);
+        self.text.truncate(new_len);
+        laws::law_marks();
+        laws::law_fronts();
+        laws::law_one_form();
+        let front = CountedView::new(&self.text, self.count);
+        marks::truncate_kept(front, &mut self.marks);
+    }
+
+    /// Writes the code units from index `begin` to before index `end` to the front of `out`, which must have room for
+    /// them, and leaves its rest unchanged. Does not allocate.
+    pub fn copy_units(&self, begin: usize, end: usize, out: &mut [u16])
+        requires order { begin ≤ end }
+        requires within { end ≤ length self.now.units }
+        requires room { end - begin ≤ length out.old }
+        ensures units { take (end - begin) out.new ≡ drop begin (take end self.now.units) }
+        ensures rest { drop (end - begin) out.new ≡ drop (end - begin) out.old }
+        ensures len { length out.new ≡ length out.old }
+    {
+        slices::write_slice(self.slice_units(begin, end), out);
+    }
+
+    /// Empties the string and keeps its capacity. Marks are kept of what is appended later, if they were before.
+    pub fn clear(&mut self)
+        ensures units { self.new.units ≡ [] }
+        ensures bytes { self.new.bytes ≡ [] }
+        ensures capacity { self.new.capacity ≡ self.old.capacity }
+    {
+        self.text.clear();
+        self.count = 0;
+        if let Some(marks) = &mut self.marks {
+            marks.kept.clear();
+        }
+    }
+
+    /// The view of the string with its marks.
+    #[inline(always)]
+    fn marked(&self) -> MarkedView<'_, A>
+        ensures units { view_units result.text.view ≡ self.now.units }
+        ensures count { result.text.count ≡ length self.now.units }
+    {
+        let text = CountedView::new(&self.text, self.count);
+        MarkedView::new(text, self.marks.as_ref())
+    }
+}
+
+/// The number of units of a code point: one below U+10000, else two.
+#[inline(always)]
+#[tactic(auto, using(crate::proofs::UnitLemmas::units_of_lengths))]
+fn unit_count(code_point: CodePoint) -> usize
+    ensures { result ≡ length (units_of (number code_point)) }
+{
+    if code_point.to_u32() < 0x10000 { 1 } else { 2 }
+}

@@ -1,0 +1,450 @@
+// Requests for memory of buffers that find their code units, each refused in turn.
+use crate::shared::{Push, buf_has_units, expect_buf, expect_text, push_to};
+use refusing::{Lent, REFUSALS, Refusal, Refusing};
+use std::alloc::{AllocError, Allocator, Global};
+use unit_text::{IndexedBuf, UnitText};
+use wtf8_tests::wrong::{Wrong, expect, expect_bytes, made};
+
+/// "a" and a lone lead, and their four bytes.
+const FRONT: [u16; 2] = [0x0061, 0xD83D];
+
+const FRONT_DUMP: &str = "61 ED A0 BD";
+
+/// "a" and a pair, and their five bytes.
+const PAIR: [u16; 3] = [0x0061, 0xD83D, 0xDCA9];
+
+const PAIR_DUMP: &str = "61 F0 9F 92 A9";
+
+/// A call that appends to `FRONT`, the units and bytes after it, by how many bytes the string grows, and the number of
+/// requests without spare capacity. `push_units` first reserves a byte for each unit, and then what its units need.
+type Row = (Push, &'static [u16], &'static str, usize, u64);
+
+/// Calls that append one code point, or nothing.
+fn single_pushes() -> [Row; 8] {
+    [
+        (Push::Point(0xDCA9), &PAIR, PAIR_DUMP, 1, 1),
+        (Push::Unit(0xDCA9), &PAIR, PAIR_DUMP, 1, 1),
+        (
+            Push::Unit(0x00E9),
+            &[0x0061, 0xD83D, 0x00E9],
+            "61 ED A0 BD C3 A9",
+            2,
+            1,
+        ),
+        (
+            Push::Char('💩'),
+            &[0x0061, 0xD83D, 0xD83D, 0xDCA9],
+            "61 ED A0 BD F0 9F 92 A9",
+            4,
+            1,
+        ),
+        (Push::Units(&[0xDCA9]), &PAIR, PAIR_DUMP, 1, 1),
+        (Push::Str(""), &FRONT, FRONT_DUMP, 0, 0),
+        (Push::Units(&[]), &FRONT, FRONT_DUMP, 0, 0),
+        (Push::View(&[]), &FRONT, FRONT_DUMP, 0, 0),
+    ]
+}
+
+/// Calls that append several code points.
+fn string_pushes() -> [Row; 3] {
+    [
+        (
+            Push::Str("aé💩"),
+            &[0x0061, 0xD83D, 0x0061, 0x00E9, 0xD83D, 0xDCA9],
+            "61 ED A0 BD 61 C3 A9 F0 9F 92 A9",
+            7,
+            1,
+        ),
+        (
+            Push::Units(&[0xDCA9, 0xE000, 0xE000]),
+            &[0x0061, 0xD83D, 0xDCA9, 0xE000, 0xE000],
+            "61 F0 9F 92 A9 EE 80 80 EE 80 80",
+            7,
+            2,
+        ),
+        (
+            Push::View(&[0xDCA9, 0x00E9]),
+            &[0x0061, 0xD83D, 0xDCA9, 0x00E9],
+            "61 F0 9F 92 A9 C3 A9",
+            3,
+            1,
+        ),
+    ]
+}
+
+/// Appends units one by one.
+fn push_each<A: Allocator>(buf: &mut IndexedBuf<A>, units: &[u16]) -> Result<(), AllocError> {
+    for unit in units {
+        buf.push_unit(*unit)?;
+    }
+    Ok(())
+}
+
+/// The buffer of `FRONT` with `spare` bytes of spare capacity.
+fn with_spare(heap: Lent<'_>, spare: usize) -> Result<IndexedBuf<Lent<'_>>, AllocError> {
+    heap.grant(1);
+    let mut buf = IndexedBuf::with_capacity(heap, spare.saturating_add(4))?;
+    push_each(&mut buf, &FRONT)?;
+    Ok(buf)
+}
+
+/// Makes the row's call with `spare` bytes of spare capacity and every request refused. Fails unless it appends its
+/// units without a request if their bytes fit, and else changes nothing.
+fn expect_in_room(
+    alloc: Global,
+    heap: Lent<'_>,
+    row: Row,
+    spare: usize,
+    is_marked: bool,
+) -> Result<(), Wrong> {
+    let (push, units, dump, growth, _) = row;
+    let mut buf = made(with_spare(heap, spare))?;
+    if is_marked {
+        buf.mark_units(heap);
+    }
+    heap.grant(0);
+    let is_pushed = push_to(alloc, &mut buf, push).is_ok();
+    expect(is_pushed == (growth <= spare), Wrong::Outcome)?;
+    expect((heap.requests() == 0) == is_pushed, Wrong::Requests)?;
+    if is_pushed {
+        return expect_buf(alloc, &buf, units, dump);
+    }
+    expect_buf(alloc, &buf, &FRONT, FRONT_DUMP)
+}
+
+/// Fails unless the row's call does what `expect_in_room` requires at each spare capacity, up to one byte more than it
+/// needs.
+fn expect_in_each_room(alloc: Global, heap: Lent<'_>, row: Row) -> Result<(), Wrong> {
+    let (_, _, _, growth, _) = row;
+    for spare in 0..=growth.saturating_add(1) {
+        expect_in_room(alloc, heap, row, spare, false)?;
+        expect_in_room(alloc, heap, row, spare, true)?;
+    }
+    Ok(())
+}
+
+#[test]
+fn a_push_makes_no_request_just_if_it_fits(rt: HostRuntime) -> Result<(), Wrong> {
+    let heap = Refusing::new(rt.alloc(), 0);
+    for row in single_pushes() {
+        expect_in_each_room(rt.alloc(), &heap, row)?;
+    }
+    for row in string_pushes() {
+        expect_in_each_room(rt.alloc(), &heap, row)?;
+    }
+    Ok(())
+}
+
+/// Grants `granted` requests and refuses the next one. Fails unless the call fails there and changes nothing.
+fn expect_refused(
+    alloc: Global,
+    heap: Lent<'_>,
+    push: Push,
+    (granted, refusal): (u64, Refusal),
+) -> Result<(), Wrong> {
+    let mut buf = made(with_spare(heap, 0))?;
+    heap.refuse_after(granted, refusal);
+    let is_pushed = push_to(alloc, &mut buf, push).is_ok();
+    let is_asked = heap.requests() == granted.wrapping_add(1);
+    expect(!is_pushed && is_asked, Wrong::Requests)?;
+    expect_buf(alloc, &buf, &FRONT, FRONT_DUMP)
+}
+
+/// Fails unless the row's call, without spare capacity, makes its requests and fails at each that is refused.
+fn expect_each_refused(alloc: Global, heap: Lent<'_>, row: Row) -> Result<(), Wrong> {
+    let (push, units, dump, _, requests) = row;
+    for refusal in REFUSALS {
+        for granted in 0..requests {
+            expect_refused(alloc, heap, push, (granted, refusal))?;
+        }
+    }
+    let mut buf = made(with_spare(heap, 0))?;
+    heap.grant(9);
+    made(push_to(alloc, &mut buf, push))?;
+    expect(heap.requests() == requests, Wrong::Requests)?;
+    expect_buf(alloc, &buf, units, dump)
+}
+
+#[test]
+fn a_push_fails_at_each_refusal_and_changes_nothing(rt: HostRuntime) -> Result<(), Wrong> {
+    let heap = Refusing::new(rt.alloc(), 0);
+    for row in single_pushes() {
+        expect_each_refused(rt.alloc(), &heap, row)?;
+    }
+    for row in string_pushes() {
+        expect_each_refused(rt.alloc(), &heap, row)?;
+    }
+    Ok(())
+}
+
+/// The number of units of three bytes before `FRONT` in a long buffer. The unit after `FRONT` has index 256, where the
+/// second mark is, or one unit before if that index splits a pair.
+const WIDE: usize = 254;
+
+/// Units of three bytes, and then `units`.
+fn after_wide(alloc: Global, units: &[u16]) -> Result<Vec<u16>, AllocError> {
+    let mut all = Vec::new(alloc);
+    all.resize(WIDE, 0x3042)?;
+    all.extend_from_slice(units)?;
+    Ok(all)
+}
+
+/// The buffer of the long list that `FRONT` ends, with `spare` bytes of spare capacity, and with the one mark that it
+/// needs.
+fn long_with_spare<'a>(
+    alloc: Global,
+    heap: Lent<'a>,
+    marks: Lent<'a>,
+    spare: usize,
+) -> Result<IndexedBuf<Lent<'a>>, AllocError> {
+    let units = after_wide(alloc, &FRONT)?;
+    heap.grant(1);
+    marks.grant(1);
+    let mut buf = IndexedBuf::with_capacity(heap, spare.saturating_add(254 * 3 + 4))?;
+    push_each(&mut buf, &units)?;
+    buf.mark_units(marks);
+    Ok(buf)
+}
+
+/// Pushes "a" with all requests granted. Fails unless one is made for the mark that is missing, and the buffer has
+/// `units` and "a".
+fn expect_one_more<'a>(
+    heap: Lent<'a>,
+    marks: Lent<'a>,
+    buf: &mut IndexedBuf<Lent<'a>>,
+    mut units: Vec<u16>,
+) -> Result<(), Wrong> {
+    heap.grant(9);
+    marks.grant(9);
+    made(buf.push_unit(0x0061))?;
+    expect(units.push(0x0061).is_ok(), Wrong::Memory)?;
+    expect(marks.requests() == 1, Wrong::Requests)?;
+    expect(buf_has_units(buf, &units), Wrong::Units)
+}
+
+/// Makes the row's call on a long buffer, with just the spare capacity that it needs and every request refused. Fails
+/// unless it appends its units, though a mark is refused, and a later call adds the mark.
+fn expect_long_push(alloc: Global, row: Row) -> Result<(), Wrong> {
+    let heap = Refusing::new(alloc, 0);
+    let marks = Refusing::new(alloc, 0);
+    let (push, units, _, growth, _) = row;
+    let mut buf = made(long_with_spare(alloc, &heap, &marks, growth))?;
+    heap.grant(0);
+    marks.grant(0);
+    made(push_to(alloc, &mut buf, push))?;
+    let is_mark_refused = marks.requests() == 1;
+    expect(heap.requests() == 0, Wrong::Requests)?;
+    expect(is_mark_refused == (growth > 0), Wrong::Requests)?;
+    let all = made(after_wide(alloc, units))?;
+    expect(buf_has_units(&buf, &all), Wrong::Units)?;
+    expect_one_more(&heap, &marks, &mut buf, all)
+}
+
+#[test]
+fn a_refused_mark_refuses_no_push(rt: HostRuntime) -> Result<(), Wrong> {
+    for row in single_pushes() {
+        expect_long_push(rt.alloc(), row)?;
+    }
+    for row in string_pushes() {
+        expect_long_push(rt.alloc(), row)?;
+    }
+    Ok(())
+}
+
+/// Makes the row's call on a long buffer with marks, with one byte too little of spare capacity and every request
+/// refused. Fails unless it changes nothing, asks for no mark, and a later call adds the mark that is then missing.
+fn expect_long_refused(alloc: Global, row: Row) -> Result<(), Wrong> {
+    let heap = Refusing::new(alloc, 0);
+    let marks = Refusing::new(alloc, 0);
+    let (push, _, _, growth, _) = row;
+    let spare = growth.saturating_sub(1);
+    let mut buf = made(long_with_spare(alloc, &heap, &marks, spare))?;
+    heap.grant(0);
+    marks.grant(0);
+    let is_pushed = push_to(alloc, &mut buf, push).is_ok();
+    expect(is_pushed == (growth == 0), Wrong::Outcome)?;
+    expect(marks.requests() == 0, Wrong::Requests)?;
+    expect(buf.as_wtf8().len() == 254 * 3 + 4, Wrong::Bytes)?;
+    let all = made(after_wide(alloc, &FRONT))?;
+    expect(buf_has_units(&buf, &all), Wrong::Units)?;
+    expect_one_more(&heap, &marks, &mut buf, all)
+}
+
+#[test]
+fn a_refused_push_changes_no_long_buffer(rt: HostRuntime) -> Result<(), Wrong> {
+    for row in single_pushes() {
+        expect_long_refused(rt.alloc(), row)?;
+    }
+    for row in string_pushes() {
+        expect_long_refused(rt.alloc(), row)?;
+    }
+    Ok(())
+}
+
+/// Asks for marks of a long buffer with `granted` requests granted. Fails unless the buffer has its units then, and
+/// after a push.
+fn expect_marked(alloc: Global, granted: u64, refusal: Refusal) -> Result<(), Wrong> {
+    let heap = Refusing::new(alloc, 9);
+    let marks = Refusing::new(alloc, 0);
+    let mut units = made(after_wide(alloc, &[0xD83D, 0xD83D, 0xDCA9]))?;
+    let mut buf = made(IndexedBuf::from_units(&heap, &units))?;
+    marks.refuse_after(granted, refusal);
+    buf.mark_units(&marks);
+    expect(buf_has_units(&buf, &units), Wrong::Units)?;
+    heap.grant(9);
+    made(buf.push_units(&FRONT))?;
+    expect(units.extend_from_slice(&FRONT).is_ok(), Wrong::Memory)?;
+    expect(buf_has_units(&buf, &units), Wrong::Units)
+}
+
+#[test]
+fn marks_that_are_refused_change_nothing(rt: HostRuntime) -> Result<(), Wrong> {
+    for refusal in REFUSALS {
+        for granted in 0..4 {
+            expect_marked(rt.alloc(), granted, refusal)?;
+        }
+    }
+    Ok(())
+}
+
+/// A call that makes a buffer.
+#[derive(Clone, Copy)]
+enum Make {
+    Capacity(usize),
+    Units(&'static [u16]),
+    Clone,
+}
+
+/// Calls that make a buffer, and the number of their requests. A buffer of six units of three bytes first has room for
+/// six bytes, and twice doubles that.
+fn makes() -> [(Make, u64); 5] {
+    [
+        (Make::Capacity(0), 0),
+        (Make::Capacity(8), 1),
+        (Make::Units(&[]), 0),
+        (Make::Units(&[0xE000; 6]), 3),
+        (Make::Clone, 1),
+    ]
+}
+
+/// Whether a buffer can be made, by a clone of `other` where it is one.
+fn is_made<'a>(heap: Lent<'a>, other: &IndexedBuf<Lent<'a>>, make: Make) -> bool {
+    match make {
+        Make::Capacity(n) => IndexedBuf::with_capacity(heap, n).is_ok(),
+        Make::Units(units) => IndexedBuf::from_units(heap, units).is_ok(),
+        Make::Clone => other.clone().is_ok(),
+    }
+}
+
+/// Fails unless the call makes its requests, and makes no buffer if one of them is refused.
+fn expect_make<'a>(
+    heap: Lent<'a>,
+    other: &IndexedBuf<Lent<'a>>,
+    make: Make,
+    requests: u64,
+) -> Result<(), Wrong> {
+    for refusal in REFUSALS {
+        for granted in 0..requests {
+            heap.refuse_after(granted, refusal);
+            expect(!is_made(heap, other, make), Wrong::Outcome)?;
+            expect(heap.requests() == granted.wrapping_add(1), Wrong::Requests)?;
+        }
+    }
+    heap.grant(requests);
+    expect(is_made(heap, other, make), Wrong::Outcome)?;
+    expect(heap.requests() == requests, Wrong::Requests)
+}
+
+#[test]
+fn a_buffer_is_made_of_the_memory_that_it_needs(rt: HostRuntime) -> Result<(), Wrong> {
+    let heap = Refusing::new(rt.alloc(), 9);
+    let other = made(with_spare(&heap, 0))?;
+    for (make, requests) in makes() {
+        expect_make(&heap, &other, make, requests)?;
+    }
+    expect_buf(rt.alloc(), &other, &FRONT, FRONT_DUMP)
+}
+
+/// Reserves `additional` bytes, with `granted` requests granted, and two bytes of spare capacity before. Fails unless
+/// that succeeds if `is_reserved`, and changes no unit.
+fn expect_reserved(
+    alloc: Global,
+    heap: Lent<'_>,
+    (additional, granted): (usize, u64),
+    (is_reserved, requests): (bool, u64),
+) -> Result<(), Wrong> {
+    let mut buf = made(with_spare(heap, 2))?;
+    heap.grant(granted);
+    let is_ok = buf.reserve(additional).is_ok();
+    expect(is_ok == is_reserved, Wrong::Outcome)?;
+    expect(heap.requests() == requests, Wrong::Requests)?;
+    let most = if is_ok { additional.max(2) } else { 2 };
+    expect(buf.capacity() >= most.saturating_add(4), Wrong::Outcome)?;
+    expect_buf(alloc, &buf, &FRONT, FRONT_DUMP)
+}
+
+#[test]
+fn spare_capacity_is_reserved_once(rt: HostRuntime) -> Result<(), Wrong> {
+    let heap = Refusing::new(rt.alloc(), 9);
+    for (call, outcome) in [
+        ((0, 0), (true, 0)),
+        ((2, 0), (true, 0)),
+        ((3, 0), (false, 1)),
+        ((3, 1), (true, 1)),
+        ((300, 1), (true, 1)),
+    ] {
+        expect_reserved(rt.alloc(), &heap, call, outcome)?;
+    }
+    Ok(())
+}
+
+/// Takes the string of a buffer and makes a buffer of it again, cuts it inside the pair and empties it. Fails unless
+/// each call leaves the right bytes.
+fn expect_shorter<'a>(alloc: Global, buf: IndexedBuf<Lent<'a>>) -> Result<(), Wrong> {
+    let mut again = IndexedBuf::from_buf(buf.into_buf());
+    expect_buf(alloc, &again, &PAIR, PAIR_DUMP)?;
+    if again.unit_len() < 2 {
+        return Err(Wrong::Units);
+    }
+    again.truncate_units(2);
+    expect_buf(alloc, &again, &FRONT, FRONT_DUMP)?;
+    again.clear();
+    expect_buf(alloc, &again, &[], "")
+}
+
+#[test]
+fn calls_that_append_nothing_make_no_request(rt: HostRuntime) -> Result<(), Wrong> {
+    let heap = Refusing::new(rt.alloc(), 9);
+    let buf = made(IndexedBuf::from_units(&heap, &PAIR))?;
+    heap.grant(0);
+    let empty = IndexedBuf::new(&heap);
+    expect_bytes(rt.alloc(), empty.as_wtf8(), "")?;
+    expect_shorter(rt.alloc(), buf)?;
+    expect(heap.requests() == 0, Wrong::Requests)
+}
+
+/// Refuses a copy of the text of `FRONT`, and then units pushed to it. Fails unless each makes one request and leaves
+/// the text as it was, and no units are pushed without one.
+fn expect_text_kept(alloc: Global, heap: Lent<'_>, refusal: Refusal) -> Result<(), Wrong> {
+    heap.grant(9);
+    let mut text = made(UnitText::from_units(heap, &FRONT))?;
+    heap.refuse_after(0, refusal);
+    let is_copied = text.clone().is_ok();
+    expect(!is_copied && heap.requests() == 1, Wrong::Requests)?;
+    heap.refuse_after(0, refusal);
+    let is_pushed = text.push_units(&[0xE000; 6]).is_ok();
+    expect(!is_pushed && heap.requests() == 1, Wrong::Requests)?;
+    heap.grant(0);
+    expect(text.push_units(&[]).is_ok(), Wrong::Memory)?;
+    expect(heap.requests() == 0, Wrong::Requests)?;
+    expect_text(alloc, &text, &FRONT, FRONT_DUMP)
+}
+
+#[test]
+fn a_text_is_unchanged_if_a_copy_or_units_are_refused(rt: HostRuntime) -> Result<(), Wrong> {
+    let heap = Refusing::new(rt.alloc(), 9);
+    for refusal in REFUSALS {
+        expect_text_kept(rt.alloc(), &heap, refusal)?;
+    }
+    Ok(())
+}
