@@ -150,7 +150,7 @@ pub const CALLS: [(Opcode, &[Kind]); 51] = [
 /// The number of calls, the first ones, among which the random scripts of the fixed list choose.
 pub const RANDOM_CALLS: usize = 46;
 
-/// The calls that random scripts make besides, except those of the fixed list, which stay as they are.
+/// More calls of random scripts. The random scripts of the fixed list do without these, and stay as they are.
 pub const CALLS_BETWEEN: [Opcode; 3] = [
     Opcode::PushIllFormedUtf16,
     Opcode::PushUnit,

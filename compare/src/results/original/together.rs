@@ -48,7 +48,7 @@ impl Machine {
         });
     }
 
-    /// The units of the crate's iterator, and after them those that a slice has past its end.
+    /// The units of the crate's iterator, and after them the units that a slice has past its end.
     pub fn write_units(&mut self, reader: &mut Reader<'_>) {
         let register = reader.register();
         let mut units: Vec<u16> = self.strings[register].to_ill_formed_utf16().collect();
