@@ -69,10 +69,16 @@ const OPCODES = {
   markAtColumn: 97,
   json: 98,
   readJson: 99,
+  new: 101,
+  clone: 102,
+  pushUnits: 103,
+  unitsFrom: 104,
 };
 
 // What each call returns over the two strings of a state.
 const CALLS = {
+  new: (state) => unitsOf((state.first = '')),
+  clone: (state) => unitsOf((state.first = state.second)),
   set: (state, ...units) => unitsOf((state.first = textOf(units))),
   swap: (state) => {
     [state.first, state.second] = [state.second, state.first];
@@ -132,12 +138,17 @@ const CALLS = {
     for (const unit of units) state.first += String.fromCharCode(unit);
     return unitsOf(state.first);
   },
+  pushUnits: (state, ...units) => unitsOf((state.first += textOf(units))),
   fromStr: (state, text) => unitsOf((state.first = text)),
   pushStr: (state, text) => unitsOf((state.first += text)),
   pushWtf8: (state, ...units) => unitsOf((state.first += textOf(units))),
   throughWtf8: ({ first }) => unitsOf(first),
   positionAt: ({ first }, at) => (first.length < at ? 'refused' : `position ${positionAt(first, at)}`),
   unitBefore: ({ first }, position) => `units before ${unitBefore(first, position)}`,
+  unitsFrom: ({ first }, at) => {
+    if (first.length < at) return 'refused';
+    return ['units from', ...listOf(first.slice(at)).map((unit) => hex(unit, 4))].join(' ');
+  },
   truncate: (state, length) => (state.first.length < length ? 'refused' : unitsOf((state.first = state.first.slice(0, length)))),
   lines: ({ first }) => linesOf(first),
   markAtColumn: ({ first }, line, column) => `mark ${markAtColumn(first, line, column)}`,
@@ -149,9 +160,9 @@ const CALLS = {
 };
 
 // The calls whose operands are units, those whose operand is a well-formed string, and those that change a string.
-const OF_UNITS = ['set', 'replace', 'push', 'pushWtf8'];
+const OF_UNITS = ['set', 'replace', 'push', 'pushUnits', 'pushWtf8'];
 const OF_TEXT = ['fromStr', 'pushStr'];
-const CHANGING = [...OF_UNITS, ...OF_TEXT, 'swap', 'slice', 'truncate', 'concat', 'padStart', 'repeat', 'trim', 'toWellFormed'];
+const CHANGING = [...OF_UNITS, ...OF_TEXT, 'new', 'clone', 'swap', 'slice', 'truncate', 'concat', 'padStart', 'repeat', 'trim', 'toWellFormed'];
 
 // A number of two bytes in hexadecimal, little-endian.
 const bytesOf = (number) => hex(number & 0xFF, 2) + hex(number >> 8, 2);
@@ -321,10 +332,25 @@ function scriptOf(first, more, callsOn, below) {
   return calls;
 }
 
-function randomScript(below) {
+// A random script whose calls `callsOn` returns.
+function randomScript(below, callsOn) {
   const first = [['set', ...randomUnits(below)], ['swap'], ['set', ...randomUnits(below)]];
-  return scriptOf(first, 1 + below(12), randomCalls, below);
+  return scriptOf(first, 1 + below(12), callsOn, below);
 }
+
+// Calls that the random scripts of the fixed list do without, so that these stay as they are.
+function callsBetween({ first }, below) {
+  const index = below(first.length + 3);
+  switch (below(8)) {
+    case 0: return [['new'], ['length'], ['push', ...randomUnits(below)]];
+    case 1: return [['clone'], ['compare'], ['push', randomUnit(below)], ['compare']];
+    case 2: case 3: return [['unitsFrom', index]];
+    default: return first.length > 600 ? [['length']] : [['pushUnits', ...randomUnits(below)], ['compare'], ['unitAt', first.length], ['unitsFrom', index]];
+  }
+}
+
+// Random calls, in one case of four one of those that the fixed list does without, or a few.
+const allCalls = (state, below) => (below(4) === 0 ? callsBetween(state, below) : randomCalls(state, below));
 
 // All lists of at most `most` units out of `some`.
 function listsOf(some, most) {
@@ -380,9 +406,9 @@ function listScripts() {
   return [...scripts, ...listsOf(ABOUT_SPACES, 3).map(trimScript), ends.flat()];
 }
 
-function randomScripts(seed, cases) {
+function randomScripts(seed, cases, callsOn) {
   const below = randomBelow(seed);
-  return Array.from({ length: cases }, () => randomScript(below));
+  return Array.from({ length: cases }, () => randomScript(below, callsOn));
 }
 
 // Units that long texts repeat: of one, two and three bytes, pairs, and all of these with lone surrogates.
@@ -534,8 +560,9 @@ function markedScripts(lengths, pieces) {
 
 // A random call, or a few related ones, that appends a piece; as a well-formed string only its first units.
 function appending(piece, below) {
-  switch (below(4)) {
+  switch (below(5)) {
     case 0: return [['push', ...piece]];
+    case 3: return [['pushUnits', ...piece]];
     case 1: return [['pushWtf8', ...piece]];
     case 2: return [['pushStr', wellFormed(piece)]];
     default: return [['swap'], ['set', ...piece], ['swap'], ['concat']];
@@ -545,9 +572,12 @@ function appending(piece, below) {
 // One random call or a few related ones, for the current long texts.
 function randomMarkedCalls({ first, second }, below) {
   const index = indexAbout(first.length, below);
-  switch (below(33)) {
+  switch (below(36)) {
     case 0: return [['mark']];
     case 1: return [['swap']];
+    case 33: return [['unitsFrom', Math.max(index, first.length - below(3 * SPACING))]];
+    case 34: return [['unitsFrom', index]];
+    case 35: return second.length === 0 ? [['length']] : [['clone'], ['unitAt', below(second.length)], ['mark']];
     case 2: return first.length + second.length > 6000 ? [['length']] : [['concat'], ['length']];
     case 3: case 4: {
       const any = anyUnits(1 + below(2 * SPACING), below);
@@ -638,7 +668,8 @@ function marksScripts(seed, cases) {
   const below = randomBelow(seed);
   const scripts = markedScripts([300, 1000, 5000], [1, 2, 63, 64, 127, 128, 129, 255, 256, 257, 300]);
   const huge = KINDS_OF_MARKED.map((kind) => hugeScript(kind, below));
-  return [...scripts, ...huge, ...cutScripts(below), ...Array.from({ length: cases }, () => randomMarkedScript(below))];
+  const atOnce = [SPACING - 1, SPACING, SPACING + 1, 3 * SPACING].flatMap((length) => pushedAtOnceScripts(KINDS, length));
+  return [...scripts, ...atOnce, ...huge, ...cutScripts(below), ...Array.from({ length: cases }, () => randomMarkedScript(below))];
 }
 
 // "a", a pair, "b" and a lead: the string of the worked examples.
@@ -792,7 +823,48 @@ function workedScripts() {
     [...onBoth('concat', [[[0xD83D], [0xDCA9]]]), ['length'], ['swap'], ['set', 0xD83D, 0xDCA9], ['compare']],
     [example, ['cutEverywhere']],
     ...JOINING.map((units) => [['set', ...units], ['cutEverywhere']]),
+    [['new'], ['length'], ['unitAt', 0]],
+    [example, ['swap'], ['clone'], ['push', 0x62], ['compare'], ['swap'], ['length']],
+    onEach('pushUnits', [[[0x61, 0xD83D], 0xDCA9, 0x62]]),
+    onEach('pushUnits', [[[0xDCA9], 0xD83D]]),
+    onEach('pushUnits', [[[0xD83D]]]),
+    ...[0, 1, 2, 3, 4].map((at) => [example, ['unitsFrom', at]]),
+    ...JOINING.map(dividedScript),
   ];
+}
+
+// A list divided at every index: its second part appended at once to the first, and read from there. Then a clone of the
+// list, and the empty text, to which the list is appended.
+function dividedScript(units) {
+  const calls = [['set', ...units], ['swap']];
+  for (let at = 0; at <= units.length; at++) {
+    calls.push(['set', ...units.slice(0, at)], ['pushUnits', ...units.slice(at)], ['compare'], ['unitsFrom', at]);
+  }
+  calls.push(['unitsFrom', units.length + 1], ['clone'], ['compare'], ['pushUnits', ...units], ['compare'], ['cutEverywhere']);
+  return [...calls, ['new'], ['compare'], ['pushUnits', ...units], ['compare'], ['unitsFrom', 0]];
+}
+
+// The units from the indexes about each multiple of `SPACING` on.
+function unitsAbout(length) {
+  const calls = [];
+  for (let edge = 0; edge <= length + 2; edge += SPACING) {
+    for (let at = Math.max(0, edge - 2); at <= edge + 2; at++) calls.push(['unitsFrom', at]);
+  }
+  return calls;
+}
+
+// Long texts of a piece that is appended at once, with marks and without, and of a clone of the marked text, which keeps
+// none; read about each mark.
+function pushedAtOnceScripts(kinds, length) {
+  const looks = [...readsAbout(2 * length), ...unitsAbout(2 * length)];
+  return kinds.flatMap((kind) => {
+    const piece = joining(textOfKind(kind, length));
+    const grown = [['pushUnits', ...piece], ['pushUnits', ...piece], ['length']];
+    return [
+      [['new'], ...grown, ...looks],
+      [['new'], ['mark'], ...grown, ...looks, ['swap'], ['clone'], ['compare'], ...looks, ['pushUnits', ...piece], ['compare'], ['mark'], ...looks],
+    ];
+  });
 }
 
 // The positions of a list, of every index and of every byte, and the list cut at every index.
@@ -890,13 +962,13 @@ function randomPositionScript(below) {
 // Scripts of all calls, and a quarter of that number of positions, lines and JSON strings.
 function randomScriptsOfAll(seed, cases) {
   const below = randomBelow(seed);
-  return [...randomScripts(seed, cases), ...Array.from({ length: Math.ceil(cases / 4) }, () => randomPositionScript(below))];
+  return [...randomScripts(seed, cases, allCalls), ...Array.from({ length: Math.ceil(cases / 4) }, () => randomPositionScript(below))];
 }
 
 function fixedScripts() {
   const lists = listScripts().filter((_, at) => at % 97 === 0);
   const marked = markedScripts([300], [129]).filter((_, at) => at % 4 === 2);
-  return [...exampleScripts(), ...workedScripts(), ...lists, ...longScripts(), ...marked, cutAtMarkScript(), longLineScript(), ...randomScripts(1, 100)];
+  return [...exampleScripts(), ...workedScripts(), ...lists, ...longScripts(), ...marked, cutAtMarkScript(), longLineScript(), ...pushedAtOnceScripts([[0x3042], NINE], SPACING + 1), ...randomScripts(1, 100, randomCalls)];
 }
 
 // Writes the scripts and their transcripts after the given lines.
@@ -933,7 +1005,7 @@ function numberOf(word, least) {
 const WAYS = {
   random: { words: 2, scripts: (seed, cases) => randomScriptsOfAll(numberOf(seed, 0), numberOf(cases, 1)) },
   marks: { words: 2, scripts: (seed, cases) => marksScripts(numberOf(seed, 0), numberOf(cases, 1)) },
-  lists: { words: 0, scripts: () => [...listScripts(), ...longScripts(), ...positionScripts()] },
+  lists: { words: 0, scripts: () => [...listScripts(), ...listsOf(NINE, 3).map(dividedScript), ...longScripts(), ...positionScripts()] },
   fixed: { words: 0, scripts: fixedScripts },
 };
 const [way, ...words] = process.argv.slice(2);

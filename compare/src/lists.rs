@@ -4,6 +4,7 @@ pub mod blocks;
 pub mod building;
 pub mod examples;
 pub mod generate;
+pub mod indexed;
 pub mod long;
 pub mod marked;
 pub mod pairs;
@@ -15,7 +16,7 @@ use crate::script::Call;
 /// The name of a list, and the function that makes its scripts.
 pub type List = (&'static str, fn() -> Vec<Vec<Call>>);
 
-pub const LISTS: [List; 33] = [
+pub const LISTS: [List; 37] = [
     ("worked examples", worked::scripts),
     ("examples", examples::all),
     ("code points at edges", generate::edge_calls),
@@ -61,6 +62,13 @@ pub const LISTS: [List; 33] = [
     ("six thousand units", pushed::far),
     ("marks of up to four units", marked::up_to_four_units),
     ("marks about blocks", marked::about_blocks),
+    ("worked examples of the indexed string", indexed::worked),
+    (
+        "the indexed string of up to three units",
+        indexed::up_to_three_units,
+    ),
+    ("pushes of up to three units", indexed::divided),
+    ("the indexed string about marks", indexed::about_marks),
 ];
 
 fn up_to_four_units() -> Vec<Vec<Call>> {

@@ -27,7 +27,7 @@ pub enum Kind {
 
 use Kind::{Builds, Number, Points, Register, Steps, Text, Units, Value};
 
-/// The opcodes of the calls on strings. `crates/compare_scripts/src/opcodes.rt` says what each call does.
+/// The opcodes of the calls on strings and on the indexed string. `crates/compare_scripts/src/opcodes.rt` says what each call does.
 #[derive(Clone, Copy, Debug, PartialEq)]
 pub enum Opcode {
     New = 0,
@@ -81,13 +81,43 @@ pub enum Opcode {
     PushIllFormedUtf16 = 48,
     PushUnit = 49,
     WriteUnits = 50,
+    PushUnitsOf = 51,
+    IndexedNew = 128,
+    IndexedWithCapacity = 129,
+    IndexedFromUnits = 130,
+    FromBuf = 131,
+    IndexedClone = 132,
+    MarkUnits = 133,
+    IndexedReserve = 134,
+    IndexedPush = 135,
+    IndexedPushUnit = 136,
+    IndexedPushChar = 137,
+    IndexedPushStr = 138,
+    IndexedPushUnits = 139,
+    IndexedPushWtf8 = 140,
+    IndexedTruncate = 141,
+    IndexedTruncateUnits = 142,
+    IndexedClear = 143,
+    IndexedPushSlice = 144,
+    IndexedUnitAt = 145,
+    CopyUnits = 146,
+    UnitsFrom = 147,
+    PositionAt = 148,
+    UnitBefore = 149,
+    IndexedComparisons = 150,
+    IndexedHash = 151,
+    IndexedDebug = 152,
+    IntoBuf = 153,
 }
 
 /// The first opcode of a call on texts. `javascript/text_calls.js` makes these calls.
 pub const FIRST_OF_TEXTS: u8 = 64;
 
+/// The first opcode of a call on the indexed string.
+pub const FIRST_OF_INDEXED: u8 = 128;
+
 /// The calls on strings with the kinds of their operands, in the order of the opcodes.
-pub const CALLS: [(Opcode, &[Kind]); 51] = [
+pub const CALLS: [(Opcode, &[Kind]); 52] = [
     (Opcode::New, &[Register]),
     (Opcode::WithCapacity, &[Register, Number]),
     (Opcode::FromString, &[Register, Text]),
@@ -145,23 +175,60 @@ pub const CALLS: [(Opcode, &[Kind]); 51] = [
     (Opcode::PushIllFormedUtf16, &[Register, Units]),
     (Opcode::PushUnit, &[Register, Number]),
     (Opcode::WriteUnits, &[Register, Units]),
+    (Opcode::PushUnitsOf, &[Register, Register]),
+];
+
+/// The calls on the indexed string with the kinds of their operands, in the order of the opcodes.
+pub const INDEXED_CALLS: [(Opcode, &[Kind]); 26] = [
+    (Opcode::IndexedNew, &[]),
+    (Opcode::IndexedWithCapacity, &[Number]),
+    (Opcode::IndexedFromUnits, &[Units]),
+    (Opcode::FromBuf, &[Register]),
+    (Opcode::IndexedClone, &[]),
+    (Opcode::MarkUnits, &[]),
+    (Opcode::IndexedReserve, &[Number]),
+    (Opcode::IndexedPush, &[Value]),
+    (Opcode::IndexedPushUnit, &[Number]),
+    (Opcode::IndexedPushChar, &[Value]),
+    (Opcode::IndexedPushStr, &[Text]),
+    (Opcode::IndexedPushUnits, &[Units]),
+    (Opcode::IndexedPushWtf8, &[Register]),
+    (Opcode::IndexedTruncate, &[Number]),
+    (Opcode::IndexedTruncateUnits, &[Number]),
+    (Opcode::IndexedClear, &[]),
+    (Opcode::IndexedPushSlice, &[Register, Number, Number]),
+    (Opcode::IndexedUnitAt, &[Number]),
+    (Opcode::CopyUnits, &[Number, Number, Units]),
+    (Opcode::UnitsFrom, &[Number, Steps]),
+    (Opcode::PositionAt, &[Number]),
+    (Opcode::UnitBefore, &[Number]),
+    (Opcode::IndexedComparisons, &[Register]),
+    (Opcode::IndexedHash, &[]),
+    (Opcode::IndexedDebug, &[]),
+    (Opcode::IntoBuf, &[Register]),
 ];
 
 /// The number of calls, the first ones, among which the random scripts of the fixed list choose.
 pub const RANDOM_CALLS: usize = 46;
 
 /// More calls of random scripts. The random scripts of the fixed list do without these, and stay as they are.
-pub const CALLS_BETWEEN: [Opcode; 3] = [
+pub const CALLS_BETWEEN: [Opcode; 4] = [
     Opcode::PushIllFormedUtf16,
     Opcode::PushUnit,
     Opcode::WriteUnits,
+    Opcode::PushUnitsOf,
 ];
 
-// The index of a call in `CALLS` is its opcode.
+// The index of a call in its table is its opcode, less the first opcode of the table.
 const _: () = {
     let mut index = 0;
     while index < CALLS.len() {
         assert!(CALLS[index].0 as usize == index);
+        index += 1;
+    }
+    index = 0;
+    while index < INDEXED_CALLS.len() {
+        assert!(INDEXED_CALLS[index].0 as usize == index + FIRST_OF_INDEXED as usize);
         index += 1;
     }
 };
@@ -169,7 +236,19 @@ const _: () = {
 impl Opcode {
     /// The opcode of a byte, if there is one.
     pub fn from_byte(byte: u8) -> Option<Opcode> {
-        CALLS.get(usize::from(byte)).map(|(opcode, _)| *opcode)
+        let call = match byte.checked_sub(FIRST_OF_INDEXED) {
+            Some(index) => INDEXED_CALLS.get(usize::from(index)),
+            None => CALLS.get(usize::from(byte)),
+        };
+        call.map(|(opcode, _)| *opcode)
+    }
+
+    /// The kinds of the operands.
+    pub fn kinds(self) -> &'static [Kind] {
+        match (self as u8).checked_sub(FIRST_OF_INDEXED) {
+            Some(index) => INDEXED_CALLS[usize::from(index)].1,
+            None => CALLS[self as usize].1,
+        }
     }
 }
 

@@ -78,7 +78,7 @@ pub fn script_with_all_calls(random: &mut Random) -> Vec<Call> {
         calls.push(call);
         if random.below(4) == 0 {
             let opcode = random.pick(&CALLS_BETWEEN);
-            calls.push(call_of(random, opcode as usize));
+            calls.push(call_of(random, opcode));
         }
     }
     calls
@@ -96,13 +96,13 @@ fn call(random: &mut Random) -> Call {
         0 => random.below(RANDOM_CALLS as u64) as usize,
         _ => random.between(Opcode::FromString as u32, Opcode::SliceTo as u32) as usize,
     };
-    call_of(random, index)
+    call_of(random, CALLS[index].0)
 }
 
-/// The call of that index in `CALLS`, with random operands.
-fn call_of(random: &mut Random, index: usize) -> Call {
-    let (opcode, kinds) = CALLS[index];
-    let mut operands: Vec<Operand> = kinds.iter().map(|kind| operand(random, *kind)).collect();
+/// The call of an opcode, with random operands.
+pub fn call_of(random: &mut Random, opcode: Opcode) -> Call {
+    let kinds = opcode.kinds().iter();
+    let mut operands: Vec<Operand> = kinds.map(|kind| operand(random, *kind)).collect();
     if opcode == Opcode::ApplyAll {
         operands[2] = Operand::Number(random.pick(&[0, UNBOUNDED]));
     }
@@ -191,7 +191,8 @@ fn value(random: &mut Random) -> u32 {
     }
 }
 
-fn unit(random: &mut Random) -> u16 {
+/// A unit, a surrogate more often than any other.
+pub fn unit(random: &mut Random) -> u16 {
     match random.below(10) {
         0..=1 => random.pick(&ALPHABET),
         2..=4 => random.between(0xD800, 0xDBFF) as u16,
@@ -202,7 +203,7 @@ fn unit(random: &mut Random) -> u16 {
 
 /// `count` units in runs of one kind, as texts have them: the blocks in which units are read and written begin and end
 /// anywhere in a run.
-fn runs(random: &mut Random, count: usize) -> Vec<u16> {
+pub fn runs(random: &mut Random, count: usize) -> Vec<u16> {
     let mut units = Vec::new();
     while units.len() < count {
         let (least, most) = random.pick(&KINDS);

@@ -81,8 +81,8 @@ fn cut_and_pushed(units: &[u16], cut: usize) -> Vec<Call> {
         .collect()
 }
 
-/// Strings of 6,000 units: with a surrogate or another unit at some indexes, joined in the middle of a pair, and read
-/// by both iterators with their size hints.
+/// Strings of 6,000 units: with a surrogate or another unit at some indexes, joined in the middle of a pair as units
+/// and as a view, and read by both iterators with their size hints.
 pub fn far() -> Vec<Vec<Call>> {
     BASES
         .into_iter()
@@ -106,9 +106,11 @@ fn calls_far(units: &[u16]) -> Vec<Call> {
     let whole = [&units[..half], &[0xD83D, 0xDCA9], &units[half..]].concat();
     calls.extend(string_in(0, &whole));
     calls.extend(string_in(2, &whole[half + 1..]));
-    calls.extend(string_in(1, &whole[..=half]));
-    calls.push(registers(Opcode::PushWtf8, 1, 2));
-    calls.extend(compared());
+    for opcode in [Opcode::PushUnitsOf, Opcode::PushWtf8] {
+        calls.extend(string_in(1, &whole[..=half]));
+        calls.push(registers(opcode, 1, 2));
+        calls.extend(compared());
+    }
     // A size hint before each of some steps.
     let mut steps = [Step::SizeHint, Step::Next].repeat(20);
     steps.extend([

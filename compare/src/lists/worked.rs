@@ -72,6 +72,7 @@ pub fn scripts() -> Vec<Vec<Call>> {
     }
     scripts.extend((0..=3).map(copies_of_lists));
     scripts.push(under_a_higher_hint());
+    scripts.extend(units_of_strings());
     scripts
 }
 
@@ -576,6 +577,23 @@ fn copies_of_lists(len: usize) -> Vec<Call> {
         ]
     };
     lists_of_kinds(len).into_iter().flat_map(copied).collect()
+}
+
+/// `push_ill_formed_utf16` of the units of a string: of a trail to a lead, and of 510 units to themselves.
+fn units_of_strings() -> [Vec<Call>; 2] {
+    let letters = [0x0061, 0x00E9, 0xD55C].repeat(85);
+    [
+        vec![
+            from_units(0, &[0xD83D]),
+            from_units(1, &[0xDCA9]),
+            registers(Opcode::PushUnitsOf, 0, 1),
+        ],
+        vec![
+            from_units(0, &letters),
+            registers(Opcode::PushWtf8, 0, 0),
+            registers(Opcode::PushUnitsOf, 0, 0),
+        ],
+    ]
 }
 
 /// Two code points of an iterator whose lower size hint is five, collected, and appended to a lead.

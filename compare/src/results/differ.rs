@@ -1,7 +1,7 @@
 //! Runs scripts on both sides and compares the transcripts.
 
 use crate::console::progress;
-use crate::lists::{generate, LISTS};
+use crate::lists::{generate, indexed, LISTS};
 use crate::random::Random;
 use crate::results::original::Results;
 use crate::results::{model, original, shrink};
@@ -30,8 +30,8 @@ struct Tally {
     refusal_examples: Vec<(&'static str, Vec<Call>)>,
 }
 
-/// Runs all of `LISTS`, `cases` random scripts, and `cases` random lists of building calls against the model. Returns
-/// whether the sides agree, but for the known differences.
+/// Runs all of `LISTS`, `cases` random scripts, as many of the indexed string, and `cases` random lists of building calls
+/// against the model. Returns whether the sides agree, but for the known differences.
 pub fn run(seed: u64, cases: u64, every_point: bool) -> bool {
     let mut tally = Tally::default();
     for (name, list) in LISTS {
@@ -55,6 +55,12 @@ pub fn run(seed: u64, cases: u64, every_point: bool) -> bool {
         return false;
     }
     say!("{cases} random scripts of seed {seed}: the results are the same");
+    let mut random = Random::new(seed);
+    let scripts = (0..cases).map(|_| indexed::random_script(&mut random));
+    if !tally.agrees_on("random scripts of the indexed string", scripts) {
+        return false;
+    }
+    say!("{cases} random scripts of the indexed string: the results are the same");
     if !model::run(seed, cases) {
         return false;
     }

@@ -10,6 +10,7 @@ use wtf8::{CodePoint, IllFormedUtf16CodeUnits, Wtf8, Wtf8Buf, Wtf8CodePoints};
 use crate::fed::fed_by;
 use crate::script::{Build, Opcode, Step, UNBOUNDED};
 
+mod indexed;
 mod marks;
 mod together;
 
@@ -53,6 +54,7 @@ fn result_of<T>(call: impl FnOnce() -> T) -> Option<T> {
 pub fn run(script: &[u8]) -> Results {
     let mut machine = Machine {
         strings: std::array::from_fn(|_| Wtf8Buf::new()),
+        indexed: Wtf8Buf::new(),
         out: Out::default(),
         panicked: Vec::new(),
     };
@@ -183,6 +185,7 @@ fn dump(text: &Wtf8) -> String {
 
 struct Machine {
     strings: [Wtf8Buf; 4],
+    indexed: Wtf8Buf,
     out: Out,
     panicked: Vec<&'static str>,
 }
@@ -276,6 +279,8 @@ impl Machine {
             Opcode::PushIllFormedUtf16 => self.push_units(reader),
             Opcode::PushUnit => self.push_unit(reader),
             Opcode::WriteUnits => self.write_units(reader),
+            Opcode::PushUnitsOf => self.push_units_of(reader),
+            _ => self.call_on_indexed(opcode, reader),
         }
     }
 

@@ -4,7 +4,7 @@ use std::fs;
 use std::io::ErrorKind;
 use std::path::Path;
 
-use crate::lists::{blocks, building, examples, generate, long, pairs, worked};
+use crate::lists::{blocks, building, examples, generate, indexed, long, pairs, worked};
 use crate::random::Random;
 use crate::results::original;
 use crate::say;
@@ -20,6 +20,8 @@ pub fn run(folder: &Path, seed: u64, cases: u64) -> std::io::Result<()> {
     let mut transcripts = String::new();
     for script in &scripts {
         let bytes = encode(script);
+        // By its first call a script is told from one on texts.
+        assert!(bytes.first() < Some(&FIRST_OF_TEXTS));
         lines.extend(bytes.iter().map(|byte| format!("{byte:02X}")));
         lines.push('\n');
         transcripts.push_str(&original::run(&bytes).transcript);
@@ -68,5 +70,7 @@ fn chosen() -> Vec<Vec<Call>> {
     scripts.extend(pairs::chosen());
     scripts.extend(examples::recorded());
     scripts.extend(worked::scripts());
+    scripts.extend(indexed::worked());
+    scripts.extend(indexed::chosen());
     scripts
 }

@@ -42,7 +42,7 @@ impl Machine {
     }
 
     /// A clone of another string.
-    fn copy(&self, tape: &mut Tape<'_>) -> Result<Wtf8Buf<Global>, Stop> {
+    pub fn copy(&self, tape: &mut Tape<'_>) -> Result<Wtf8Buf<Global>, Stop> {
         let other = self.string(tape.reader.register()?);
         allocated(other.clone())
     }
@@ -89,6 +89,7 @@ impl Machine {
             Append::ExtendCodePoints => self.extend_by_string(at, tape),
             Append::ExtendHinted => extend_hinted(string, tape),
             Append::PushIllFormedUtf16 => push_units(string, tape),
+            Append::PushUnitsOf => self.push_units_of(at, tape),
             Append::PushUnit => allocated(string.push_unit(tape.reader.unit()?)),
         }
     }
@@ -97,6 +98,14 @@ impl Machine {
     fn push_string(&mut self, at: Register, tape: &mut Tape<'_>) -> Result<(), Stop> {
         let piece = self.copy(tape)?;
         allocated(self.strings[at.index].push_wtf8(piece.as_wtf8()))
+    }
+
+    /// `push_ill_formed_utf16` of the units of another string, which may be in this register.
+    fn push_units_of(&mut self, at: Register, tape: &mut Tape<'_>) -> Result<(), Stop> {
+        let other = tape.reader.register()?;
+        let mut units = Vec::new(tape.alloc);
+        allocated(self.view(other).append_units(&mut units))?;
+        allocated(self.strings[at.index].push_ill_formed_utf16(units.as_slice()))
     }
 
     /// `extend` by the code points of a clone of another string without its first ones.
@@ -141,7 +150,7 @@ impl Machine {
 fn with_capacity(tape: &mut Tape<'_>) -> Result<Wtf8Buf<Global>, Stop> {
     let capacity = tape.reader.number()?;
     let string = allocated(Wtf8Buf::with_capacity(tape.alloc, capacity))?;
-    tape.write_room(&string, capacity)?;
+    tape.write_room(string.capacity() - string.len(), capacity)?;
     Ok(string)
 }
 
@@ -187,7 +196,7 @@ pub fn with_view<A: Allocator + Drop>(
 fn reserve(string: &mut Wtf8Buf<Global>, tape: &mut Tape<'_>) -> Result<(), Stop> {
     let additional = tape.reader.number()?;
     allocated(string.reserve(additional))?;
-    tape.write_room(string, additional)
+    tape.write_room(string.capacity() - string.len(), additional)
 }
 
 /// `push_ill_formed_utf16`.

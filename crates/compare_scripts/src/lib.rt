@@ -1,7 +1,7 @@
 //! Interpreter of short scripts of calls on strings: writes a transcript of what each call returns.
 //!
-//! A script is bytes: one call after another, each an opcode and its operands. It works on four strings and two
-//! `UnitText`s, all empty at the start. `opcodes` lists the calls. A transcript is lines of text, at least one for each
+//! A script is bytes: one call after another, each an opcode and its operands. It works on four strings, two
+//! `UnitText`s and one `IndexedBuf`, the indexed string, all empty at the start. `opcodes` lists the calls. A transcript is lines of text, at least one for each
 //! call but `apply` of an empty list, and none from a call of `Silence` on.
 #![tactic(auto)]
 
@@ -10,6 +10,7 @@ mod building;
 mod comparing;
 mod engine;
 mod hinted;
+mod indexed;
 mod iterators;
 mod json;
 mod machine;

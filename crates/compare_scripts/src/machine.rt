@@ -7,10 +7,11 @@ use crate::texts::Texts;
 use crate::views::write_operand_results;
 use std::alloc::{AllocError, Global};
 use std::array;
+use unit_text::IndexedBuf;
 use wtf8::{Wtf8, Wtf8Buf};
 
 /// Returns the transcript of a script: what each call returns and, if it changes a string or a text, the string's
-/// length and bytes or the text's units. `None` if the script ends inside a call or has an invalid byte or text.
+/// length and bytes or the text's units; of the indexed string the number of units, the length and the bytes. `None` if the script ends inside a call or has an invalid byte or text.
 pub fn run_script(alloc: Global, script: &[u8]) -> Result<Option<String>, AllocError> {
     match transcript_of(alloc, script) {
         Ok(transcript) => Ok(Some(transcript)),
@@ -22,7 +23,7 @@ pub fn run_script(alloc: Global, script: &[u8]) -> Result<Option<String>, AllocE
 /// Returns the transcript of a script, or why it has none.
 fn transcript_of(alloc: Global, script: &[u8]) -> Result<String, Stop> {
     let mut tape = Tape::new(alloc, script);
-    let mut machine = Machine::new(alloc)?;
+    let mut machine = Machine::new(alloc);
     for _ in 0..script.len() {
         let Ok(opcode) = tape.reader.byte() else {
             break;
@@ -32,19 +33,22 @@ fn transcript_of(alloc: Global, script: &[u8]) -> Result<String, Stop> {
     Ok(tape.transcript)
 }
 
-/// The state of a script: its strings by register, and its texts.
+/// The state of a script: its strings by register, its texts, and its indexed string.
 #[derive(Drop)]
 pub struct Machine {
     pub strings: [Wtf8Buf<Global>; STRINGS],
     texts: Texts,
+    pub indexed: IndexedBuf<Global>,
 }
 
 impl Machine {
     /// Makes empty strings and texts.
-    fn new(alloc: Global) -> Result<Machine, Stop> {
-        let texts = Texts::new(alloc)?;
-        let strings = array::from_fn(|_| Wtf8Buf::new(alloc));
-        Ok(Machine { strings, texts })
+    fn new(alloc: Global) -> Machine {
+        Machine {
+            strings: array::from_fn(|_| Wtf8Buf::new(alloc)),
+            texts: Texts::new(alloc),
+            indexed: IndexedBuf::new(alloc),
+        }
     }
 
     /// Runs the call of an opcode, or writes why the call does not accept its operands.
@@ -63,6 +67,7 @@ impl Machine {
             Some(Call::Operands(call)) => write_operand_results(call, tape),
             Some(Call::String(call)) => self.run_at(call, tape),
             Some(Call::Text(call)) => self.texts.run(call, tape),
+            Some(Call::Indexed(call)) => self.run_indexed(call, tape),
             Some(Call::Silence) => {
                 tape.is_silent = true;
                 Ok(())

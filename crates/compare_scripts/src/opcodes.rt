@@ -1,7 +1,7 @@
 // The calls of scripts, by their opcodes.
 //
 // A comment names the operands of a call in their order, then the call. `Reader` says how operands are encoded. Units
-// follow their number, which takes one byte in a call on a string and two in a call on the texts.
+// follow their number, which takes two bytes in a call on the texts and one in any other.
 
 /// A call of a script.
 #[derive(Clone, Copy)]
@@ -12,6 +12,8 @@ pub enum Call {
     String(StringCall),
     /// A call on the texts.
     Text(TextCall),
+    /// A call on the indexed string.
+    Indexed(IndexedCall),
     /// Writes nothing, and neither does any call after it: a count of instructions is then of the calls, not of the
     /// transcript.
     Silence,
@@ -121,6 +123,8 @@ pub enum Append {
     ExtendHinted,
     /// Units: `push_ill_formed_utf16`.
     PushIllFormedUtf16,
+    /// Register: `push_ill_formed_utf16` of the units of that string, which are more than a script can list.
+    PushUnitsOf,
     /// Number: `push_unit`.
     PushUnit,
 }
@@ -204,6 +208,8 @@ pub enum ChangeText {
     Mark,
     /// Units: pushes each.
     Push,
+    /// Units: `push_units` of all at once.
+    PushUnits,
     /// Text: `push_str`.
     PushStr,
     /// Units: `push_wtf8` of their string.
@@ -217,6 +223,10 @@ pub enum ChangeText {
 /// A call that makes the first text anew.
 #[derive(Clone, Copy)]
 pub enum MakeText {
+    /// `new`.
+    New,
+    /// `clone` of the second text, without its marks.
+    Clone,
     /// Units: makes the text of them.
     Set,
     /// Text: `from_str`.
@@ -270,6 +280,8 @@ pub enum ReadText {
     PositionAt,
     /// Number: `unit_before` that position.
     UnitBefore,
+    /// Number: `units_from` that index.
+    UnitsFrom,
     /// `lines_of`: the mark at the start of each line, and `line_column_at` each position.
     Lines,
     /// Two numbers: `mark_at_column` of a line and a column.
@@ -278,6 +290,98 @@ pub enum ReadText {
     Json,
     /// `read_json_string`: the text and what follows it, or the position and the cause of the error.
     ReadJson,
+}
+
+/// A call on the indexed string, which is an `IndexedBuf`.
+#[derive(Clone, Copy)]
+pub enum IndexedCall {
+    /// A call that changes the string, and then writes its number of units, its length and its bytes.
+    Change(ChangeIndexed),
+    /// A call that writes what it returns.
+    Read(ReadIndexed),
+    /// Register: `into_buf`. The result becomes that string, and the indexed string is empty then.
+    IntoBuf,
+    /// Register, two numbers: `slice_units`, appended to that string by `push_unit_slice`.
+    PushSlice,
+}
+
+/// A call that changes the indexed string.
+#[derive(Clone, Copy)]
+pub enum ChangeIndexed {
+    /// A call that makes the string anew.
+    Make(MakeIndexed),
+    /// A call that appends to the string, or reserves.
+    Append(AppendIndexed),
+    /// Register: `push_wtf8` of a clone of that string.
+    PushWtf8,
+    /// A call that truncates the string.
+    Cut(CutIndexed),
+    /// Makes the string keep marks from now on (`mark_units`).
+    Mark,
+}
+
+/// A call that makes the indexed string anew.
+#[derive(Clone, Copy)]
+pub enum MakeIndexed {
+    /// `new`.
+    New,
+    /// Number: `with_capacity`. Writes whether the capacity is at least the number.
+    WithCapacity,
+    /// Units: `from_units`.
+    FromUnits,
+    /// Register: `from_buf` of a clone of that string.
+    FromBuf,
+    /// `clone`, which keeps no marks.
+    Clone,
+}
+
+/// A call that appends to the indexed string, or reserves.
+#[derive(Clone, Copy)]
+pub enum AppendIndexed {
+    /// Number: `reserve`. Writes whether the spare capacity is at least the number.
+    Reserve,
+    /// Value: `push`.
+    Push,
+    /// Number: `push_unit`.
+    PushUnit,
+    /// Value: `push_char`.
+    PushChar,
+    /// Text: `push_str`.
+    PushStr,
+    /// Units: `push_units`.
+    PushUnits,
+}
+
+/// A call that truncates the indexed string. Writes whether the capacity is unchanged.
+#[derive(Clone, Copy)]
+pub enum CutIndexed {
+    /// Number: `truncate`.
+    Truncate,
+    /// Number: `truncate_units`.
+    TruncateUnits,
+    /// `clear`.
+    Clear,
+}
+
+/// A call that reads the indexed string.
+#[derive(Clone, Copy)]
+pub enum ReadIndexed {
+    /// Number: `unit_at` that index.
+    UnitAt,
+    /// Two numbers, units: `copy_units` to a slice that has room for them, and these units after them.
+    CopyUnits,
+    /// Number, steps: `units_from` that index.
+    UnitsFrom,
+    /// Number: `position_at` that index.
+    PositionAt,
+    /// Number: `unit_before` that position.
+    UnitBefore,
+    /// Register: all comparisons with that string.
+    Comparisons,
+    /// The bytes that the string feeds a hasher.
+    Hash,
+    /// The debug text.
+    Debug,
 }
 
 /// A step on an iterator. Writes what it returns.
@@ -317,6 +421,7 @@ impl Call {
             32 => Call::Operands(OperandCall::CodePointComparisons),
             100 => Call::Silence,
             0..64 => Call::String(StringCall::from_opcode(opcode)?),
+            128.. => Call::Indexed(IndexedCall::from_opcode(opcode)?),
             _ => Call::Text(TextCall::from_opcode(opcode)?),
         };
         Some(call)
@@ -383,6 +488,7 @@ impl Change {
             45 => Change::ShrinkToFit,
             48 => Change::Append(Append::PushIllFormedUtf16),
             49 => Change::Append(Append::PushUnit),
+            51 => Change::Append(Append::PushUnitsOf),
             _ => return None,
         };
         Some(call)
@@ -413,6 +519,7 @@ impl TextCall {
             97 => TextCall::Read(ReadText::MarkAtColumn),
             98 => TextCall::Read(ReadText::Json),
             99 => TextCall::Read(ReadText::ReadJson),
+            104 => TextCall::Read(ReadText::UnitsFrom),
             _ => TextCall::Change(ChangeText::from_opcode(opcode)?),
         };
         Some(call)
@@ -437,6 +544,53 @@ impl ChangeText {
             91 => ChangeText::PushWtf8,
             92 => ChangeText::ThroughWtf8,
             95 => ChangeText::Truncate,
+            101 => ChangeText::Make(MakeText::New),
+            102 => ChangeText::Make(MakeText::Clone),
+            103 => ChangeText::PushUnits,
+            _ => return None,
+        };
+        Some(call)
+    }
+}
+
+impl IndexedCall {
+    fn from_opcode(opcode: u8) -> Option<IndexedCall> {
+        let call = match opcode {
+            144 => IndexedCall::PushSlice,
+            145 => IndexedCall::Read(ReadIndexed::UnitAt),
+            146 => IndexedCall::Read(ReadIndexed::CopyUnits),
+            147 => IndexedCall::Read(ReadIndexed::UnitsFrom),
+            148 => IndexedCall::Read(ReadIndexed::PositionAt),
+            149 => IndexedCall::Read(ReadIndexed::UnitBefore),
+            150 => IndexedCall::Read(ReadIndexed::Comparisons),
+            151 => IndexedCall::Read(ReadIndexed::Hash),
+            152 => IndexedCall::Read(ReadIndexed::Debug),
+            153 => IndexedCall::IntoBuf,
+            _ => IndexedCall::Change(ChangeIndexed::from_opcode(opcode)?),
+        };
+        Some(call)
+    }
+}
+
+impl ChangeIndexed {
+    fn from_opcode(opcode: u8) -> Option<ChangeIndexed> {
+        let call = match opcode {
+            128 => ChangeIndexed::Make(MakeIndexed::New),
+            129 => ChangeIndexed::Make(MakeIndexed::WithCapacity),
+            130 => ChangeIndexed::Make(MakeIndexed::FromUnits),
+            131 => ChangeIndexed::Make(MakeIndexed::FromBuf),
+            132 => ChangeIndexed::Make(MakeIndexed::Clone),
+            133 => ChangeIndexed::Mark,
+            134 => ChangeIndexed::Append(AppendIndexed::Reserve),
+            135 => ChangeIndexed::Append(AppendIndexed::Push),
+            136 => ChangeIndexed::Append(AppendIndexed::PushUnit),
+            137 => ChangeIndexed::Append(AppendIndexed::PushChar),
+            138 => ChangeIndexed::Append(AppendIndexed::PushStr),
+            139 => ChangeIndexed::Append(AppendIndexed::PushUnits),
+            140 => ChangeIndexed::PushWtf8,
+            141 => ChangeIndexed::Cut(CutIndexed::Truncate),
+            142 => ChangeIndexed::Cut(CutIndexed::TruncateUnits),
+            143 => ChangeIndexed::Cut(CutIndexed::Clear),
             _ => return None,
         };
         Some(call)

@@ -1,6 +1,6 @@
 // Calls on byte positions in texts, and on lines.
 use crate::stop::{Stop, allocated};
-use crate::tape::{NONE, Tape};
+use crate::tape::{NONE, Shown, Tape};
 use crate::views::write_mark;
 use std::alloc::Global;
 use unit_text::UnitText;
@@ -32,6 +32,19 @@ pub fn write_unit_before(tape: &mut Tape<'_>, text: &UnitText<Global>) -> Result
     let position = tape.reader.number()?;
     let units = text.unit_before(position);
     writeln!(tape, "units before {units}")
+}
+
+/// `units_from`: writes the units.
+pub fn write_units_from(tape: &mut Tape<'_>, text: &UnitText<Global>) -> Result<(), Stop> {
+    let index = tape.reader.number()?;
+    if text.unit_len() < index {
+        return Err(Stop::Refused);
+    }
+    tape.write_word("units from")?;
+    for unit in text.units_from(index) {
+        unit.show(tape)?;
+    }
+    tape.write_line("")
 }
 
 /// Writes the mark at the start of each line, then the line and the column of each position.

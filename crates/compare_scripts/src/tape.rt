@@ -3,8 +3,8 @@ use crate::reader::{Reader, Register};
 use crate::stop::{Stop, allocated};
 use std::alloc::Global;
 use std::fmt::Display;
-use unit_text::UnitText;
-use wtf8::{CodePoint, Wtf8, Wtf8Buf};
+use unit_text::{IndexedBuf, UnitText};
+use wtf8::{CodePoint, Wtf8};
 
 /// The word for `None`.
 pub const NONE: &str = "-";
@@ -77,6 +77,12 @@ impl<'s> Tape<'s> {
         self.write_view(string)
     }
 
+    /// Writes the line of the indexed string: its number of units, length and bytes.
+    pub fn write_indexed(&mut self, string: &IndexedBuf<Global>) -> Result<(), Stop> {
+        write!(self, "indexed {} units", string.unit_len())?;
+        self.write_view(string.as_wtf8())
+    }
+
     /// Writes a space, the length and the bytes of a view, and ends the line.
     pub fn write_view(&mut self, view: Wtf8<'_>) -> Result<(), Stop> {
         if self.is_silent {
@@ -126,9 +132,9 @@ impl<'s> Tape<'s> {
         self.write_line("")
     }
 
-    /// Writes whether the spare capacity of a string is at least `asked` bytes.
-    pub fn write_room(&mut self, string: &Wtf8Buf<Global>, asked: usize) -> Result<(), Stop> {
-        let has_room = asked <= string.capacity() - string.len();
+    /// Writes whether a spare capacity of `spare` bytes is at least `asked` bytes.
+    pub fn write_room(&mut self, spare: usize, asked: usize) -> Result<(), Stop> {
+        let has_room = asked <= spare;
         writeln!(self, "room {has_room}")
     }
 

@@ -5,6 +5,7 @@ use crate::json::{write_json, write_json_string};
 use crate::opcodes::{ChangeText, MakeText, ReadText, TextCall};
 use crate::positions::{
     truncate, write_lines, write_mark_at_column, write_position, write_unit_before,
+    write_units_from,
 };
 use crate::stop::{Stop, allocated};
 use crate::tape::Tape;
@@ -26,10 +27,11 @@ pub struct Texts {
 
 impl Texts {
     /// Two empty texts.
-    pub fn new(alloc: Global) -> Result<Texts, Stop> {
-        let first = allocated(UnitText::from_units(alloc, &[]))?;
-        let second = allocated(UnitText::from_units(alloc, &[]))?;
-        Ok(Texts { first, second })
+    pub fn new(alloc: Global) -> Texts {
+        Texts {
+            first: UnitText::new(alloc),
+            second: UnitText::new(alloc),
+        }
     }
 
     /// Runs a call, whose operands come next in the script, and writes what it returns.
@@ -53,26 +55,27 @@ impl Texts {
             ChangeText::Make(call) => self.first = self.make(call, tape)?,
             ChangeText::Concat => return allocated(self.first.concat(&self.second)),
             ChangeText::Mark => self.first.mark_units(tape.alloc),
-            ChangeText::Push => return push_units(&mut self.first, tape),
+            ChangeText::Push => return push_each(&mut self.first, tape),
+            ChangeText::PushUnits => return push_units(&mut self.first, tape),
             ChangeText::PushStr => return push_str(&mut self.first, tape),
             ChangeText::PushWtf8 => return push_string(&mut self.first, tape),
-            ChangeText::ThroughWtf8 => return self.convert(tape),
+            ChangeText::ThroughWtf8 => self.convert(tape.alloc),
             ChangeText::Truncate => return truncate(&mut self.first, tape),
         }
         Ok(())
     }
 
     /// `into_wtf8`, then `from_wtf8`.
-    fn convert(&mut self, tape: &mut Tape<'_>) -> Result<(), Stop> {
-        let empty = allocated(UnitText::from_units(tape.alloc, &[]))?;
-        let text = mem::replace(&mut self.first, empty);
+    fn convert(&mut self, alloc: Global) {
+        let text = mem::replace(&mut self.first, UnitText::new(alloc));
         self.first = UnitText::from_wtf8(text.into_wtf8());
-        Ok(())
     }
 
     /// Makes the text that replaces the first one.
     fn make(&self, call: MakeText, tape: &mut Tape<'_>) -> Result<UnitText<Global>, Stop> {
         match call {
+            MakeText::New => Ok(UnitText::new(tape.alloc)),
+            MakeText::Clone => allocated(self.second.clone()),
             MakeText::Set => tape.read_units(),
             MakeText::FromStr => from_str(tape),
             MakeText::Slice => self.slice(tape),
@@ -124,6 +127,7 @@ impl Texts {
             ReadText::EndsWith => write_end(tape, &self.first, &self.second),
             ReadText::PositionAt => write_position(tape, &self.first),
             ReadText::UnitBefore => write_unit_before(tape, &self.first),
+            ReadText::UnitsFrom => write_units_from(tape, &self.first),
             ReadText::Lines => write_lines(tape, self.first.as_wtf8()),
             ReadText::MarkAtColumn => write_mark_at_column(tape, self.first.as_wtf8()),
             ReadText::Json => write_json(tape, self.first.as_wtf8(), self.second.as_wtf8()),
@@ -201,8 +205,15 @@ fn push_string(text: &mut UnitText<Global>, tape: &mut Tape<'_>) -> Result<(), S
     allocated(text.push_wtf8(units.as_wtf8()))
 }
 
-/// Reads a count of two bytes, then that number of units, and pushes each.
+/// Reads a count of two bytes, then that number of units, and pushes all at once.
 fn push_units(text: &mut UnitText<Global>, tape: &mut Tape<'_>) -> Result<(), Stop> {
+    let count = tape.reader.number()?;
+    let units = tape.reader.units(tape.alloc, count)?;
+    allocated(text.push_units(units.as_slice()))
+}
+
+/// Reads a count of two bytes, then that number of units, and pushes each.
+fn push_each(text: &mut UnitText<Global>, tape: &mut Tape<'_>) -> Result<(), Stop> {
     for _ in 0..tape.reader.number()? {
         let unit = tape.reader.unit()?;
         allocated(text.push(unit))?;

@@ -202,7 +202,7 @@ fn write_unit_slice(tape: &mut Tape<'_>, view: Wtf8<'_>) -> Result<(), Stop> {
 }
 
 /// Writes the trail, the bytes and the lead of a slice.
-fn write_slice(tape: &mut Tape<'_>, slice: UnitSlice<'_>) -> Result<(), Stop> {
+pub fn write_slice(tape: &mut Tape<'_>, slice: UnitSlice<'_>) -> Result<(), Stop> {
     tape.write_word("slice")?;
     tape.write_item(slice.trail, NONE)?;
     write_bytes(tape, slice.whole)?;
@@ -242,7 +242,10 @@ fn write_units_to_slice(tape: &mut Tape<'_>, view: Wtf8<'_>) -> Result<(), Stop>
 }
 
 /// Writes units, and ends the line.
-fn write_all_units(tape: &mut Tape<'_>, units: &[u16]) -> Result<(), Stop> {
+pub fn write_all_units(tape: &mut Tape<'_>, units: &[u16]) -> Result<(), Stop> {
+    if tape.is_silent {
+        return Ok(());
+    }
     for unit in units {
         tape.write_item(Some(*unit), NONE)?;
     }

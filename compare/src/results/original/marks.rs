@@ -17,7 +17,7 @@ fn unit_len(point: CodePoint) -> usize {
 }
 
 /// The position of each boundary, with the number of units before it.
-fn boundaries(view: &Wtf8) -> Vec<(usize, usize)> {
+pub(super) fn boundaries(view: &Wtf8) -> Vec<(usize, usize)> {
     let mut marks = vec![(0, 0)];
     let (mut position, mut units) = (0, 0);
     for point in view.code_points() {

@@ -41,6 +41,13 @@ impl Machine {
         });
     }
 
+    pub fn push_units_of(&mut self, reader: &mut Reader<'_>) {
+        let register = reader.register();
+        let units: Vec<u16> = self.copy(reader).to_ill_formed_utf16().collect();
+        self.strings[register].push_wtf8(&Wtf8Buf::from_ill_formed_utf16(&units));
+        self.show(register);
+    }
+
     pub fn push_unit(&mut self, reader: &mut Reader<'_>) {
         self.change(reader, |string, reader| {
             let point = CodePoint::from_u32(u32::from(reader.unit()));
@@ -67,30 +74,13 @@ impl Machine {
         self.line(&format!("units {order}, turned {turned}"));
     }
 
-    /// The units from one index to another: the half of a divided pair at either end, and the bytes of the whole code
-    /// points between them.
     pub fn slice_units(&mut self, reader: &mut Reader<'_>) {
         let units: Vec<u16> = self.strings[reader.register()]
             .to_ill_formed_utf16()
             .collect();
         let (begin, end) = (reader.number(), reader.number());
-        if begin > end || end > units.len() {
-            return self.line("refused");
-        }
-        let is_divided =
-            |at: usize| at > 0 && matches!(units[at - 1..], [0xD800..=0xDBFF, 0xDC00..=0xDFFF, ..]);
-        let mut part = &units[begin..end];
-        let (mut trail, mut lead) = ("-".to_owned(), "-".to_owned());
-        if let ([first, rest @ ..], true) = (part, is_divided(begin)) {
-            trail = unit_text(*first);
-            part = rest;
-        }
-        if let ([rest @ .., last], true) = (part, is_divided(end)) {
-            lead = unit_text(*last);
-            part = rest;
-        }
-        let whole = dump(&Wtf8Buf::from_ill_formed_utf16(part));
-        self.line(&format!("slice {trail} ({whole}) {lead}"));
+        let slice = slice_text(&units, begin, end);
+        self.line(slice.as_deref().unwrap_or("refused"));
     }
 
     pub fn read_slice(&mut self, reader: &mut Reader<'_>) {
@@ -205,8 +195,27 @@ impl Machine {
     }
 }
 
+/// The units from one index to another, as they are written: the half of a divided pair at either end, and the bytes of
+/// the whole code points between them. `None` unless the indexes are in order and within the units.
+pub(super) fn slice_text(units: &[u16], begin: usize, end: usize) -> Option<String> {
+    let mut part = units.get(begin..end)?;
+    let is_divided =
+        |at: usize| at > 0 && matches!(units[at - 1..], [0xD800..=0xDBFF, 0xDC00..=0xDFFF, ..]);
+    let (mut trail, mut lead) = ("-".to_owned(), "-".to_owned());
+    if let ([first, rest @ ..], true) = (part, is_divided(begin)) {
+        trail = unit_text(*first);
+        part = rest;
+    }
+    if let ([rest @ .., last], true) = (part, is_divided(end)) {
+        lead = unit_text(*last);
+        part = rest;
+    }
+    let whole = dump(&Wtf8Buf::from_ill_formed_utf16(part));
+    Some(format!("slice {trail} ({whole}) {lead}"))
+}
+
 /// The string of the first `count` units, if there are that many.
-fn first_units(text: &Wtf8, count: usize) -> Option<Wtf8Buf> {
+pub(super) fn first_units(text: &Wtf8, count: usize) -> Option<Wtf8Buf> {
     let units: Vec<u16> = text.to_ill_formed_utf16().collect();
     units.get(..count).map(Wtf8Buf::from_ill_formed_utf16)
 }

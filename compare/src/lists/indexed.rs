@@ -1,0 +1,484 @@
+//! Scripts of calls on the indexed string, with marks and without.
+
+use crate::lists::generate::{
+    self, from_units, operand, pushed, registers, runs, unit_lists, with_text, with_units,
+};
+use crate::lists::long::{on, string_in};
+use crate::lists::worked::JOINING;
+use crate::random::Random;
+use crate::script::{Call, Kind, Opcode, Operand, Step};
+
+/// The number of units between one mark and the next.
+const SPACING: usize = 128;
+
+/// Units that long strings repeat: of each encoded length, pairs, pairs that a mark divides, and all with surrogates.
+const KINDS: [&[u16]; 6] = [
+    &[0x61],
+    &[0xE9],
+    &[0x3042],
+    &[0xD83D, 0xDCA9],
+    &[0xDCA9, 0xD83D],
+    &[0x61, 0xE9, 0x3042, 0xD83D, 0xDCA9, 0xD83D, 0xDC00],
+];
+
+/// The longest string before the random calls, in units.
+const LONGEST: usize = 2 * 255;
+
+fn call(opcode: Opcode) -> Call {
+    Call::new(opcode, Vec::new())
+}
+
+fn number(opcode: Opcode, number: usize) -> Call {
+    Call::new(opcode, vec![Operand::Number(number as u16)])
+}
+
+fn units_of(opcode: Opcode, units: &[u16]) -> Call {
+    Call::new(opcode, vec![Operand::Units(units.to_vec())])
+}
+
+fn value(opcode: Opcode, value: u32) -> Call {
+    Call::new(opcode, vec![Operand::Value(value)])
+}
+
+/// The units from one index to another, appended to the string of a register.
+fn slice(register: u8, begin: usize, end: usize) -> Call {
+    let ends = [begin, end].map(|index| Operand::Number(index as u16));
+    let mut operands = vec![Operand::Register(register)];
+    operands.extend(ends);
+    Call::new(Opcode::IndexedPushSlice, operands)
+}
+
+/// The units from one index to another, copied before other units.
+fn copied(begin: usize, end: usize, after: &[u16]) -> Call {
+    let operands = vec![
+        Operand::Number(begin as u16),
+        Operand::Number(end as u16),
+        Operand::Units(after.to_vec()),
+    ];
+    Call::new(Opcode::CopyUnits, operands)
+}
+
+fn units_from(index: usize, steps: &[Step]) -> Call {
+    let operands = vec![
+        Operand::Number(index as u16),
+        Operand::Steps(steps.to_vec()),
+    ];
+    Call::new(Opcode::UnitsFrom, operands)
+}
+
+/// Makes the indexed string of that of register 0, with marks or without.
+fn indexed(is_marked: bool) -> Vec<Call> {
+    let mut calls = on(0, &[Opcode::FromBuf]);
+    if is_marked {
+        calls.push(call(Opcode::MarkUnits));
+    }
+    calls
+}
+
+/// Reads at an index: the unit, the position, and some units from there and up to there.
+fn read_at(index: usize) -> Vec<Call> {
+    vec![
+        number(Opcode::IndexedUnitAt, index),
+        number(Opcode::PositionAt, index),
+        copied(index, index + 3, &[0x62]),
+        copied(index.saturating_sub(SPACING + 1), index, &[]),
+    ]
+}
+
+/// Every list of up to three units, read at every index and position, and cut there.
+pub fn up_to_three_units() -> Vec<Vec<Call>> {
+    unit_lists(3)
+        .iter()
+        .map(|units| each_index(units))
+        .collect()
+}
+
+fn each_index(units: &[u16]) -> Vec<Call> {
+    let mut calls = vec![from_units(0, units)];
+    for begin in 0..=units.len() + 1 {
+        calls.extend(indexed(begin % 2 == 0));
+        calls.extend(read_at(begin));
+        calls.push(units_from(
+            begin,
+            &[Step::SizeHint, Step::Next, Step::Drain],
+        ));
+        for end in 0..=units.len() + 1 {
+            calls.push(Call::new(Opcode::New, vec![Operand::Register(1)]));
+            calls.extend([
+                slice(1, 0, begin),
+                slice(1, begin, end),
+                copied(begin, end, &[0x62]),
+            ]);
+        }
+        calls.push(number(Opcode::IndexedTruncateUnits, begin));
+        calls.extend(on(
+            0,
+            &[Opcode::IndexedComparisons, Opcode::IndexedPushWtf8],
+        ));
+    }
+    for position in 0..=3 * units.len() + 1 {
+        calls.extend(indexed(position % 2 == 0));
+        calls.push(number(Opcode::UnitBefore, position));
+        calls.push(number(Opcode::IndexedTruncate, position));
+        calls.extend(on(2, &[Opcode::IntoBuf, Opcode::IntoString]));
+    }
+    calls
+}
+
+/// Every list of up to three units, divided at each index: the second part appended to the first by each call.
+pub fn divided() -> Vec<Vec<Call>> {
+    unit_lists(3)
+        .iter()
+        .map(|units| pushed_from_each_index(units))
+        .collect()
+}
+
+fn pushed_from_each_index(units: &[u16]) -> Vec<Call> {
+    let mut calls = vec![from_units(0, units)];
+    for index in 0..=units.len() {
+        let (front, back) = units.split_at(index);
+        calls.push(from_units(1, back));
+        for appended in ways(back) {
+            calls.push(units_of(Opcode::IndexedFromUnits, front));
+            calls.extend(appended);
+            calls.extend(on(0, &[Opcode::IndexedComparisons]));
+        }
+    }
+    calls.extend([call(Opcode::IndexedHash), call(Opcode::IndexedDebug)]);
+    calls
+}
+
+/// The calls that append units, by each way that takes them; those of register 1 are these units.
+fn ways(units: &[u16]) -> Vec<Vec<Call>> {
+    let each = |opcode| {
+        let push = |unit: &u16| match opcode {
+            Opcode::IndexedPushUnit => number(opcode, usize::from(*unit)),
+            _ => value(opcode, u32::from(*unit)),
+        };
+        units.iter().map(push).collect()
+    };
+    let mut ways: Vec<Vec<Call>> = vec![
+        each(Opcode::IndexedPush),
+        each(Opcode::IndexedPushUnit),
+        vec![units_of(Opcode::IndexedPushUnits, units)],
+        on(1, &[Opcode::IndexedPushWtf8]),
+    ];
+    if let Ok(text) = String::from_utf16(units) {
+        let push_char = |c: char| value(Opcode::IndexedPushChar, u32::from(c));
+        ways.push(text.chars().map(push_char).collect());
+        ways.push(vec![Call::new(
+            Opcode::IndexedPushStr,
+            vec![Operand::Text(text)],
+        )]);
+    }
+    ways
+}
+
+/// Strings of lengths about the multiples of `SPACING`, with marks and without: read about each multiple and about the
+/// end, grown by each call and read again, and cut about each multiple.
+pub fn about_marks() -> Vec<Vec<Call>> {
+    let lengths = [126, 127, 128, 129, 130, 255, 256, 257, 300, 385];
+    let mut scripts = Vec::new();
+    for kind in KINDS {
+        for length in lengths {
+            scripts.extend([false, true].map(|is_marked| grown_and_cut(kind, length, is_marked)));
+        }
+    }
+    scripts
+}
+
+/// Some of `about_marks`, for the fixed list.
+pub fn chosen() -> Vec<Vec<Call>> {
+    let kinds = [KINDS[2], KINDS[4]].into_iter();
+    kinds
+        .map(|kind| grown_and_cut(kind, SPACING + 1, true))
+        .collect()
+}
+
+/// `len` units of a kind.
+fn string_of(kind: &[u16], len: usize) -> Vec<u16> {
+    kind.iter().copied().cycle().take(len).collect()
+}
+
+/// Reads about each multiple of `SPACING` up to a length, and about the length.
+fn reads_about(length: usize) -> Vec<Call> {
+    let edges = (0..length).step_by(SPACING).chain([length]);
+    let indexes = edges.flat_map(|edge| edge.saturating_sub(2)..=edge + 2);
+    indexes.flat_map(read_at).collect()
+}
+
+/// A string whose second half is the same as the first, so that a pair may be divided where they meet.
+fn grown_and_cut(kind: &[u16], length: usize, is_marked: bool) -> Vec<Call> {
+    let units = string_of(kind, length);
+    let mut calls = string_in(0, &units);
+    calls.extend(indexed(is_marked));
+    calls.extend(reads_about(length));
+    calls.extend(on(0, &[Opcode::IndexedPushWtf8]));
+    calls.extend(reads_about(2 * length));
+    calls.push(units_of(Opcode::IndexedPushUnits, &string_of(kind, 140)));
+    for index in [length - 1, length, 2 * length - 1, 2 * length] {
+        calls.push(units_from(index, &[]));
+    }
+    calls.extend(cuts(2 * length + 140, length));
+    calls.extend(reads_about(length));
+    calls.push(call(Opcode::IndexedClone));
+    calls.extend(reads_about(length));
+    calls.push(call(Opcode::IndexedClear));
+    calls.push(units_of(Opcode::IndexedPushUnits, &string_of(kind, 130)));
+    calls.extend(reads_about(130));
+    calls.extend(on(2, &[Opcode::IntoBuf, Opcode::IntoString]));
+    calls
+}
+
+/// Cuts a string of `length` units from the end, about each multiple of `SPACING` above `least` and to `least`, and appends a unit
+/// after each cut.
+fn cuts(length: usize, least: usize) -> Vec<Call> {
+    let multiples = (0..length / SPACING)
+        .rev()
+        .map(|count| SPACING * (count + 1));
+    let indexes = multiples
+        .flat_map(|edge| [edge + 1, edge, edge - 1])
+        .chain([least]);
+    let indexes = indexes.filter(|index| (least..=length).contains(index));
+    let cut = |index| {
+        [
+            number(Opcode::IndexedTruncateUnits, index),
+            number(Opcode::UnitBefore, 0xFFFF),
+            number(Opcode::IndexedPushUnit, 0xDCA9),
+            number(Opcode::IndexedUnitAt, index),
+            number(Opcode::PositionAt, index),
+            number(Opcode::IndexedTruncateUnits, index),
+        ]
+    };
+    indexes.flat_map(cut).collect()
+}
+
+/// A random script of up to 25 calls on a string that is mostly longer than some distances between marks.
+pub fn random_script(random: &mut Random) -> Vec<Call> {
+    let count = random.between(0, 255) as usize;
+    let mut calls = vec![from_units(0, &runs(random, count))];
+    let mut length = count;
+    if random.below(2) == 0 {
+        calls.push(registers(Opcode::PushWtf8, 0, 0));
+        length *= 2;
+    }
+    calls.push(Call::new(
+        Opcode::FromIllFormedUtf16,
+        vec![Operand::Register(1), operand(random, Kind::Units)],
+    ));
+    // Marks are made at once, or by the push, or not.
+    match random.below(4) {
+        0 => calls.extend(indexed(false)),
+        1 => {
+            calls.extend([call(Opcode::IndexedNew), call(Opcode::MarkUnits)]);
+            calls.extend(on(0, &[Opcode::IndexedPushWtf8]));
+        }
+        _ => calls.extend(indexed(true)),
+    }
+    for _ in 0..random.between(1, 25) {
+        calls.extend(random_calls(random, &mut length));
+    }
+    calls
+}
+
+/// One random call, or a few related ones, on an indexed string of about `length` units.
+fn random_calls(random: &mut Random, length: &mut usize) -> Vec<Call> {
+    let index = index_about(random, *length);
+    let register = random.below(4) as u8;
+    match random.below(32) {
+        0 => vec![call(Opcode::MarkUnits)],
+        1 => vec![call(Opcode::IndexedClone)],
+        2..=9 => appending(random, length),
+        10 | 11 => cutting(random, length, index),
+        12 => on(
+            register,
+            &[Opcode::IntoBuf, Opcode::IntoString, Opcode::FromBuf],
+        ),
+        13 => on(register, &[Opcode::IndexedComparisons]),
+        14 => vec![call(
+            random.pick(&[Opcode::IndexedHash, Opcode::IndexedDebug]),
+        )],
+        15 | 16 => {
+            let mut operands = vec![Operand::Number(index as u16)];
+            operands.push(operand(random, Kind::Steps));
+            vec![Call::new(Opcode::UnitsFrom, operands)]
+        }
+        17..=19 => vec![slice(register, index, end_after(random, index, *length))],
+        20..=22 => vec![copied(index, end_after(random, index, *length), &[0xD800])],
+        23..=25 => vec![number(Opcode::PositionAt, index)],
+        26..=28 => vec![number(Opcode::UnitBefore, position_about(random, index))],
+        _ => vec![number(Opcode::IndexedUnitAt, index)],
+    }
+}
+
+/// An index in a string of about `length` units or a little past it, mostly about a multiple of `SPACING` or the end.
+fn index_about(random: &mut Random, length: usize) -> usize {
+    let edge = match random.below(4) {
+        0 => return random.below(length as u64 + 3) as usize,
+        1 => length,
+        _ => SPACING * random.below((length / SPACING) as u64 + 1) as usize,
+    };
+    (edge + random.below(5) as usize).saturating_sub(2)
+}
+
+/// An index at or, seldom, before another one.
+fn end_after(random: &mut Random, index: usize, length: usize) -> usize {
+    match random.below(8) {
+        0 => index_about(random, length),
+        1 => length,
+        2 => index + SPACING,
+        _ => index + random.below(6) as usize,
+    }
+}
+
+/// A position about that of an index, if the units before it have one, two or three bytes each.
+fn position_about(random: &mut Random, index: usize) -> usize {
+    (index * random.between(1, 3) as usize + random.below(3) as usize).saturating_sub(1)
+}
+
+/// A call that appends, or reserves. Adds the number of units to `length`.
+fn appending(random: &mut Random, length: &mut usize) -> Vec<Call> {
+    let opcode = random.pick(&[
+        Opcode::IndexedReserve,
+        Opcode::IndexedPush,
+        Opcode::IndexedPush,
+        Opcode::IndexedPushUnit,
+        Opcode::IndexedPushChar,
+        Opcode::IndexedPushStr,
+        Opcode::IndexedPushUnits,
+        Opcode::IndexedPushUnits,
+        Opcode::IndexedPushWtf8,
+    ]);
+    let call = match opcode {
+        Opcode::IndexedPushWtf8 => on(1, &[opcode]).remove(0),
+        Opcode::IndexedPushUnits if *length < LONGEST && random.below(3) == 0 => {
+            let count = random.between(1, 255) as usize;
+            units_of(opcode, &runs(random, count))
+        }
+        Opcode::IndexedPushUnit => number(opcode, usize::from(generate::unit(random))),
+        _ => generate::call_of(random, opcode),
+    };
+    *length += match &call.operands[0] {
+        Operand::Units(units) => units.len(),
+        Operand::Text(text) => text.encode_utf16().count(),
+        _ => 1,
+    };
+    vec![call]
+}
+
+/// A call that truncates the string, mostly not far from its end.
+fn cutting(random: &mut Random, length: &mut usize, index: usize) -> Vec<Call> {
+    match random.below(8) {
+        0 => {
+            *length = 0;
+            let mut calls = vec![call(Opcode::IndexedClear)];
+            calls.extend(appending(random, length));
+            calls
+        }
+        1 | 2 => vec![number(
+            Opcode::IndexedTruncate,
+            position_about(random, index),
+        )],
+        _ => {
+            let back = random.below(*length as u64 + 1) as usize;
+            let cut = match random.below(2) {
+                0 => length.saturating_sub(back % 140),
+                _ => index,
+            };
+            *length = cut.min(*length);
+            vec![number(Opcode::IndexedTruncateUnits, cut)]
+        }
+    }
+}
+
+/// The units of the worked examples: "a" and a pair.
+const EXAMPLE: [u16; 3] = [0x61, 0xD83D, 0xDCA9];
+
+/// Worked examples, each a short script on its own input. `gate/worked_examples.txt` has the calls and the result of each
+/// in words.
+pub fn worked() -> Vec<Vec<Call>> {
+    let made = || {
+        let mut calls = vec![from_units(0, &EXAMPLE)];
+        calls.extend(indexed(false));
+        calls
+    };
+    let after = |more: Vec<Call>| [made(), more].concat();
+    let lead = || vec![from_units(0, &[0xD83D]), from_units(1, &[0xDCA9])];
+    let to_lead = |more: Call| [lead(), indexed(false), vec![more]].concat();
+    let text = Operand::Text("\u{E9}".to_owned());
+    let mut scripts = vec![
+        after(vec![call(Opcode::IndexedNew)]),
+        [pushed(0, &[]), vec![number(Opcode::IndexedWithCapacity, 4)]].concat(),
+        [
+            pushed(0, &[]),
+            vec![units_of(Opcode::IndexedFromUnits, &EXAMPLE)],
+        ]
+        .concat(),
+        made(),
+        after(vec![
+            call(Opcode::IndexedClone),
+            number(Opcode::IndexedUnitAt, 2),
+        ]),
+        after(vec![
+            call(Opcode::MarkUnits),
+            number(Opcode::IndexedUnitAt, 2),
+        ]),
+        after(vec![number(Opcode::IndexedReserve, 100)]),
+        to_lead(value(Opcode::IndexedPush, 0xDCA9)),
+        to_lead(number(Opcode::IndexedPushUnit, 0xDCA9)),
+        to_lead(value(Opcode::IndexedPushChar, 0x1F4A9)),
+        to_lead(value(Opcode::IndexedPushChar, 0xDCA9)),
+        to_lead(Call::new(Opcode::IndexedPushStr, vec![text])),
+        to_lead(units_of(Opcode::IndexedPushUnits, &[0xDCA9, 0xD83D])),
+        to_lead(on(1, &[Opcode::IndexedPushWtf8]).remove(0)),
+        after(vec![
+            number(Opcode::IndexedTruncate, 1),
+            number(Opcode::UnitBefore, 9),
+        ]),
+        after(vec![number(Opcode::IndexedTruncate, 2)]),
+        after(vec![number(Opcode::IndexedTruncateUnits, 2)]),
+        after(vec![number(Opcode::IndexedTruncateUnits, 4)]),
+        after(vec![
+            call(Opcode::IndexedClear),
+            number(Opcode::IndexedUnitAt, 0),
+        ]),
+        after(
+            (0..4)
+                .map(|index| number(Opcode::IndexedUnitAt, index))
+                .collect(),
+        ),
+        after(vec![slice(1, 0, 2), slice(1, 2, 3)]),
+        after(vec![slice(1, 2, 1)]),
+        after(vec![copied(1, 2, &[0x62])]),
+        after(vec![copied(1, 4, &[])]),
+        after(vec![units_from(2, &[Step::Next, Step::SizeHint])]),
+        after(vec![units_from(4, &[])]),
+        after(
+            (0..5)
+                .map(|index| number(Opcode::PositionAt, index))
+                .collect(),
+        ),
+        after(
+            [0, 1, 2, 4, 5, 6]
+                .map(|position| number(Opcode::UnitBefore, position))
+                .to_vec(),
+        ),
+        after(on(0, &[Opcode::IndexedComparisons])),
+        [
+            vec![from_units(1, &[0xFFFF])],
+            after(on(1, &[Opcode::IndexedComparisons])),
+        ]
+        .concat(),
+        after(vec![call(Opcode::IndexedHash)]),
+        after(vec![call(Opcode::IndexedDebug)]),
+        after(
+            [
+                on(1, &[Opcode::IntoBuf, Opcode::IntoString]),
+                vec![number(Opcode::IndexedUnitAt, 0)],
+            ]
+            .concat(),
+        ),
+    ];
+    scripts.extend(JOINING.map(pushed_from_each_index));
+    scripts
+}

@@ -1,0 +1,248 @@
+// The calls on the indexed string.
+use crate::comparing::write_comparisons;
+use crate::iterators::write_steps;
+use crate::machine::Machine;
+use crate::opcodes::{
+    AppendIndexed, ChangeIndexed, CutIndexed, IndexedCall, MakeIndexed, ReadIndexed,
+};
+use crate::recorder::write_hash_input;
+use crate::stop::{Stop, allocated};
+use crate::tape::Tape;
+use crate::views::{write_all_units, write_slice};
+use std::alloc::Global;
+use std::mem;
+use unit_text::IndexedBuf;
+use wtf8::Wtf8Buf;
+
+impl Machine {
+    /// Runs a call, whose operands come next in the script, and writes what it returns.
+    pub fn run_indexed(&mut self, call: IndexedCall, tape: &mut Tape<'_>) -> Result<(), Stop> {
+        match call {
+            IndexedCall::Change(call) => {
+                self.change_indexed(call, tape)?;
+                tape.write_indexed(&self.indexed)
+            }
+            IndexedCall::Read(call) => self.write_indexed_results(call, tape),
+            IndexedCall::IntoBuf => self.take_indexed(tape),
+            IndexedCall::PushSlice => self.push_indexed_slice(tape),
+        }
+    }
+
+    /// Runs a call that changes the indexed string.
+    fn change_indexed(&mut self, call: ChangeIndexed, tape: &mut Tape<'_>) -> Result<(), Stop> {
+        match call {
+            ChangeIndexed::Make(call) => self.indexed = self.make_indexed(call, tape)?,
+            ChangeIndexed::Append(call) => return append(&mut self.indexed, call, tape),
+            ChangeIndexed::PushWtf8 => return self.push_to_indexed(tape),
+            ChangeIndexed::Cut(call) => return cut(&mut self.indexed, call, tape),
+            ChangeIndexed::Mark => self.indexed.mark_units(tape.alloc),
+        }
+        Ok(())
+    }
+
+    /// Makes the string that replaces the indexed one.
+    fn make_indexed(
+        &self,
+        call: MakeIndexed,
+        tape: &mut Tape<'_>,
+    ) -> Result<IndexedBuf<Global>, Stop> {
+        match call {
+            MakeIndexed::New => Ok(IndexedBuf::new(tape.alloc)),
+            MakeIndexed::WithCapacity => with_capacity(tape),
+            MakeIndexed::FromUnits => from_units(tape),
+            MakeIndexed::FromBuf => self.indexed_string(tape),
+            MakeIndexed::Clone => allocated(self.indexed.clone()),
+        }
+    }
+
+    /// `from_buf` of a clone of a string.
+    fn indexed_string(&self, tape: &mut Tape<'_>) -> Result<IndexedBuf<Global>, Stop> {
+        Ok(IndexedBuf::from_buf(self.copy(tape)?))
+    }
+
+    /// `push_wtf8` of a clone of a string.
+    fn push_to_indexed(&mut self, tape: &mut Tape<'_>) -> Result<(), Stop> {
+        let piece = self.copy(tape)?;
+        allocated(self.indexed.push_wtf8(piece.as_wtf8()))
+    }
+
+    /// `into_buf`: the result becomes the string of a register.
+    fn take_indexed(&mut self, tape: &mut Tape<'_>) -> Result<(), Stop> {
+        let at = tape.reader.register()?;
+        let indexed = mem::replace(&mut self.indexed, IndexedBuf::new(tape.alloc));
+        self.strings[at.index] = indexed.into_buf();
+        tape.write_string(at, self.view(at))
+    }
+
+    /// `slice_units`: writes the slice, appends it to the string of a register, and writes this string.
+    fn push_indexed_slice(&mut self, tape: &mut Tape<'_>) -> Result<(), Stop> {
+        let at = tape.reader.register()?;
+        let mut string = mem::replace(&mut self.strings[at.index], Wtf8Buf::new(tape.alloc));
+        let pushed = push_slice(&self.indexed, &mut string, tape);
+        self.strings[at.index] = string;
+        pushed?;
+        tape.write_string(at, self.view(at))
+    }
+
+    /// Runs a call that reads the indexed string, and writes what it returns.
+    fn write_indexed_results(&self, call: ReadIndexed, tape: &mut Tape<'_>) -> Result<(), Stop> {
+        let string = &self.indexed;
+        match call {
+            ReadIndexed::UnitAt => {
+                let index = tape.reader.number()?;
+                tape.write_found("unit", string.unit_at(index))
+            }
+            ReadIndexed::CopyUnits => write_copied_units(tape, string),
+            ReadIndexed::UnitsFrom => write_units_from(tape, string),
+            ReadIndexed::PositionAt => write_position(tape, string),
+            ReadIndexed::UnitBefore => {
+                let position = tape.reader.number()?;
+                writeln!(tape, "units before {}", string.unit_before(position))
+            }
+            ReadIndexed::Comparisons => {
+                let other = self.indexed_string(tape)?;
+                write_comparisons(tape, "indexed", string, &other)
+            }
+            ReadIndexed::Hash => write_hash_input(tape, string),
+            ReadIndexed::Debug => write_debug_text(tape, string),
+        }
+    }
+}
+
+/// `with_capacity`: writes whether the capacity is at least the requested one.
+fn with_capacity(tape: &mut Tape<'_>) -> Result<IndexedBuf<Global>, Stop> {
+    let capacity = tape.reader.number()?;
+    let string = allocated(IndexedBuf::with_capacity(tape.alloc, capacity))?;
+    tape.write_room(string.capacity() - string.as_wtf8().len(), capacity)?;
+    Ok(string)
+}
+
+/// `from_units`.
+fn from_units(tape: &mut Tape<'_>) -> Result<IndexedBuf<Global>, Stop> {
+    let count = usize::from(tape.reader.byte()?);
+    let units = tape.reader.units(tape.alloc, count)?;
+    allocated(IndexedBuf::from_units(tape.alloc, units.as_slice()))
+}
+
+/// Runs a call that appends to the indexed string, or `reserve`.
+fn append(
+    string: &mut IndexedBuf<Global>,
+    call: AppendIndexed,
+    tape: &mut Tape<'_>,
+) -> Result<(), Stop> {
+    match call {
+        AppendIndexed::Reserve => reserve(string, tape),
+        AppendIndexed::Push => allocated(string.push(tape.reader.point()?)),
+        AppendIndexed::PushUnit => allocated(string.push_unit(tape.reader.unit()?)),
+        AppendIndexed::PushChar => allocated(string.push_char(tape.reader.character()?)),
+        AppendIndexed::PushStr => allocated(string.push_str(tape.reader.text()?)),
+        AppendIndexed::PushUnits => push_units(string, tape),
+    }
+}
+
+/// `reserve`: writes whether the spare capacity is at least the requested one.
+fn reserve(string: &mut IndexedBuf<Global>, tape: &mut Tape<'_>) -> Result<(), Stop> {
+    let additional = tape.reader.number()?;
+    allocated(string.reserve(additional))?;
+    tape.write_room(string.capacity() - string.as_wtf8().len(), additional)
+}
+
+/// `push_units`.
+fn push_units(string: &mut IndexedBuf<Global>, tape: &mut Tape<'_>) -> Result<(), Stop> {
+    let count = usize::from(tape.reader.byte()?);
+    let units = tape.reader.units(tape.alloc, count)?;
+    allocated(string.push_units(units.as_slice()))
+}
+
+/// `truncate`, `truncate_units` and `clear`: writes whether the capacity was unchanged.
+fn cut(string: &mut IndexedBuf<Global>, call: CutIndexed, tape: &mut Tape<'_>) -> Result<(), Stop> {
+    let capacity = string.capacity();
+    match call {
+        CutIndexed::Truncate => truncate(string, tape)?,
+        CutIndexed::TruncateUnits => truncate_units(string, tape)?,
+        CutIndexed::Clear => string.clear(),
+    }
+    tape.write_kept(string.capacity() == capacity)
+}
+
+/// `truncate`.
+fn truncate(string: &mut IndexedBuf<Global>, tape: &mut Tape<'_>) -> Result<(), Stop> {
+    let position = tape.reader.number()?;
+    if !string.as_wtf8().is_code_point_boundary(position) {
+        return Err(Stop::Refused);
+    }
+    string.truncate(position);
+    Ok(())
+}
+
+/// `truncate_units`.
+fn truncate_units(string: &mut IndexedBuf<Global>, tape: &mut Tape<'_>) -> Result<(), Stop> {
+    let count = tape.reader.number()?;
+    if string.unit_len() < count {
+        return Err(Stop::Refused);
+    }
+    string.truncate_units(count);
+    Ok(())
+}
+
+/// `slice_units`: writes the slice, and appends it to a string.
+fn push_slice(
+    indexed: &IndexedBuf<Global>,
+    string: &mut Wtf8Buf<Global>,
+    tape: &mut Tape<'_>,
+) -> Result<(), Stop> {
+    let begin = tape.reader.number()?;
+    let end = tape.reader.number()?;
+    if end < begin || indexed.unit_len() < end {
+        return Err(Stop::Refused);
+    }
+    let slice = indexed.slice_units(begin, end);
+    write_slice(tape, slice)?;
+    allocated(string.push_unit_slice(slice))
+}
+
+/// `copy_units` to zeros, one for each unit, with units of the script after them: writes all units of the slice.
+fn write_copied_units(tape: &mut Tape<'_>, string: &IndexedBuf<Global>) -> Result<(), Stop> {
+    let begin = tape.reader.number()?;
+    let end = tape.reader.number()?;
+    let count = usize::from(tape.reader.byte()?);
+    let after = tape.reader.units(tape.alloc, count)?;
+    if end < begin || string.unit_len() < end {
+        return Err(Stop::Refused);
+    }
+    let mut units = Vec::new(tape.alloc);
+    allocated(units.resize(end - begin, 0))?;
+    allocated(units.extend_from_slice(after.as_slice()))?;
+    if units.len() < end - begin {
+        return Err(Stop::Refused);
+    }
+    string.copy_units(begin, end, &mut units);
+    tape.write_word("copied")?;
+    write_all_units(tape, units.as_slice())
+}
+
+/// `units_from`: writes the steps of the iterator.
+fn write_units_from(tape: &mut Tape<'_>, string: &IndexedBuf<Global>) -> Result<(), Stop> {
+    let index = tape.reader.number()?;
+    if string.unit_len() < index {
+        let _ = tape.reader.bytes()?;
+        return Err(Stop::Refused);
+    }
+    tape.write_word("units from")?;
+    write_steps(tape, string.units_from(index))
+}
+
+/// `position_at`: writes the position.
+fn write_position(tape: &mut Tape<'_>, string: &IndexedBuf<Global>) -> Result<(), Stop> {
+    let index = tape.reader.number()?;
+    if string.unit_len() < index {
+        return Err(Stop::Refused);
+    }
+    writeln!(tape, "position {}", string.position_at(index))
+}
+
+/// Writes the bytes of the debug text.
+fn write_debug_text(tape: &mut Tape<'_>, string: &IndexedBuf<Global>) -> Result<(), Stop> {
+    let text = allocated(format!(in tape.alloc; "{string:?}"))?;
+    tape.write_text("indexed", text.as_str())
+}
