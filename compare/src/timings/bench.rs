@@ -18,7 +18,7 @@ use crate::timings::inputs::{self, Input};
 use crate::timings::simdutf;
 
 /// The loops over strings, by their numbers in the proved library's exports.
-const LOOPS: [(u32, &str); 21] = [
+const LOOPS: [(u32, &str); 25] = [
     (1, "from_ill_formed_utf16"),
     (2, "to_ill_formed_utf16, collected"),
     (3, "to_ill_formed_utf16, summed"),
@@ -40,6 +40,10 @@ const LOOPS: [(u32, &str); 21] = [
     (19, "clone and truncate_units"),
     (20, "append_units"),
     (21, "UnitText, push of each unit"),
+    (26, "push_ill_formed_utf16"),
+    (27, "write_units"),
+    (28, "IndexedBuf, unit_at, middle"),
+    (29, "IndexedBuf, copy_units, middle half"),
 ];
 
 /// The loops that compare two strings.

@@ -10,14 +10,18 @@ use crate::timings::inputs::LINE_END;
 /// The number of equal strings that a loop cycles through.
 const STRINGS: usize = 4;
 
-/// The number of the first loop over the lines among the units.
+/// The numbers of the loops over the lines among the units.
 const FIRST_OF_LINES: u32 = 24;
+const LAST_OF_LINES: u32 = 25;
 
 /// Declares a module with the loops over one crate's strings. Its arguments are what the crates name differently.
 macro_rules! column {
     ($module:ident, $path:path, $from_units:ident, $units:ident, $is_text:ident) => {
         pub mod $module {
-            use super::{black_box, hex_dump, BTreeMap, FIRST_OF_LINES, LINE_END, STRINGS};
+            use super::{
+                black_box, copied, hex_dump, BTreeMap, FIRST_OF_LINES, LAST_OF_LINES, LINE_END,
+                STRINGS,
+            };
             use $path::{CodePoint, Wtf8, Wtf8Buf};
 
             pub struct Bench {
@@ -46,7 +50,7 @@ macro_rules! column {
                         let string = Wtf8Buf::$from_units(others);
                         bench.others = Some(std::array::from_fn(|_| string.clone()));
                     }
-                    if FIRST_OF_LINES <= number {
+                    if (FIRST_OF_LINES..=LAST_OF_LINES).contains(&number) {
                         let lines = units.split(|unit| *unit == LINE_END);
                         bench.lines = lines.map(|line| Wtf8Buf::$from_units(line)).collect();
                     }
@@ -109,7 +113,7 @@ macro_rules! column {
                         15 => Some(sum(rounds, |round| {
                             self.string_at(round).$units().count() as u64
                         })),
-                        16 => Some(sum(rounds, |round| {
+                        16 | 28 => Some(sum(rounds, |round| {
                             let unit = self.string_at(round).$units().nth(self.units.len() / 2);
                             unit.map_or(0, u64::from)
                         })),
@@ -131,6 +135,9 @@ macro_rules! column {
                         })),
                         24 => Some(sum(rounds, |_| self.sort())),
                         25 => Some(self.look_up(rounds)),
+                        26 => Some(self.push_to_emptied(rounds)),
+                        27 => Some(self.write_units(rounds)),
+                        29 => Some(self.copy_units(rounds)),
                         _ => None,
                     }
                 }
@@ -149,6 +156,43 @@ macro_rules! column {
                     let units = self.string_at(round).$units();
                     let units: Vec<u16> = units.skip(begin).take(count).collect();
                     black_box(Wtf8Buf::$from_units(&units)).len() as u64
+                }
+
+                /// Copies all units to a slice, in each round. The sum of their numbers, and of the units in the middle of
+                /// the slice.
+                #[inline(never)]
+                fn write_units(&self, rounds: u32) -> u64 {
+                    let mut out = vec![0; self.units.len()];
+                    sum(rounds, |round| {
+                        copied(&mut out, self.string_at(round).$units())
+                    })
+                }
+
+                /// Copies the middle half of the units to a slice, in each round. The sum of their numbers, and of the
+                /// units in their middle.
+                #[inline(never)]
+                fn copy_units(&self, rounds: u32) -> u64 {
+                    let begin = self.units.len() / 4;
+                    let count = self.units.len() - 2 * begin;
+                    let mut out = vec![0; self.units.len()];
+                    sum(rounds, |round| {
+                        let units = self.string_at(round).$units();
+                        copied(&mut out, units.skip(begin).take(count))
+                    })
+                }
+
+                /// The sum of the lengths of a string that is emptied and to which all units are pushed, each as a code
+                /// point, in each round.
+                #[inline(never)]
+                fn push_to_emptied(&self, rounds: u32) -> u64 {
+                    let mut string = Wtf8Buf::new();
+                    sum(rounds, |_| {
+                        string.truncate(0);
+                        for unit in black_box(&self.units) {
+                            string.push(CodePoint::from_u32(u32::from(*unit)).unwrap());
+                        }
+                        black_box(&string).len() as u64
+                    })
                 }
 
                 #[inline(never)]
@@ -204,11 +248,23 @@ macro_rules! column {
 
             /// Each loop is a function of its own, so that the address of its code does not depend on the other loops.
             #[inline(never)]
-            fn sum(rounds: u32, call: impl Fn(u32) -> u64) -> u64 {
+            fn sum(rounds: u32, mut call: impl FnMut(u32) -> u64) -> u64 {
                 (0..rounds).fold(0, |sum, round| sum.wrapping_add(call(round)))
             }
         }
     };
+}
+
+/// Copies units to the front of a slice. Returns their number plus the unit in their middle.
+#[inline(always)]
+fn copied(out: &mut [u16], units: impl Iterator<Item = u16>) -> u64 {
+    let mut count = 0;
+    for (slot, unit) in out.iter_mut().zip(units) {
+        *slot = unit;
+        count += 1;
+    }
+    let middle = black_box(&*out).get(count / 2);
+    count as u64 + middle.copied().map_or(0, u64::from)
 }
 
 /// The bytes of a string in hexadecimal. Neither crate has such a call: this is what their users can write, with the

@@ -1,11 +1,11 @@
 //! A string with indexes in code units, for the timed loops.
-ghost use Rattle.std.specs.Prelude.{◌≤◌, length};
+ghost use Rattle.std.specs.Prelude.{◌≡◌, ◌≤◌, length};
 
 use std::alloc::{AllocError, Global};
 use wtf8::{UnitSlice, Wtf8, Wtf8Buf};
 
-/// A string, and indexes of its code units: its middle, and where its middle half begins and ends. `len` makes 64 bytes
-/// of the struct, so that a loop indexes an array of them by a shift.
+/// A string, and indexes of its code units: its middle, and where its middle half begins and ends. With `len` the
+/// struct has 64 bytes, so that a loop indexes an array of them by a shift.
 #[derive(Drop)]
 pub struct Counted {
     pub string: Wtf8Buf<Global>,
@@ -13,6 +13,7 @@ pub struct Counted {
     middle: usize,
     begin: usize,
     end: usize,
+    ghost counted: { len ≡ length string.units },
     ghost middle_within: { middle ≤ length string.units },
     ghost order: { begin ≤ end },
     ghost end_within: { end ≤ length string.units },
@@ -42,6 +43,14 @@ impl Counted {
         self.view().unit_at(self.middle).unwrap_or(0)
     }
 
+    /// Writes the units to a slice that has room, and returns their number; 0 without room.
+    pub fn write_units(&self, out: &mut [u16]) -> usize {
+        if out.len() < self.len {
+            return 0;
+        }
+        self.string.as_wtf8().write_units(out)
+    }
+
     /// A string of the units without a quarter at each end.
     pub fn middle_half(&self, alloc: Global) -> Result<Wtf8Buf<Global>, AllocError> {
         let view = self.string.as_wtf8();
@@ -59,17 +68,6 @@ impl Counted {
 /// A string of the units of a slice.
 fn string_of(alloc: Global, slice: UnitSlice<'_>) -> Result<Wtf8Buf<Global>, AllocError> {
     let mut string = Wtf8Buf::new(alloc);
-    push_half(&mut string, slice.trail)?;
-    string.push_wtf8(slice.whole)?;
-    push_half(&mut string, slice.lead)?;
+    string.push_unit_slice(slice)?;
     Ok(string)
-}
-
-/// Appends half of a surrogate pair, if there is one.
-#[inline(always)]
-fn push_half(string: &mut Wtf8Buf<Global>, half: Option<u16>) -> Result<(), AllocError> {
-    match half {
-        Some(unit) => string.push_unit(unit),
-        None => Ok(()),
-    }
 }

@@ -45,7 +45,7 @@ pub extern "C" fn compare_exports_run(alloc: Global, script: &[u8], out: &mut [u
 }
 
 /// Makes equal strings of `units` and, unless `others` is empty, strings of `others` to compare them with. Runs loop
-/// `number`, 1 to 25, for `rounds` rounds, and writes to `sum` a checksum of what its calls returned, modulo 2^64. With
+/// `number`, 1 to 29, for `rounds` rounds, and writes to `sum` a checksum of what its calls returned, modulo 2^64. With
 /// 0 rounds it only makes what the loop works on. Loops 24 and 25 work on the lines among the units.
 ///
 /// Returns 0, or, with `sum` unchanged, -1 if no loop has the number or -2 if memory was refused.
@@ -60,7 +60,7 @@ pub extern "C" fn compare_exports_time(
 ) -> i64
     ensures code { (result ≡ pos 0) ⊎ ((result ≡ NO_LOOP) ⊎ (result ≡ MEMORY)) }
     ensures kept { result <ℤ pos 0 → sum.new ≡ sum.old }
-    ensures no_loop { (result ≡ NO_LOOP) ↔ ((number ≡ 0) ⊎ (25 < number)) }
+    ensures no_loop { (result ≡ NO_LOOP) ↔ ((number ≡ 0) ⊎ (29 < number)) }
 {
     if number == 0 || LAST < number {
         return NO_LOOP;

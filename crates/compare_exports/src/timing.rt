@@ -8,7 +8,7 @@ use crate::texts::pushed;
 use std::alloc::{AllocError, Global};
 use std::array;
 use std::collections::BTreeMap;
-use unit_text::UnitText;
+use unit_text::{IndexedBuf, UnitText};
 use wtf8::{CodePoint, Wtf8, Wtf8Buf};
 
 /// The number of equal strings that a loop cycles through.
@@ -17,8 +17,11 @@ pub const STRINGS: usize = 4;
 /// The number of the first loop over the lines among the units.
 const FIRST_OF_LINES: u32 = 24;
 
+/// The number of the last loop over the lines among the units.
+const LAST_OF_LINES: u32 = 25;
+
 /// The number of the last loop.
-pub const LAST: u32 = 25;
+pub const LAST: u32 = 29;
 
 /// The unit that ends a line.
 const LINE_END: u16 = 0x0A;
@@ -61,7 +64,7 @@ impl Bench {
             let string = Wtf8Buf::from_ill_formed_utf16(alloc, others)?;
             bench.others = Some(equal_strings(&string)?);
         }
-        if FIRST_OF_LINES <= number {
+        if FIRST_OF_LINES <= number && number <= LAST_OF_LINES {
             bench.lines = lines(alloc, units)?;
         }
         Ok(bench)
@@ -70,7 +73,7 @@ impl Bench {
     /// Runs a loop, and returns a checksum of what its calls returned.
     pub fn run(&self, number: u32) -> Result<u64, AllocError>
         requires least { 0 < number }
-        requires most { number ≤ 25 }
+        requires most { number ≤ 29 }
     {
         match number {
             1 => self.sum::<1>(),
@@ -98,6 +101,10 @@ impl Bench {
             23 => self.sum::<23>(),
             24 => self.sort(),
             25 => self.look_up(),
+            26 => self.push_units(),
+            27 => self.write_units(),
+            28 => self.units_of_indexed(),
+            29 => self.copy_units_of_indexed(),
             _ => unreachable!(),
         }
     }
@@ -214,6 +221,73 @@ impl Bench {
         Ok(sum)
     }
 
+    /// The sum of the lengths of a string that is emptied and to which all units are pushed at once, in each round.
+    #[inline(never)]
+    fn push_units(&self) -> Result<u64, AllocError> {
+        let mut string = Wtf8Buf::new(self.alloc);
+        let mut sum = 0u64;
+        for _ in 0..self.rounds {
+            string.clear();
+            string.push_ill_formed_utf16(self.units.as_slice())?;
+            sum = sum.wrapping_add(string.len() as u64);
+        }
+        Ok(sum)
+    }
+
+    /// The sum of the numbers of units that are written to a slice, and of the units in its middle, in each round.
+    #[inline(never)]
+    fn write_units(&self) -> Result<u64, AllocError> {
+        let mut out = self.slice_for_units()?;
+        let mut sum = 0u64;
+        for round in 0..self.rounds {
+            let count = self.string_at(round).write_units(&mut out);
+            sum = sum.wrapping_add(count as u64);
+            sum = sum.wrapping_add(unit_of(&out, count / 2));
+        }
+        Ok(sum)
+    }
+
+    /// The sum of the units in the middle of strings with marks, one in each round.
+    #[inline(never)]
+    fn units_of_indexed(&self) -> Result<u64, AllocError> {
+        let strings = self.indexed_strings()?;
+        let mut sum = 0u64;
+        for round in 0..self.rounds {
+            let string = &strings[round as usize % STRINGS];
+            let unit = string.unit_at(string.unit_len() / 2);
+            sum = sum.wrapping_add(u64::from(unit.unwrap_or(0)));
+        }
+        Ok(sum)
+    }
+
+    /// The sum of the numbers of units in the middle half of strings with marks, and of the units in the middle of the
+    /// slice to which they are copied, in each round.
+    #[inline(never)]
+    fn copy_units_of_indexed(&self) -> Result<u64, AllocError> {
+        let strings = self.indexed_strings()?;
+        let mut out = self.slice_for_units()?;
+        let mut sum = 0u64;
+        for round in 0..self.rounds {
+            let count = copied(&strings[round as usize % STRINGS], &mut out);
+            sum = sum.wrapping_add(count as u64);
+            sum = sum.wrapping_add(unit_of(&out, count / 2));
+        }
+        Ok(sum)
+    }
+
+    /// Zeros, one for each unit.
+    fn slice_for_units(&self) -> Result<Vec<u16>, AllocError> {
+        let mut out = Vec::new(self.alloc);
+        out.resize(self.units.len(), 0)?;
+        Ok(out)
+    }
+
+    /// The strings, with marks.
+    fn indexed_strings(&self) -> Result<[IndexedBuf<Global>; STRINGS], AllocError> {
+        let (alloc, string) = (self.alloc, &self.strings[0].string);
+        array::try_from_fn(|_| indexed(alloc, string))
+    }
+
     /// Pushes each round's string, to a new string every 64 rounds. Returns the length of the last string.
     #[inline(never)]
     fn push_strings(&self) -> Result<u64, AllocError> {
@@ -257,6 +331,31 @@ fn grown_text(alloc: Global, units: &[u16]) -> Result<u64, AllocError> {
         text.push(*unit)?;
     }
     Ok(text.as_wtf8().len() as u64)
+}
+
+/// A copy of a string, with marks.
+fn indexed(alloc: Global, string: &Wtf8Buf<Global>) -> Result<IndexedBuf<Global>, AllocError> {
+    let mut indexed = IndexedBuf::from_buf(string.clone()?);
+    indexed.mark_units(alloc);
+    Ok(indexed)
+}
+
+/// Copies the middle half of a string's units to a slice that has room, and returns their number; 0 without room.
+#[inline(always)]
+fn copied(string: &IndexedBuf<Global>, out: &mut [u16]) -> usize {
+    let begin = string.unit_len() / 4;
+    let end = string.unit_len() - begin;
+    if out.len() < end - begin {
+        return 0;
+    }
+    string.copy_units(begin, end, out);
+    end - begin
+}
+
+/// The unit of a slice at an index, 0 past its end.
+#[inline(always)]
+fn unit_of(units: &[u16], index: usize) -> u64 {
+    u64::from(units.get(index).copied().unwrap_or(0))
 }
 
 /// The number of units of a view, by `append_units`.
