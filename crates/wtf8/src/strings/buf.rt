@@ -446,8 +446,8 @@ impl<A: Allocator> Wtf8Buf<A> {
 
     /// Shortens the string to `n` code units, which must be at most the number of code units. If that splits a
     /// surrogate pair, its lead stays as a lone surrogate: three bytes in place of four. Does not allocate. Linear in
-    /// `n`: units are counted from the front each time. To cut units off the end again and again, `truncate` to the
-    /// position of a mark that `mark_at` finds from one shortly before it.
+    /// `n`: units are counted from the front each time. To cut units off the end again and again, take
+    /// `truncate_units_at` with the mark that `mark_back` finds from the end.
     pub fn truncate_units(&mut self, n: usize)
         requires { n ≤ length self.old.units }
         ensures units { self.new.units ≡ take n self.old.units }
