@@ -143,3 +143,26 @@ fn all_units_are_appended_and_written(rt: HostRuntime) -> Result<(), Wrong> {
     }
     Ok(())
 }
+
+/// Fails unless lists of `length` times `unit` come back with each of `others` written over them: about 64, 96 or 192
+/// units before the end, which is where `write_units` begins to count the units of a long string of each encoded length.
+fn expect_long_back(alloc: Global, unit: u16, length: usize) -> Result<(), Wrong> {
+    for distance in [62, 63, 64, 65, 95, 96, 97, 191, 192, 193] {
+        let at = length.saturating_sub(distance);
+        for other in others() {
+            expect_units_back(alloc, overwritten(alloc, unit, length, other, at))?;
+        }
+    }
+    Ok(())
+}
+
+#[test]
+fn units_of_long_strings_are_appended_and_written(rt: HostRuntime) -> Result<(), Wrong> {
+    let alloc = rt.alloc();
+    for unit in [0x0061, 0x0080, 0x0800, 0xD7FF, 0xD800, 0xDFFF] {
+        for length in [127, 128, 400] {
+            expect_long_back(alloc, unit, length)?;
+        }
+    }
+    Ok(())
+}

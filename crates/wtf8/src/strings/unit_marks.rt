@@ -109,7 +109,7 @@ impl<'a> Wtf8<'a> {
     }
 
     /// Goes back at most three bytes, since a code point has at most three continuation bytes.
-    fn boundary_before(&self, position: usize) -> usize
+    pub(crate) fn boundary_before(&self, position: usize) -> usize
         requires { position ≤ length self.now.bytes.now }
         ensures boundary { IsBoundary (view_units self.now) result }
         ensures before { result ≤ position }
