@@ -397,7 +397,8 @@ impl<A: Allocator> Wtf8Buf<A> {
         pushed
     }
 
-    /// Appends the parts of a slice, one by one. If memory is refused, those before may have been appended.
+    /// Appends the parts of a slice, one by one. If memory is refused, the parts before may have been
+    /// appended.
     fn push_parts(&mut self, slice: UnitSlice<'_>) -> Result<(), AllocError>
         ensures ok { OnOk result (AppendsUnits self.old (units_of_slice slice.entry) self.new) }
         ensures some { (v : List ℕ) × AppendsUnits self.old v self.new }
@@ -459,8 +460,9 @@ impl<A: Allocator> Wtf8Buf<A> {
         self.try_truncate_units(n);
     }
 
-    /// Shortens the string to `n` code units, as `truncate_units`, without counting: `mark` is the mark that `mark_at` or
-    /// `mark_back` finds for `n`, which has `n` units before it, or one fewer if `n` splits a pair. Does not allocate.
+    /// Shortens the string to `n` code units, as `truncate_units` does, but counts none: `mark` must be the mark that
+    /// `mark_at` or `mark_back` finds for `n`, with `n` units before it, or one fewer if `n` splits a pair. Does not
+    /// allocate. Constant.
     pub fn truncate_units_at(&mut self, mark: UnitMark, n: usize)
         requires mark { IsMark self.old.bytes self.old.units mark.position mark.units }
         requires last { RoundsDownTo self.old.units n mark.units }

@@ -58,8 +58,8 @@ impl<'a> Wtf8<'a> {
         UnitMark { position, units }
     }
 
-    /// The mark with `units` code units before it, or one fewer if that splits a pair, found backwards: `from` is a mark
-    /// of this string at or after `units`. Linear in the distance from it.
+    /// The mark with `units` code units before it, or one fewer if that splits a pair. `from` must be a mark of this
+    /// string at or after `units`. Linear in the distance from it, backwards.
     pub fn mark_back(&self, from: UnitMark, units: usize) -> UnitMark
         requires mark { IsMarkOf self.now from }
         requires order { units ≤ from.units }
@@ -74,8 +74,8 @@ impl<'a> Wtf8<'a> {
         self.mark_at(start, units)
     }
 
-    /// A mark at or before `units`, from which `from` is at most four times as far as from `units`, and a code point:
-    /// three bytes are skipped for each unit, since no unit takes more.
+    /// A mark with at most `units` code units before it. Goes back three bytes for each unit, since no unit takes more,
+    /// and from there to a boundary.
     fn mark_shortly_before(&self, from: UnitMark, units: usize) -> UnitMark
         requires mark { IsMarkOf self.now from }
         requires order { units ≤ from.units }

@@ -1,12 +1,14 @@
 -- Marks: byte positions with the number of units before them.
 use Rattle.wtf8.proofs.Common.{◌≡◌, ◌+◌, ◌<◌, ◌≤◌, ℕ, List, [], ◌∷◌, ◌++◌, length, take, refl, sym, ap, ◌∙◌, subst, arith, well_formed_of}
 use Rattle.wtf8.proofs.Common.{length-append, append_assoc, take-append-drop, bytes-injective, units, bytes}
-use Rattle.wtf8.proofs.Common.{◌*◌, append-nil, encoding, form_of, Splits, IsWellFormed, IsForm, UnitCursor, glue, ◌-◌, drop, length-take-le, AreAscii}
+use Rattle.wtf8.proofs.Common.{◌*◌, append-nil, encoding, form_of, Splits, IsWellFormed, IsForm, UnitCursor, glue, ◌-◌, drop}
+use Rattle.wtf8.proofs.Common.{length-take-le, AreAscii}
 use Rattle.wtf8.proofs.Common.{take_all, length-drop, get_or, IsLead, IsTrail, IsBoundary, IsMiddle, IsFront, inl, inr, cases_lt, take_at}
 use Rattle.wtf8.proofs.Common.{drop_at, drop-append-le, All, IsUnit, MeetsAsPair, get_or-append_seam, DividesPair}
 use Rattle.std.proofs.lemmas.List.{take-append-le}
 use Rattle.wtf8.specs.PositionLaws.{EqualBoundariesHaveEqualFronts, BoundariesAreInOneOrder, BoundariesDivideNoPair}
-use Rattle.wtf8.specs.UnitMark.{IsMark, RoundsDownTo, EqualCountsAreMarks, MarksStay, MarksDivideNoPair, EqualMarksHaveEqualUnits, MarksAreInOneOrder}
+use Rattle.wtf8.specs.UnitMark.{IsMark, RoundsDownTo, EqualCountsAreMarks, MarksStay, MarksDivideNoPair, EqualMarksHaveEqualUnits}
+use Rattle.wtf8.specs.UnitMark.{MarksAreInOneOrder}
 use Rattle.wtf8.specs.UnitMark.{MarksAreFoundAgain, BoundariesAreMarks, MarksStayInFront}
 use Rattle.wtf8.proofs.lemmas.codec.Encoding.{bytes-append, bytes-pushed, encoding_cases}
 use Rattle.wtf8.proofs.lemmas.codec.Readings.{units-append, units-pushed, lists_have_lengths, units_one, units_two, same_form}
@@ -250,7 +252,8 @@ mark_before {w} h {k} {n} {end} v m x =
       front_len = x.begins.front_len;
       counted = refl;
     }) in
-    let whole : n ≡ front + length v = (same_mark w (units h.points) end end n (front + length v) (form_of h) m (mark_after h v own x)).0 refl in
+    let whole : n ≡ front + length v =
+    (same_mark w (units h.points) end end n (front + length v) (form_of h) m (mark_after h v own x)).0 refl in
     let between = lists_have_lengths x.middle in
     let before = lists_have_lengths x.front in
     let long = ap length (bytes-append x.front x.middle) ∙ length-append (bytes x.front) (bytes x.middle) in

@@ -1,4 +1,5 @@
-use Rattle.wtf8.proofs.Common.{◌≡◌, ◌∙◌, ◌+◌, ◌++◌, ap, sym, arith, length, take, drop, drop-drop, append_assoc, length-append, length-take-le}
+use Rattle.wtf8.proofs.Common.{◌≡◌, ◌∙◌, ◌+◌, ◌++◌, ap, sym, arith, length, take, drop, drop-drop, append_assoc, length-append}
+use Rattle.wtf8.proofs.Common.{length-take-le}
 use Rattle.wtf8.proofs.Common.{put_chunk_is}
 use Rattle.std.proofs.lemmas.Slice.{drop-append-drop}
 use Rattle.wtf8.proofs.lemmas.from_utf16.PackedUnits.{take-written_block}

@@ -1,4 +1,5 @@
-use Rattle.wtf8.proofs.Common.{ℕ, ◌+◌, ◌≡◌, ◌∙◌, ◌++◌, ◌∷◌, [], ap, sym, subst, arith, inl, inr, refl, length, take, drop, UnitString, units}
+use Rattle.wtf8.proofs.Common.{ℕ, ◌+◌, ◌≡◌, ◌∙◌, ◌++◌, ◌∷◌, [], ap, sym, subst, arith, inl, inr, refl, length, take, drop, UnitString}
+use Rattle.wtf8.proofs.Common.{units}
 use Rattle.wtf8.proofs.Common.{well_formed_of, form_of, IsForm, BeginsWithPoint, get_or, ◌≤◌}
 use Rattle.wtf8.proofs.lemmas.codec.Readings.{IsWellFormed-equal_bytes, same_points, units-pushed, units_one, lead_of}
 use Rattle.wtf8.proofs.lemmas.strings.Positions.{front_boundary, front_bytes, front_unique}
@@ -15,7 +16,8 @@ pub returns-then-mark-n-clause-units : goal.returns-then-mark-n-clause-units
 returns-then-mark-n-clause-units g c =
     let old = c.args.self.now in
     let front = front_of_mark old.form c.requires.mark in
-    front_unique old.units c.args.mark.position _ _ c.truncate.ensures.units front ∙ ap (λ n. take n old.units) (omega (arith, c.if-mark-n.true))
+    front_unique old.units c.args.mark.position _ _ c.truncate.ensures.units front
+    ∙ ap (λ n. take n old.units) (omega (arith, c.if-mark-n.true))
 
 pub returns-then-mark-n-clause-bytes : goal.returns-then-mark-n-clause-bytes
 returns-then-mark-n-clause-bytes g c k f =

@@ -9,4 +9,5 @@ returns-clause-rest c =
     let bytes = ap length (tail.encoded ∙ c.slice_from.ensures.bytes) ∙ length-drop position.result c.args.self.now.bytes.now in
     let many = (lists_have_lengths tail.points).units_most in
     c.write_counted-2.ensures.rest
-    ∙ c.decode_all-at.ensures.later c.write_counted-2.result (omega (arith, c.write_counted-2.ensures.index, many, bytes, position.ensures.before))
+    ∙ c.decode_all-at.ensures.later c.write_counted-2.result
+    (omega (arith, c.write_counted-2.ensures.index, many, bytes, position.ensures.before))
