@@ -1,4 +1,4 @@
-use Rattle.wtf8.proofs.Common.{subst, inl, inr, take, arith, IsForm}
+use Rattle.wtf8.proofs.Common.{subst, inl, inr, arith, IsForm}
 use Rattle.wtf8.proofs.lemmas.strings.Positions.{front_bytes}
 use Rattle.wtf8.proofs.strings.buf.Wtf8Buf.truncate_units.Goals as goal
 

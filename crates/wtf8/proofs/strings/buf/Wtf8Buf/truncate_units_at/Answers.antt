@@ -1,5 +1,4 @@
-use Rattle.wtf8.proofs.Common.{ℕ, ◌+◌, ◌≡◌, ◌∙◌, ◌++◌, ◌∷◌, [], ap, sym, subst, arith, inl, inr, refl, length, take, drop, UnitString}
-use Rattle.wtf8.proofs.Common.{units}
+use Rattle.wtf8.proofs.Common.{ℕ, ◌≡◌, ◌∙◌, ◌++◌, ◌∷◌, [], ap, sym, subst, arith, inl, inr, length, take, drop, UnitString, units}
 use Rattle.wtf8.proofs.Common.{well_formed_of, form_of, IsForm, BeginsWithPoint, get_or, ◌≤◌}
 use Rattle.wtf8.proofs.lemmas.codec.Readings.{IsWellFormed-equal_bytes, same_points, units-pushed, units_one, lead_of}
 use Rattle.wtf8.proofs.lemmas.strings.Positions.{front_boundary, front_bytes, front_unique}

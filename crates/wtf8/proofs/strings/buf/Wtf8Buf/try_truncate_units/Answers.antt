@@ -1,4 +1,4 @@
-use Rattle.wtf8.proofs.Common.{arith, subst, inl, inr, refl, cases_lt, view_units}
+use Rattle.wtf8.proofs.Common.{arith, subst, inl, inr, refl, cases_lt}
 use Rattle.wtf8.proofs.lemmas.strings.UnitCuts.{divides_some, in_pair_at, points_about_unit}
 use Rattle.wtf8.proofs.lemmas.strings.UnitMarks.{mark_at_cut, within_rounded}
 use Rattle.wtf8.specs.UnitMark.{IsMark, RoundsDownTo}
