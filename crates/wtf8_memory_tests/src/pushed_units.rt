@@ -55,8 +55,8 @@ fn with_spare<'a>(
     Ok(text)
 }
 
-/// Pushes the units after index `cut` to the string of those before it, with `spare` bytes of spare capacity and every
-/// request refused. Fails unless they are appended without a request if their bytes fit, and else change nothing.
+/// Pushes the units after index `cut` to the string of the units before it, with `spare` bytes of spare capacity and
+/// every request refused. Fails unless they are appended without a request if their bytes fit, and else change nothing.
 fn expect_pushed(
     alloc: Global,
     heap: Lent<'_>,
@@ -181,7 +181,7 @@ fn pushes<A: Allocator>(text: &mut Wtf8Buf<A>, units: &[u16], is_single: bool) -
     }
 }
 
-/// Fails unless the push, with all its requests granted, makes those of the row.
+/// Fails unless the push, with all its requests granted, makes the requests of the row.
 fn expect_granted(alloc: Global, heap: Lent<'_>, row: Row, is_single: bool) -> Result<(), Wrong> {
     let (units, dump, requests, bytes) = row;
     let mut text = full(heap)?;

@@ -5,7 +5,7 @@ use refusing::{Lent, Refusing};
 use std::alloc::{AllocError, Global};
 use wtf8::{Wtf8, Wtf8Buf};
 
-/// The units that a vector holds before the call of `append_units`, and a slice after those of `write_units`.
+/// The units of a vector before `append_units` is called, and of a slice after the written ones.
 const BEFORE: [u16; 2] = [0xDC00, 0x0061];
 
 /// Lists of units of each kind, written over or into a list of other units.
@@ -139,6 +139,29 @@ fn all_units_are_appended_and_written(rt: HostRuntime) -> Result<(), Wrong> {
             0x0061, 0x0080, 0x07FF, 0x0800, 0xFFFF, 0xD7FF, 0xD800, 0xDFFF,
         ] {
             expect_overwritten_back(alloc, unit, length)?;
+        }
+    }
+    Ok(())
+}
+
+/// Fails unless lists of `length` times `unit` come back with each of `others` written over them: about 64, 96 or 192
+/// units before the end, where `write_units` begins to count the units of a long string of each encoded length.
+fn expect_long_back(alloc: Global, unit: u16, length: usize) -> Result<(), Wrong> {
+    for distance in [62, 63, 64, 65, 95, 96, 97, 191, 192, 193] {
+        let at = length.saturating_sub(distance);
+        for other in others() {
+            expect_units_back(alloc, overwritten(alloc, unit, length, other, at))?;
+        }
+    }
+    Ok(())
+}
+
+#[test]
+fn units_of_long_strings_are_appended_and_written(rt: HostRuntime) -> Result<(), Wrong> {
+    let alloc = rt.alloc();
+    for unit in [0x0061, 0x0080, 0x0800, 0xD7FF, 0xD800, 0xDFFF] {
+        for length in [127, 128, 400] {
+            expect_long_back(alloc, unit, length)?;
         }
     }
     Ok(())

@@ -58,6 +58,37 @@ impl<'a> Wtf8<'a> {
         UnitMark { position, units }
     }
 
+    /// The mark with `units` code units before it, or one fewer if that splits a pair. `from` must be a mark of this
+    /// string at or after `units`. Linear in the distance from it, backwards.
+    pub fn mark_back(&self, from: UnitMark, units: usize) -> UnitMark
+        requires mark { IsMarkOf self.now from }
+        requires order { units ≤ from.units }
+        ensures mark { IsMarkOf self.now result }
+        ensures last { RoundsDownTo (view_units self.now) units result.units }
+        ensures exact { ¬ (DividesPair (view_units self.now) units) → result.units ≡ units }
+    {
+        let start = self.mark_shortly_before(from, units);
+        if start.units == units {
+            return start;
+        }
+        self.mark_at(start, units)
+    }
+
+    /// A mark with at most `units` code units before it. Goes back three bytes for each unit, since no unit takes more,
+    /// and from there to a boundary.
+    fn mark_shortly_before(&self, from: UnitMark, units: usize) -> UnitMark
+        requires mark { IsMarkOf self.now from }
+        requires order { units ≤ from.units }
+        ensures mark { IsMarkOf self.now result }
+        ensures order { result.units ≤ units }
+    {
+        let skipped = (from.units - units).saturating_mul(3);
+        let position = self.boundary_before(from.position.saturating_sub(skipped));
+        let more = self.slice(position, from.position).unit_len();
+        let units = from.units - more;
+        UnitMark { position, units }
+    }
+
     /// The mark at the last code point boundary at or before the byte `position`, which must be at most the length.
     /// `from` must be a mark of this string at or before `position`. Linear in the distance from it.
     pub fn mark_before(&self, from: UnitMark, position: usize) -> UnitMark
@@ -78,7 +109,7 @@ impl<'a> Wtf8<'a> {
     }
 
     /// Goes back at most three bytes, since a code point has at most three continuation bytes.
-    fn boundary_before(&self, position: usize) -> usize
+    pub(crate) fn boundary_before(&self, position: usize) -> usize
         requires { position ≤ length self.now.bytes.now }
         ensures boundary { IsBoundary (view_units self.now) result }
         ensures before { result ≤ position }

@@ -25,6 +25,16 @@ const SCRATCH_UNITS: usize = 4 * VECTOR;
 /// From this many bytes on a block of any kind can be loaded, so that the length is compared once for all kinds.
 const LONGEST_LOAD: usize = 2 * VECTOR;
 
+/// The most lanes of a vector, so the most units that one store writes.
+const MOST_LANES: usize = 64;
+
+/// The bytes at the end of a long string whose units `write_units` counts: `MOST_LANES` units or more, since a unit
+/// takes at most three. Stores of the bytes before reach no further.
+const COUNTED_BYTES: usize = 3 * MOST_LANES;
+
+/// The length in bytes from which on `write_units` counts the units of the last `COUNTED_BYTES` alone.
+const COUNTED_FROM: usize = 2 * COUNTED_BYTES;
+
 /// The part of a view that is not decoded yet, and the index at which its first unit will be written.
 #[derive(Clone, Copy)]
 struct Undecoded<'a> {
@@ -38,6 +48,7 @@ fn store_units<const N: usize>(units: &mut [u16], at: usize, block: [u16; N])
     requires lanes { N ≤ u64.BITS }
     requires room { at + N ≤ length units.old }
     ensures front { (n : ℕ) → n ≤ N → take (at + n) units.new ≡ take at units.old ++ take n block.entry }
+    ensures later { (n : ℕ) → at + N ≤ n → drop n units.new ≡ drop n units.old }
     ensures len { length units.new ≡ length units.old }
 {
     Simd::from_array(block).copy_to_slice(&mut units[at..]);
@@ -222,12 +233,14 @@ fn decode_next_of_tail<'a>(units: &mut [u16], left: Undecoded<'a>) -> Undecoded<
     }
 }
 
-/// Writes the units from index `from` on. Not inlined, so that both of its callers share the one loop.
+/// Writes the units from index `from` on, and returns the index after them. What is at this index and later, up to
+/// `MOST_LANES` units, may be overwritten. Not inlined, so that all callers share the one loop.
 #[inline(never)]
 fn decode_all(units: &mut [u16], from: usize, view: Wtf8<'_>) -> usize
     requires room { from + length (view_units view) ≤ length units.old }
     ensures units { take result units.new ≡ take from units.old ++ view_units view.entry }
     ensures index { result ≡ from + length (view_units view.entry) }
+    ensures later { (n : ℕ) → result + MOST_LANES ≤ n → drop n units.new ≡ drop n units.old }
     ensures len { length units.new ≡ length units.old }
 {
     let mut left = Undecoded { view, at: from };
@@ -267,6 +280,19 @@ fn append_counted<B: Allocator>(units: &mut Vec<u16, B>, view: Wtf8<'_>) -> Resu
     Ok(())
 }
 
+/// Writes the units from index `from` on, and changes no other. They are counted first.
+#[inline(always)]
+fn write_counted(out: &mut [u16], from: usize, view: Wtf8<'_>) -> usize
+    requires room { from + length (view_units view) ≤ length out.old }
+    ensures units { take result out.new ≡ take from out.old ++ view_units view.entry }
+    ensures rest { drop result out.new ≡ drop result out.old }
+    ensures index { result ≡ from + length (view_units view.entry) }
+    ensures len { length out.new ≡ length out.old }
+{
+    let end = from + view.unit_len();
+    decode_all(&mut out[..end], from, view)
+}
+
 impl<'a> Wtf8<'a> {
     /// Writes the 16-bit code units of the string to the front of `out`, which must have room for them, and returns
     /// their number. The rest of `out` is unchanged. There are no more units than bytes. Does not allocate. Linear in
@@ -278,8 +304,12 @@ impl<'a> Wtf8<'a> {
         ensures count { result ≡ length (view_units self.now) }
         ensures len { length out.new ≡ length out.old }
     {
-        let count = self.unit_len();
-        decode_all(&mut out[..count], 0, *self)
+        if self.len() < COUNTED_FROM {
+            return write_counted(out, 0, *self);
+        }
+        let position = self.boundary_before(self.len() - COUNTED_BYTES);
+        let at = decode_all(out, 0, self.slice_to(position));
+        write_counted(out, at, self.slice_from(position))
     }
 
     /// Appends the 16-bit code units of the string to a vector. Reserves room for them first, and does not allocate if

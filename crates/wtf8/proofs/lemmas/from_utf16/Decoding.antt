@@ -118,7 +118,8 @@ module _ {S : Type 0} (steps : S → Option ℕ → S → Type 0) where
         | inr h ↦ Drains-from_steps (peekable_steps steps) item.after next.units (units (map point_of_item items))
             (λ r u. peeked_call item.after next.units u r h) rest
       ] in
-      drains-append (peekable_steps steps) s.units item.after (units_of (point_of_item x)) (units (map point_of_item items)) item.taken after
+      drains-append (peekable_steps steps) s.units item.after (units_of (point_of_item x))
+      (units (map point_of_item items)) item.taken after
 
   pub reads_all : (items : List (Result ℕ ℕ)) (s : DecodeUtf16 S) → peekable_peeked s.units ≡ None
       → Drains (decode_steps steps) s items → ReadsAll steps (peekable_source s.units) items
@@ -187,7 +188,8 @@ pub IsFirstRead-pair : (v : List ℕ) (at : ℕ) → at + 1 < length v → IsLea
 IsFirstRead-pair v at l lead trail = grind (arith, drop_more, undivided-after_no_lead, append-nil, units_pair)
 
 -- the first code point is encoded, if its encoding is appended
-pub IsReadTo-point : {w front v : List ℕ} {at end p : ℕ} {known scalar : Bool} → IsReadTo w front v at known → at < end → IsFirstRead v at end p
+pub IsReadTo-point : {w front v : List ℕ} {at end p : ℕ} {known scalar : Bool} → IsReadTo w front v at known → at < end
+    → IsFirstRead v at end p
     → (IsTrue scalar → ¬ (IsSurrogate p)) → IsReadTo (w ++ encoding p) front v end (known && scalar)
 IsReadTo-point {p = p} x order first scalar = IsReadTo-append x order first.within first.divides_no_pair refl (record {
   form = record { points = p ∷ []; reads = first.reads; encoded = append-nil (encoding p) };
@@ -214,14 +216,18 @@ form_of_items {w} {front} {u} {at} items s t x none rest y =
     let count = length (units points) in
     let whole : drop at u ≡ units points ++ slice_left r.after =
     sym (rest ∙ take_all (length u - at) (drop at u) (omega (arith, length-drop at u))) ∙ got.0 in
-    let first : units points ≡ take count (drop at u) = sym (ap (take count) whole ∙ take_at (units points) (slice_left r.after) count refl) in
+    let first : units points ≡ take count (drop at u) =
+    sym (ap (take count) whole ∙ take_at (units points) (slice_left r.after) count refl) in
     let unpaired : ¬ (MeetsAsPair (front ++ take at u) (units points)) =
     λ m. x.divides_no_pair (MeetsAsPair-take (front ++ take at u) (drop at u) count (subst (MeetsAsPair (front ++ take at u)) first m)) in
     let form : IsForm (bytes points) (units points) =
     record { points = points; reads = record { clean = r.clean; same_units = refl }; encoded = refl } in
     let joined : (front ++ take at u) ++ units points ≡ front ++ take (at + count) u =
-    append_assoc front (take at u) (units points) ∙ ap (λ z. front ++ z) (ap (λ z. take at u ++ z) first ∙ sym (take-add at count u)) in
-    (at + count, subst (IsForm (w ++ bytes points)) joined (form_append-unpaired w (bytes points) (front ++ take at u) (units points) x.form.form form unpaired))
+    append_assoc front (take at u) (units points) ∙ ap (λ z. front ++ z) (ap (λ z. take at u ++ z) first ∙ sym (take-add at count u)) in (
+      at + count,
+      subst (IsForm (w ++ bytes points)) joined
+          (form_append-unpaired w (bytes points) (front ++ take at u) (units points) x.form.form form unpaired),
+    )
 
 -- the encodings of all items after one more
 pub encoded_item : (w : List ℕ) {now new : List ℕ} (items : List (Result ℕ ℕ)) (x : Result ℕ ℕ) {p : ℕ}

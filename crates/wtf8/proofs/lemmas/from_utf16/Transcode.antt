@@ -2,17 +2,20 @@
 use Rattle.wtf8.proofs.Common.{◌≡◌, ℕ, zero, suc, ◌-◌, ◌%◌, ◌^◌, ◌<◌, ◌≤◌, eqb, Bool, true, false, cond, ◌&&◌, List, [], ◌∷◌, map, length}
 use Rattle.wtf8.proofs.Common.{replicate, Fits, refl, sym, ap, ◌∙◌, arith, and_parts, cases_Bool, Each1, zip2, mask_l, top}
 use Rattle.wtf8.proofs.Common.{AreAscii, IsSurrogate, ◌+◌, ◌/◌, ◌++◌, IsTrue, take, drop, get_or, subst, take-append-drop, common_steps}
-use Rattle.wtf8.proofs.Common.{append_assoc, append-nil, length-chunk, MeetsAsPair, IsKnownForm, DividesPair, w16, get_or-drop, length-take, take-add, AreScalarUnits}
+use Rattle.wtf8.proofs.Common.{append_assoc, append-nil, length-chunk, MeetsAsPair, IsKnownForm, DividesPair, w16, get_or-drop}
+use Rattle.wtf8.proofs.Common.{length-take, take-add, AreScalarUnits}
 use Rattle.wtf8.proofs.Common.{take-append-add, min, length-map, take-take, zip2_splat, IsLead, IsReadTo}
 use Rattle.wtf8.proofs.Common.{IsForm, ReadsOn, HasRoomFrom, take_all, vec_capacity}
 use Rattle.std.specs.declared.vec.Vec.{Vec}
+use Rattle.wtf8.specs.declared.from_utf16.kernel.Progress.{Progress}
 use Rattle.std.proofs.Math.Bool.{and-true}
 use Rattle.std.proofs.Math.Seq.{take-suc}
 use Rattle.wtf8.proofs.lemmas.lanes.AsciiFronts.{saturated_front}
 use Rattle.std.proofs.lemmas.Bool.{eqb-false}
 use Rattle.std.proofs.lemmas.List.{get_or-take}
 use Rattle.std.proofs.lemmas.Simd.{bitmask_splat, map-map, Each1-get_or}
-use Rattle.wtf8.proofs.lemmas.codec.Readings.{form_append-unpaired, meets_by, same_form, unpaired-after_no_lead, unpaired-nil_left, MeetsAsPair-back}
+use Rattle.wtf8.proofs.lemmas.codec.Readings.{form_append-unpaired, meets_by, same_form, unpaired-after_no_lead, unpaired-nil_left}
+use Rattle.wtf8.proofs.lemmas.codec.Readings.{MeetsAsPair-back}
 use Rattle.wtf8.proofs.lemmas.codec.Scalars.{IsKnownForm-ascii, scalar-append}
 
 -- Masks of blocks of units.
@@ -74,17 +77,22 @@ IsKnownForm-append w v a b known more both x y n flags = record {
 }
 
 -- no pair is divided after a front and more units if none is divided after these units alone
-undivided-after_front : (front u : List ℕ) (k : ℕ) → 0 < k → k ≤ length u → ¬ (DividesPair u k) → ¬ (MeetsAsPair (front ++ take k u) (drop k u))
-undivided-after_front front u k least within n m = n (MeetsAsPair-back front (take k u) (drop k u) (omega (arith, least, within, length-take k u)) m)
+undivided-after_front : (front u : List ℕ) (k : ℕ) → 0 < k → k ≤ length u → ¬ (DividesPair u k)
+    → ¬ (MeetsAsPair (front ++ take k u) (drop k u))
+undivided-after_front front u k least within n m =
+    n (MeetsAsPair-back front (take k u) (drop k u) (omega (arith, least, within, length-take k u)) m)
 
 -- the units up to `end` are encoded after the form of the units from `at` to `end` was appended
-pub IsReadTo-append : {w new front u part : List ℕ} {at end : ℕ} {known more : Bool} → IsReadTo w front u at known → at < end → end ≤ length u
-    → ¬ (DividesPair u end) → new ≡ w ++ part → IsKnownForm part (take (end - at) (drop at u)) more → IsReadTo new front u end (known && more)
+pub IsReadTo-append : {w new front u part : List ℕ} {at end : ℕ} {known more : Bool} → IsReadTo w front u at known → at < end
+    → end ≤ length u
+    → ¬ (DividesPair u end) → new ≡ w ++ part → IsKnownForm part (take (end - at) (drop at u)) more
+    → IsReadTo new front u end (known && more)
 IsReadTo-append {w} {new} {front} {u} {part} {at} {end} {known} {more} x order within divides_no_pair after form =
     let back = take (end - at) (drop at u) in
     let count : end ≡ at + (end - at) = omega (arith, order) in
     let whole = IsKnownForm-append w part (front ++ take at u) back known more
-    (known && more) x.form form (λ m. x.divides_no_pair (MeetsAsPair-take (front ++ take at u) (drop at u) (end - at) m)) (and_parts known more) in
+    (known && more) x.form form (λ m. x.divides_no_pair (MeetsAsPair-take (front ++ take at u) (drop at u) (end - at) m))
+    (and_parts known more) in
     let units : (front ++ take at u) ++ back ≡ front ++ take end u =
     append_assoc front (take at u) back ∙ ap (λ z. front ++ z) (sym (ap (λ k. take k u) count ∙ take-add at (end - at) u)) in
     record {
@@ -132,15 +140,26 @@ front_read {w} {long} {new} {f} {u} {low} {at} {known} k n end x few within satu
     by (suc j) few ascii cut =
         let own : AreAscii (take (suc j) block) = subst AreAscii (kept (suc j) ascii) ascii in
         let count : suc j ≡ at + suc j - at = omega arith in
-        let same : take (suc j) block ≡ take (at + suc j - at) (drop at u) = take-take (suc j) n (drop at u) few ∙ ap (λ k. take k (drop at u)) count in
+        let same : take (suc j) block ≡ take (at + suc j - at) (drop at u) =
+        take-take (suc j) n (drop at u) few ∙ ap (λ k. take k (drop at u)) count in
         subst (IsReadTo new f u (at + suc j)) (and-true known) (IsReadTo-append x (omega arith) (omega (arith, few, within))
         (divides j few own) (after (suc j) ascii cut)
         (subst (λ v. IsKnownForm (take (suc j) block) v true) same (IsKnownForm-ascii (take (suc j) block) own)))
 
 -- Steps, one after the other.
 
+-- what loops over steps keep: units are encoded from `from` on as far as `to`, and the capacity is no smaller
+abbrev pub KeepsEncoding : {Z : Type 0} → Vec ℕ Z → Vec ℕ Z → List ℕ → Progress → Progress → Type 0
+KeepsEncoding old new v from to = record {
+  within : to.at ≤ length v;
+  read : ReadsOn old.items new.items v from.at from.is_utf8 to.at to.is_utf8;
+  begins : take (length old.items) new.items ≡ old.items;
+  capacity : vec_capacity old ≤ vec_capacity new;
+}
+
 -- room that is there before some units are encoded is there for the units after them
-pub HasRoomFrom-after : {Z : Type 0} (old new : Vec ℕ Z) {u : List ℕ} {from to : ℕ} {was is : Bool} → ReadsOn old.items new.items u from was to is
+pub HasRoomFrom-after : {Z : Type 0} (old new : Vec ℕ Z) {u : List ℕ} {from to : ℕ} {was is : Bool}
+    → ReadsOn old.items new.items u from was to is
     → vec_capacity old ≤ vec_capacity new → HasRoomFrom old u from was → HasRoomFrom new u to is
 HasRoomFrom-after old new on larger r = (r.0, on r.0 r.1, λ n w form. omega (arith, larger, r.2 n w form))
 

@@ -1,16 +1,22 @@
 -- Appending code units to well-formed bytes: what holds before the first unit, after all of them, and after a refusal.
 use Rattle.wtf8.proofs.Common.{◌≡◌, ◌+◌, ◌-◌, ◌<◌, ◌≤◌, ℕ, Bool, false, IsTrue, List, [], ◌∷◌, ◌++◌, length, take, drop, get_or}
-use Rattle.wtf8.proofs.Common.{Option, Some, None, IfSome, Result, Ok, Err, IsOk, refl, sym, ap, ◌∙◌, subst, arith, append-nil, append_assoc}
-use Rattle.wtf8.proofs.Common.{HasRoomFor, KeepsContents, UnitString, inl, inr, Fits, w16, length-append, length-take, take-append-drop, take-take, take_at, All, All-from_get_or, false≢true, vec_capacity}
-use Rattle.wtf8.proofs.Common.{IsUnit, IsLead, IsTrail, MeetsAsPair, units, pair, encoding, bytes, Reads, IsForm, IsWellFormed, form_of, AreScalar}
+use Rattle.wtf8.proofs.Common.{Option, Some, None, IfSome, Result, Ok, Err, IsOk, refl, sym, ap, ◌∙◌, subst, arith, append-nil}
+use Rattle.wtf8.proofs.Common.{append_assoc}
+use Rattle.wtf8.proofs.Common.{HasRoomFor, KeepsContents, UnitString, inl, inr, Fits, w16, length-append, length-take, take-append-drop}
+use Rattle.wtf8.proofs.Common.{take-take, take_at, All, All-from_get_or, false≢true, vec_capacity}
+use Rattle.wtf8.proofs.Common.{IsUnit, IsLead, IsTrail, MeetsAsPair, units, pair, encoding, bytes, Reads, IsForm, IsWellFormed, form_of}
+use Rattle.wtf8.proofs.Common.{AreScalar}
 use Rattle.wtf8.proofs.Common.{AreScalarTo, FrontsFit, IsKnownForm, IsReadTo, ExtendsForm, ExtendsFormOrKeeps, glue}
 use Rattle.std.specs.Prelude.{IfNone, OnOk, OnErr}
 use Rattle.std.specs.declared.vec.Vec.{Vec}
 use Rattle.wtf8.proofs.lemmas.codec.Encoding.{bytes-pushed, length-surrogate}
-use Rattle.wtf8.proofs.lemmas.codec.Readings.{MeetsAsPair-equal_lists, meets_by, same_form, same_reading, units_from_form, units_one, clean-append}
+use Rattle.wtf8.proofs.lemmas.codec.Readings.{MeetsAsPair-equal_lists, meets_by, same_form, same_reading, units_from_form, units_one}
+use Rattle.wtf8.proofs.lemmas.codec.Readings.{clean-append}
 use Rattle.wtf8.proofs.lemmas.codec.Readings.{IsWellFormed-equal_bytes, form-append, meets_or_not, unpaired-after_no_lead, units-append}
-use Rattle.wtf8.proofs.lemmas.strings.Concatenation.{form-glue, form_meeting, lead_last, length-paired_bytes, meeting_bytes, one_form, paired_bytes, units_read}
-use Rattle.wtf8.proofs.lemmas.strings.ExtendedForms.{utf8_prefix_after_append, CompletedPair, CompletedPair-from_lead, all_back, all_scalar, beginning_of_form, both_length, scalar_front_unpaired}
+use Rattle.wtf8.proofs.lemmas.strings.Concatenation.{form-glue, form_meeting, lead_last, length-paired_bytes, meeting_bytes, one_form}
+use Rattle.wtf8.proofs.lemmas.strings.Concatenation.{paired_bytes, units_read}
+use Rattle.wtf8.proofs.lemmas.strings.ExtendedForms.{utf8_prefix_after_append, CompletedPair, CompletedPair-from_lead, all_back}
+use Rattle.wtf8.proofs.lemmas.strings.ExtendedForms.{all_scalar, beginning_of_form, both_length, scalar_front_unpaired}
 
 -- The first unit, and a lead before it.
 
@@ -46,7 +52,8 @@ read_start {w} {v} {known} o h e none scalar = record {
   divides_no_pair = λ m.
       let ends : units h.points ≡ m.front ++ m.lead ∷ [] = sym (append-nil (units h.points)) ∙ m.ends in
       let last = lead_last h.points m.front m.lead m.is_lead ends in
-      subst (λ o. IfNone o (¬ (MeetsAsPair h.points v))) e none (meets_by last.0 m.rest m.lead m.trail m.is_lead m.is_trail last.1 m.begins);
+      subst (λ o. IfNone o (¬ (MeetsAsPair h.points v))) e none
+      (meets_by last.0 m.rest m.lead m.trail m.is_lead m.is_trail last.1 m.begins);
   form = record {
     form = record {
       points = h.points;
@@ -57,12 +64,14 @@ read_start {w} {v} {known} o h e none scalar = record {
   };
 }
 
-pub read_after_pair : {w new v : List ℕ} {l : ℕ} (h : IsWellFormed w) → 0 < length v → IsTrail (get_or v 0 0) → CompletedPair w l (get_or v 0 0)
+pub read_after_pair : {w new v : List ℕ} {l : ℕ} (h : IsWellFormed w) → 0 < length v → IsTrail (get_or v 0 0)
+    → CompletedPair w l (get_or v 0 0)
     → new ≡ take (length w - 3) w ++ encoding (pair l (get_or v 0 0)) → IsReadTo new (units h.points) v 1 false
 read_after_pair {w} {new} {v} {l} h some trail done e =
     let t = get_or v 0 0 in
     let one : take 1 v ≡ t ∷ [] = first_unit v some in
-    let form : IsForm new (units h.points ++ take 1 v) = rw (e, one, ← units_one t (omega (arith, trail))) (done.extends (units h.points) (form_of h)) in
+    let form : IsForm new (units h.points ++ take 1 v) =
+    rw (e, one, ← units_one t (omega (arith, trail))) (done.extends (units h.points) (form_of h)) in
     record {
       within = omega (arith, some);
       divides_no_pair = rw one (unpaired-after_no_lead (units h.points) t (λ k. omega (arith, k, trail)));
@@ -96,7 +105,8 @@ fronts_fit h v u capacity fits n x form =
     let a = units h.points in
     let joined : a ++ v ≡ (a ++ take n v) ++ drop n v =
     ap (λ z. a ++ z) (sym (take-append-drop n v)) ∙ sym (append_assoc a (take n v) (drop n v)) in
-    let front = beginning_of_form (a ++ take n v) (drop n v) (whole_form h v u) (subst (IsForm (whole_form h v u)) joined (whole_form-is h v u)) in
+    let front =
+    beginning_of_form (a ++ take n v) (drop n v) (whole_form h v u) (subst (IsForm (whole_form h v u)) joined (whole_form-is h v u)) in
     omega (arith, front.within, ap length (same_form front.whole x (a ++ take n v) front.form form), fits)
 
 module _ {T E Z : Type 0} (b n : Vec ℕ Z) {v : List ℕ} where
@@ -143,7 +153,8 @@ room_for_front s a b fit =
     let front = beginning_of_form (s.units ++ a) b fit.whole (subst (IsForm fit.whole) (sym (append_assoc s.units a b)) fit.form) in
     record { whole = front.whole; form = front.form; within = omega (arith, front.within, fit.within) }
 
-pub room_for_back : (s t : UnitString) (a b : List ℕ) → t.units ≡ s.units ++ a → s.capacity ≤ t.capacity → HasRoomFor s (a ++ b) → HasRoomFor t b
+pub room_for_back : (s t : UnitString) (a b : List ℕ) → t.units ≡ s.units ++ a → s.capacity ≤ t.capacity → HasRoomFor s (a ++ b)
+    → HasRoomFor t b
 room_for_back s t a b e larger fit = record {
   whole = fit.whole;
   form = subst (IsForm fit.whole) (sym (append_assoc s.units a b) ∙ ap (λ u. u ++ b) (sym e)) fit.form;
@@ -166,7 +177,8 @@ lead_end : {w : List ℕ} (h : IsWellFormed w) (l : ℕ) → IsLead l → (f : L
 lead_end {w} h l lead last =
     let three = length-surrogate l (omega (arith, lead), omega (arith, lead)) in
     let whole : w ≡ bytes last.0 ++ encoding l = sym h.encoded ∙ ap bytes last.1 ∙ bytes-pushed last.0 l in
-    let len : length w ≡ length (bytes last.0) + 3 = ap length whole ∙ length-append (bytes last.0) (encoding l) ∙ ap (λ k. length (bytes last.0) + k) three in
+    let len : length w ≡ length (bytes last.0) + 3 =
+    ap length whole ∙ length-append (bytes last.0) (encoding l) ∙ ap (λ k. length (bytes last.0) + k) three in
     let front : take (length w - 3) w ≡ bytes last.0 =
     ap (take (length w - 3)) whole ∙ take_at (bytes last.0) (encoding l) (length w - 3) (omega (arith, len)) in
     (omega (arith, len), ap (λ z. z ++ encoding l) front ∙ sym whole)

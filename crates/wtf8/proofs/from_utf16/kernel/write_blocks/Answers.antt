@@ -15,6 +15,7 @@ loop-preserved c =
       order = omega (arith, before.order, written.taken);
       end = omega (arith, before.end, written.taken);
       within = omega (arith, before.within, written.within);
-      read = λ w known front read. subst (IsReadTo _ front _ _) (and_assoc known to.is_utf8 block.is_utf8) (packed_units-read w (take c.loop.len
+      read = λ w known front read. subst (IsReadTo _ front _ _) (and_assoc known to.is_utf8 block.is_utf8)
+          (packed_units-read w (take c.loop.len
           c.loop.scratch) block.units (before.read w known front read) within c.type_inv.v written.taken written.scalar written.bytes);
     }

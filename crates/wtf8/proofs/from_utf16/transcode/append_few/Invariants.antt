@@ -1,13 +1,9 @@
-use Rattle.wtf8.proofs.Common.{◌≡◌, ◌-◌, ◌≤◌, length, take, vec_capacity, ReadsOn}
+use Rattle.wtf8.proofs.Common.{◌-◌, length}
+use Rattle.wtf8.proofs.lemmas.from_utf16.Transcode.{KeepsEncoding}
 use Rattle.wtf8.proofs.from_utf16.transcode.append_few.Given as goal
 
 abbrev pub invariant-loop-read : goal.invariant-loop-read
-invariant-loop-read g l = record {
-  within : l.read.at ≤ length l.v;
-  read : ReadsOn l.fn.bytes.items l.bytes.items l.v l.fn.from.at l.fn.from.is_utf8 l.read.at l.read.is_utf8;
-  begins : take (length l.fn.bytes.items) l.bytes.items ≡ l.fn.bytes.items;
-  capacity : vec_capacity l.fn.bytes ≤ vec_capacity l.bytes;
-}
+invariant-loop-read g l = KeepsEncoding l.fn.bytes l.bytes l.v l.fn.from l.read
 
 abbrev pub decreases-loop-read : goal.decreases-loop-read
 decreases-loop-read g l = length l.v - l.read.at

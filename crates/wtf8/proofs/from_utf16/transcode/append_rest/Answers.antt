@@ -1,4 +1,5 @@
-use Rattle.wtf8.proofs.Common.{◌≡◌, ◌≤◌, ◌++◌, false≢true, ◌∙◌, [], append-nil, ap, arith, iter_rest, iter_steps, copied_steps, sym, subst, refl}
+use Rattle.wtf8.proofs.Common.{◌≡◌, ◌≤◌, ◌++◌, false≢true, ◌∙◌, [], append-nil, ap, arith, iter_rest, iter_steps, copied_steps, sym}
+use Rattle.wtf8.proofs.Common.{subst, refl}
 use Rattle.wtf8.proofs.Common.{decode_steps, IsCodePoint, IsSurrogate, MatchResult, AreScalar, map-append, ◌∷◌, map, point_of_item, length}
 use Rattle.wtf8.proofs.Common.{encoding, bytes, HasRoomFrom, vec_capacity, ℕ}
 use Rattle.std.specs.Iterator.{Yields}

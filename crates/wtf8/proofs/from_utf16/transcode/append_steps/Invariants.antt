@@ -1,46 +1,27 @@
-use Rattle.wtf8.proofs.Common.{◌≡◌, ◌-◌, ◌≤◌, length, take, vec_capacity, ReadsOn}
+use Rattle.wtf8.proofs.Common.{◌-◌, length}
+use Rattle.wtf8.proofs.lemmas.from_utf16.Transcode.{KeepsEncoding}
 use Rattle.wtf8.proofs.from_utf16.transcode.append_steps.Given as goal
 
 abbrev pub invariant-loop-read : goal.invariant-loop-read
-invariant-loop-read g l = record {
-  within : l.read.at ≤ length l.v;
-  read : ReadsOn l.fn.bytes.items l.bytes.items l.v l.fn.from.at l.fn.from.is_utf8 l.read.at l.read.is_utf8;
-  begins : take (length l.fn.bytes.items) l.bytes.items ≡ l.fn.bytes.items;
-  capacity : vec_capacity l.fn.bytes ≤ vec_capacity l.bytes;
-}
+invariant-loop-read g l = KeepsEncoding l.fn.bytes l.bytes l.v l.fn.from l.read
 
 abbrev pub decreases-loop-read : goal.decreases-loop-read
 decreases-loop-read g l = length l.v - l.read.at
 
 abbrev pub invariant-loop-read-2 : goal.invariant-loop-read-2
-invariant-loop-read-2 g l = record {
-  within : l.read.at ≤ length l.v;
-  read : ReadsOn l.fn.bytes.items l.bytes.items l.v l.fn.from.at l.fn.from.is_utf8 l.read.at l.read.is_utf8;
-  begins : take (length l.fn.bytes.items) l.bytes.items ≡ l.fn.bytes.items;
-  capacity : vec_capacity l.fn.bytes ≤ vec_capacity l.bytes;
-}
+invariant-loop-read-2 g l = KeepsEncoding l.fn.bytes l.bytes l.v l.fn.from l.read
 
 abbrev pub decreases-loop-read-2 : goal.decreases-loop-read-2
 decreases-loop-read-2 g l = length l.v - l.read.at
 
 abbrev pub invariant-loop-read-3 : goal.invariant-loop-read-3
-invariant-loop-read-3 g l = record {
-  within : l.read.at ≤ length l.v;
-  read : ReadsOn l.fn.bytes.items l.bytes.items l.v l.fn.from.at l.fn.from.is_utf8 l.read.at l.read.is_utf8;
-  begins : take (length l.fn.bytes.items) l.bytes.items ≡ l.fn.bytes.items;
-  capacity : vec_capacity l.fn.bytes ≤ vec_capacity l.bytes;
-}
+invariant-loop-read-3 g l = KeepsEncoding l.fn.bytes l.bytes l.v l.fn.from l.read
 
 abbrev pub decreases-loop-read-3 : goal.decreases-loop-read-3
 decreases-loop-read-3 g l = length l.v - l.read.at
 
 abbrev pub invariant-loop-read-4 : goal.invariant-loop-read-4
-invariant-loop-read-4 g l = record {
-  within : l.read.at ≤ length l.v;
-  read : ReadsOn l.fn.bytes.items l.bytes.items l.v l.fn.from.at l.fn.from.is_utf8 l.read.at l.read.is_utf8;
-  begins : take (length l.fn.bytes.items) l.bytes.items ≡ l.fn.bytes.items;
-  capacity : vec_capacity l.fn.bytes ≤ vec_capacity l.bytes;
-}
+invariant-loop-read-4 g l = KeepsEncoding l.fn.bytes l.bytes l.v l.fn.from l.read
 
 abbrev pub decreases-loop-read-4 : goal.decreases-loop-read-4
 decreases-loop-read-4 g l = length l.v - l.read.at

@@ -20,7 +20,8 @@ complete_pair-requires-clause-three g c = (completed g (goal.at.complete_pair-re
 
 -- after the pair the units from the second on are left
 read_pair : (g : _) (c : In-Some g) (h : IsWellFormed c.args.bytes.now.items)
-    → IsReadTo (take (length c.args.bytes.now.items - 3) c.args.bytes.now.items ++ encoding (pair c.in-Some.lead (slice_index c.args.v.now 0)))
+    → IsReadTo (take (length c.args.bytes.now.items - 3) c.args.bytes.now.items
+    ++ encoding (pair c.in-Some.lead (slice_index c.args.v.now 0)))
     (units h.points) c.args.v.now 1 false
 read_pair g c h = read_after_pair h (first g c).0 (first g c).1 (completed g c) refl
 

@@ -1,7 +1,8 @@
 use Rattle.wtf8.proofs.Common.{◌≤◌, ◌∙◌, arith, ap, length, false≢true, leb-true, IsWellFormed, refl, sym, Ok, Err}
 use Rattle.wtf8.proofs.lemmas.codec.Readings.{IsWellFormed-equal_bytes}
 use Rattle.wtf8.proofs.lemmas.strings.ExtendedForms.{all_scalar, scalar-equal_bytes}
-use Rattle.wtf8.proofs.lemmas.strings.PushedUnits.{are_units, fronts_fit, lead_length, scalar_units, taken_back, units_extended, units_refused}
+use Rattle.wtf8.proofs.lemmas.strings.PushedUnits.{are_units, fronts_fit, lead_length, scalar_units, taken_back, units_extended}
+use Rattle.wtf8.proofs.lemmas.strings.PushedUnits.{units_refused}
 use Rattle.wtf8.proofs.lemmas.strings.PushedUnits.{whole_form-longer}
 use Rattle.wtf8.proofs.strings.concat.push_utf16.Goals.{After-reserve}
 use Rattle.wtf8.proofs.strings.concat.push_utf16.Goals as goal

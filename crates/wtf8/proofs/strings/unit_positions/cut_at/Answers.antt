@@ -15,6 +15,9 @@ returns-clause-divided c less =
     elim (cases_lt c.find_unit.result.position (length c.args.view.bytes.now)) [
       | inl inside ↦
           let x = points_about_unit h c.args.n c.find_unit.result is in
-          omega (arith, (in_pair_at_cursor x (omega (arith, inside, ap length h.encoded)) (omega (arith, less))).divided.long, ap length h.encoded)
-      | inr end ↦ absurd (omega (arith, all_before h c.args.n c.find_unit.result is (omega (arith, end, is.before.within)), less, c.requires))
+          let pair = in_pair_at_cursor x (omega (arith, inside, ap length h.encoded)) (omega (arith, less)) in
+          omega (arith, pair.divided.long, ap length h.encoded)
+      | inr end ↦
+          let all = all_before h c.args.n c.find_unit.result is (omega (arith, end, is.before.within)) in
+          absurd (omega (arith, all, less, c.requires))
     ]

@@ -20,5 +20,7 @@ returns-clause-written g c =
         ap length after,
         length-take-le c.args.count c.args.block (omega (arith, c.requires.within.0)),
       );
+      order = omega arith;
       len = c.store_units.ensures.len;
+      later = λ n after. c.store_units.ensures.later n (omega (arith, after, c.requires.lanes));
     }

@@ -1,4 +1,5 @@
-use Rattle.wtf8.proofs.Common.{IsForm, ◌++◌, ◌∙◌, ◌*◌, ◌≤◌, subst, sym, append-nil, ap, arith, length, refl, AreScalarTo, form_of, rules, on_ok_weaker}
+use Rattle.wtf8.proofs.Common.{IsForm, ◌++◌, ◌∙◌, ◌*◌, ◌≤◌, subst, sym, append-nil, ap, arith, length, refl, AreScalarTo, form_of, rules}
+use Rattle.wtf8.proofs.Common.{on_ok_weaker}
 use Rattle.wtf8.proofs.lemmas.codec.Readings.{lists_have_lengths, same_points}
 use Rattle.wtf8.proofs.lemmas.strings.Concatenation.{one_form}
 use Rattle.wtf8.proofs.lemmas.strings.ExtendedForms.{kept_contents, room_found, units_appended}

@@ -11,12 +11,14 @@ points g c = same_points c.as_wtf8.result.well_formed c.self.inside.well_formed
     (c.as_wtf8.ensures.bytes ∙ sym (ap (λ (s : UnitString). s.bytes) c.self.view_is))
 
 -- the lead that ends the string
-last : (g : _) (c : After-is_err g) → IfSome c.final_lead_surrogate-lead.result (λ l. (f : List ℕ) × (c.self.inside.well_formed.points ≡ f ++ l ∷ []))
+last : (g : _) (c : After-is_err g)
+    → IfSome c.final_lead_surrogate-lead.result (λ l. (f : List ℕ) × (c.self.inside.well_formed.points ≡ f ++ l ∷ []))
 last g c = subst (λ p. IfSome c.final_lead_surrogate-lead.result (λ l. (f : List ℕ) × (p ≡ f ++ l ∷ []))) (points g c)
     c.final_lead_surrogate-lead.ensures.last
 
 -- what is left of the string after some parts were appended
-front : (g : _) (c : After-is_err g) → KeepsFront c.self.inside.bytes.items c.push_parts-pushed.new.self.bytes c.final_lead_surrogate-lead.result
+front : (g : _) (c : After-is_err g)
+    → KeepsFront c.self.inside.bytes.items c.push_parts-pushed.new.self.bytes c.final_lead_surrogate-lead.result
 front g c =
     let some = c.push_parts-pushed.ensures.some in
     let new = c.push_parts-pushed.new.self in
