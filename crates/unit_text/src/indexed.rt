@@ -3,7 +3,7 @@ ghost use Rattle.std.specs.Prelude.{◌≡◌, ◌↔◌, ◌+◌, ◌*◌, ◌-
 ghost use Rattle.std.specs.Str.{chars};
 ghost use Rattle.wtf8.specs.Appending.{AppendsUnits, KeepsContents, HasRoomFor, AddsLength};
 ghost use Rattle.wtf8.specs.CodePoint.{number};
-ghost use Rattle.wtf8.specs.Form.{encoding};
+ghost use Rattle.wtf8.specs.Form.{IsForm, encoding};
 ghost use Rattle.wtf8.specs.Position.{IsBoundary, IsFront};
 ghost use Rattle.wtf8.specs.Unicode.{units, units_of};
 ghost use Rattle.wtf8.specs.UnitPosition.{units_of_slice, DividesPair};
@@ -67,6 +67,7 @@ impl<A: Allocator> IndexedBuf<A> {
     /// Makes the string with these code units, paired or not. Does not allocate if there are none.
     pub fn from_units(alloc: A, units: &[u16]) -> Result<IndexedBuf<A>, AllocError>
         ensures ok { IfOk result (λ b. b.units ≡ units.now) }
+        ensures form { IfOk result (λ b. (w : List ℕ) → IsForm w units.now → b.bytes ≡ w) }
         ensures empty { units.now ≡ [] → IsOk result }
     {
         let text = Wtf8Buf::from_ill_formed_utf16(alloc, units)?;
@@ -258,9 +259,16 @@ impl<A: Allocator> IndexedBuf<A> {
         ensures ok { OnOk result (AppendsUnits self.old (units_of (number code_point)) self.new) }
         ensures kept { OnErr result (KeepsContents self.old self.new) }
 
+        // A code point below U+10000 is one unit.
+        ensures one_unit { number code_point < 0x10000 → OnOk result (AppendsUnits self.old (number code_point ∷ []) self.new) }
+
         // A push whose bytes fit is never refused, and the capacity never shrinks.
         ensures room { HasRoomFor self.old (units_of (number code_point)) → IsOk result }
         ensures capacity { self.old.capacity ≤ self.new.capacity }
+
+        // In bytes: the length grows by at most the code point's encoded length, and spare capacity for that is enough.
+        ensures at_most { OnOk result (length self.new.bytes ≤ length self.old.bytes + length (encoding (number code_point))) }
+        ensures room_left { length self.old.bytes + length (encoding (number code_point)) ≤ self.old.capacity → IsOk result }
     {
         self.text.push(code_point)?;
         laws::law_marks();
@@ -294,9 +302,21 @@ impl<A: Allocator> IndexedBuf<A> {
         ensures ok { OnOk result (AppendsUnits self.old (units_of c) self.new) }
         ensures kept { OnErr result (KeepsContents self.old self.new) }
 
+        // A character below U+10000 is one unit.
+        ensures one_unit { c < 0x10000 → OnOk result (AppendsUnits self.old (c ∷ []) self.new) }
+
         // A push whose bytes fit is never refused, and the capacity never shrinks.
         ensures room { HasRoomFor self.old (units_of c) → IsOk result }
         ensures capacity { self.old.capacity ≤ self.new.capacity }
+
+        // In bytes: the character's encoding is appended, and spare capacity for it is enough.
+        ensures bytes { OnOk result (self.new.bytes ≡ self.old.bytes ++ encoding c) }
+        ensures at_most { OnOk result (length self.new.bytes ≤ length self.old.bytes + length (encoding c)) }
+        ensures room_left { length self.old.bytes + length (encoding c) ≤ self.old.capacity → IsOk result }
+
+        // An ASCII character is one byte.
+        ensures ascii_length { c < 0x80 → OnOk result (length self.new.bytes ≡ length self.old.bytes + 1) }
+        ensures ascii_room { c < 0x80 → length self.old.bytes + 1 ≤ self.old.capacity → IsOk result }
     {
         self.text.push_char(c)?;
         laws::law_marks();
@@ -314,10 +334,16 @@ impl<A: Allocator> IndexedBuf<A> {
         ensures ok { OnOk result (AppendsUnits self.old (units (chars other.now)) self.new) }
         ensures kept { OnErr result (KeepsContents self.old self.new) }
 
-        // A push whose bytes fit is never refused, and the capacity never shrinks.
+        // A push whose bytes fit is never refused, nor is an empty text, and the capacity never shrinks.
         ensures room { HasRoomFor self.old (units (chars other.now)) → IsOk result }
         ensures empty { other.now ≡ [] → IsOk result }
         ensures capacity { self.old.capacity ≤ self.new.capacity }
+
+        // In bytes: the length grows by at most the text's length, spare capacity for that is enough, and an empty text
+        // changes nothing.
+        ensures at_most { OnOk result (length self.new.bytes ≤ length self.old.bytes + length other.now) }
+        ensures room_left { length self.old.bytes + length other.now ≤ self.old.capacity → IsOk result }
+        ensures nothing { other.now ≡ [] → KeepsContents self.old self.new }
     {
         self.text.push_str(other)?;
         laws::law_marks();
@@ -332,13 +358,19 @@ impl<A: Allocator> IndexedBuf<A> {
 
     /// Appends code units, paired or not. If memory is refused, the string is unchanged.
     pub fn push_units(&mut self, units: &[u16]) -> Result<(), AllocError>
-        ensures ok { OnOk result (AppendsUnits self.old (units.now) self.new) }
+        ensures ok { OnOk result (AppendsUnits self.old units.now self.new) }
         ensures kept { OnErr result (KeepsContents self.old self.new) }
 
-        // A push whose bytes fit is never refused, and the capacity never shrinks.
-        ensures room { HasRoomFor self.old (units.now) → IsOk result }
+        // A push whose bytes fit is never refused, nor are no units, and the capacity never shrinks.
+        ensures room { HasRoomFor self.old units.now → IsOk result }
         ensures empty { units.now ≡ [] → IsOk result }
         ensures capacity { self.old.capacity ≤ self.new.capacity }
+
+        // In bytes: the length grows by at most three for each unit, spare capacity for that is enough, and no units
+        // change nothing.
+        ensures at_most { OnOk result (length self.new.bytes ≤ length self.old.bytes + 3 * length units.now) }
+        ensures room_left { length self.old.bytes + 3 * length units.now ≤ self.old.capacity → IsOk result }
+        ensures nothing { units.now ≡ [] → KeepsContents self.old self.new }
     {
         self.text.push_ill_formed_utf16(units)?;
         laws::law_marks();
@@ -351,10 +383,19 @@ impl<A: Allocator> IndexedBuf<A> {
         ensures ok { OnOk result (AppendsUnits self.old (view_units other.entry) self.new) }
         ensures kept { OnErr result (KeepsContents self.old self.new) }
 
+        // The length grows by the other's length, minus 2 if a lead meets a trail.
+        ensures length { OnOk result (AddsLength self.old other.entry self.new) }
+
         // A push whose bytes fit is never refused, nor is an empty string, and the capacity never shrinks.
         ensures room { HasRoomFor self.old (view_units other.entry) → IsOk result }
         ensures empty { view_units other.entry ≡ [] → IsOk result }
         ensures capacity { self.old.capacity ≤ self.new.capacity }
+
+        // In bytes: the length grows by at most the other's length, spare capacity for that is enough, and an empty
+        // string changes nothing.
+        ensures at_most { OnOk result (length self.new.bytes ≤ length self.old.bytes + length other.entry.bytes.now) }
+        ensures room_left { length self.old.bytes + length other.entry.bytes.now ≤ self.old.capacity → IsOk result }
+        ensures nothing { other.entry.bytes.now ≡ [] → KeepsContents self.old self.new }
     {
         self.push_counted(other, other.unit_len())
     }
@@ -364,9 +405,13 @@ impl<A: Allocator> IndexedBuf<A> {
         requires { count ≡ length (view_units other) }
         ensures ok { OnOk result (AppendsUnits self.old (view_units other.entry) self.new) }
         ensures kept { OnErr result (KeepsContents self.old self.new) }
+        ensures length { OnOk result (AddsLength self.old other.entry self.new) }
         ensures room { HasRoomFor self.old (view_units other.entry) → IsOk result }
         ensures empty { view_units other.entry ≡ [] → IsOk result }
         ensures capacity { self.old.capacity ≤ self.new.capacity }
+        ensures at_most { OnOk result (length self.new.bytes ≤ length self.old.bytes + length other.entry.bytes.now) }
+        ensures room_left { length self.old.bytes + length other.entry.bytes.now ≤ self.old.capacity → IsOk result }
+        ensures nothing { other.entry.bytes.now ≡ [] → KeepsContents self.old self.new }
     {
         self.text.push_wtf8(other)?;
         laws::law_marks();
@@ -378,7 +423,10 @@ impl<A: Allocator> IndexedBuf<A> {
     /// pair, its lead stays as a lone surrogate. Does not allocate.
     pub fn truncate_units(&mut self, n: usize)
         requires { n ≤ length self.old.units }
-        ensures { self.new.units ≡ take n self.old.units }
+        ensures units { self.new.units ≡ take n self.old.units }
+
+        // If position `k` is the code point boundary after the first `n` units, the first `k` bytes stay.
+        ensures bytes { (k : ℕ) → IsFront self.old.units k (take n self.old.units) → self.new.bytes ≡ take k self.old.bytes }
     {
         let view = CountedView::new(&self.text, self.count);
         let mark = MarkedView::new(view, self.marks.as_ref()).mark_at(n);
