@@ -12,11 +12,11 @@ ghost use Rattle.wtf8.specs.Units.{unread_units};
 ghost use Rattle.wtf8.specs.View.{view_points, view_units};
 ghost use Rattle.unit_text.specs.Positions.{AreUnitsBefore};
 
-use crate::marks::{self, CountedView, MarkedView, Marks};
+use crate::marks::{self, CountedView, MarkedView};
 use crate::slices;
 use std::alloc::{AllocError, Allocator};
 use std::marker::Model;
-use wtf8::{CodePoint, IllFormedUtf16CodeUnits, UnitSlice, Wtf8, Wtf8Buf, laws};
+use wtf8::{CodePoint, IllFormedUtf16CodeUnits, UnitMark, UnitSlice, Wtf8, Wtf8Buf, laws};
 
 /// A `Wtf8Buf` that knows the number of its code units, and finds any of them. `mark_units` adds marks, from which a unit
 /// is found without counting from the front; an ASCII string needs none.
@@ -26,7 +26,7 @@ use wtf8::{CodePoint, IllFormedUtf16CodeUnits, UnitSlice, Wtf8, Wtf8Buf, laws};
 pub struct IndexedBuf<A: Allocator> {
     pub(crate) text: Wtf8Buf<A>,
     count: usize,
-    marks: Option<Marks<A>>,
+    marks: Option<Vec<UnitMark, A>>,
 }
 
 impl<A: Allocator> Model for IndexedBuf<A> {
@@ -38,10 +38,10 @@ impl<A: Allocator> Model for IndexedBuf<A> {
 
     ghost view = { λ t. t.text };
 
-    ghost use Rattle.std.specs.Prelude.{◌≡◌, length, IfSome};
+    ghost use Rattle.std.specs.Prelude.{◌≡◌, length, vec_capacity, IfSome};
     ghost use Rattle.unit_text.specs.Marks.{AreMarks};
 
-    ghost invariant = { λ t. (t.count ≡ length t.text.units) × IfSome t.marks (λ m. AreMarks t.text.bytes t.text.units m.kept.items m.is_incomplete) };
+    ghost invariant = { λ t. (t.count ≡ length t.text.units) × IfSome t.marks (λ m. AreMarks t.text.bytes t.text.units m.items (vec_capacity m)) };
 }
 
 impl<A: Allocator> IndexedBuf<A> {
@@ -121,7 +121,7 @@ impl<A: Allocator> IndexedBuf<A> {
         ensures { self.new ≡ self.old }
     {
         let text = CountedView::new(&self.text, self.count);
-        self.marks = Some(Marks::of(alloc, text));
+        self.marks = Some(marks::marks_of(alloc, text));
     }
 
     /// The length in code units. Constant.
@@ -475,13 +475,13 @@ impl<A: Allocator> IndexedBuf<A> {
         self.text.clear();
         self.count = 0;
         if let Some(marks) = &mut self.marks {
-            marks.kept.clear();
+            marks.clear();
         }
     }
 
     /// The view of the string with its marks.
     #[inline(always)]
-    fn marked(&self) -> MarkedView<'_, A>
+    fn marked(&self) -> MarkedView<'_>
         ensures units { view_units result.text.view ≡ self.now.units }
         ensures count { result.text.count ≡ length self.now.units }
     {

@@ -6,4 +6,4 @@ use Rattle.unit_text.proofs.indexed.IndexedBuf.push_str.Goals as goal
 pub count_more-requires-clause-marks : goal.count_more-requires-clause-marks
 count_more-requires-clause-marks g c =
     AreKept-append c.law_marks.ensures.kept c.self.inside.text c.push_str.new.self (units (chars c.args.other.now))
-    c.in_ok-push_str.ensures.ok c.self.inside.marks (λ k. k.kept.items) (λ k. k.is_incomplete) c.self.invariant.1
+    c.in_ok-push_str.ensures.ok c.self.inside.marks c.self.invariant.1

@@ -3,7 +3,7 @@ use Rattle.wtf8.specs.View.{view_units, view_form}
 use Rattle.unit_text.proofs.marks.MarkedView.mark_at.Goals as goal
 
 pub returns-clause-divided : goal.returns-clause-divided
-returns-clause-divided g c =
+returns-clause-divided c =
     let view = c.args.self.now.text.view in
     let mark = c.mark_at.result in
     let whole = c.law_marks.ensures.no_pair view.bytes.now (view_units view) mark.position mark.units (view_form view)
