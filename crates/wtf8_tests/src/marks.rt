@@ -44,6 +44,30 @@ fn each_position_is_at_or_after_a_mark(rt: HostRuntime) {
     assert!(rt; expect_marks(Wtf8::from_str(TEXT)).is_ok());
 }
 
+/// For each number of units of `TEXT` the mark for it. Four split the pair, so theirs is before it.
+fn marks_of_units() -> [(usize, usize); 6] {
+    [(0, 0), (1, 1), (3, 2), (4, 3), (4, 3), (8, 5)]
+}
+
+/// Fails unless each mark for at most the units before `position` is found back from the mark there.
+fn expect_found_back(text: Wtf8<'_>, position: usize) -> Result<(), Wrong> {
+    let from = text.mark_before(text.start_mark(), position.min(text.len()));
+    for (units, row) in marks_of_units().iter().enumerate() {
+        if units <= from.units {
+            let mark = text.mark_back(from, units);
+            expect((mark.position, mark.units) == *row, Wrong::Outcome)?;
+        }
+    }
+    Ok(())
+}
+
+#[test]
+fn marks_are_found_back_from_later_ones(rt: HostRuntime) {
+    for position in 0..9 {
+        assert!(rt; expect_found_back(Wtf8::from_str(TEXT), position).is_ok());
+    }
+}
+
 /// Fails unless the view of an iterator has the bytes of `dump`, or there is none where `dump` is `None`.
 fn expect_left(alloc: Global, left: Option<Wtf8<'_>>, dump: Option<&str>) -> Result<(), Wrong> {
     match (left, dump) {

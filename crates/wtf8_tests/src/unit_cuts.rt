@@ -1,21 +1,42 @@
 // Truncation to every number of code units.
 use crate::examples::{expect_made, expect_units, joining};
 use crate::unit_lists::{lists, long_list};
-use crate::way::Way;
 use crate::wrong::Wrong;
 use refusing::{Lent, REFUSALS, Refusal, Refusing};
 use std::alloc::{Allocator, Global};
 use wtf8::{Build, Wtf8Buf};
 
-/// Truncates the string of `units` to `n` code units, by `truncate_units` only if it has at least `n`. Returns whether
-/// `apply`, if it is called, says whether there were at least `n`.
-fn cuts<A: Allocator>(text: &mut Wtf8Buf<A>, units: &[u16], n: usize, way: Way) -> bool {
-    match way {
-        Way::Apply => text.apply(Build::TruncateUnits(n)) == Ok(n <= units.len()),
-        Way::Method => {
+/// The call that truncates.
+#[derive(Clone, Copy)]
+enum Cut {
+    Apply,
+    TruncateUnits,
+    TruncateUnitsAt,
+}
+
+/// Truncates the string to `n` code units at the mark for `n`, found back from the end, if it has at least `n`.
+fn cut_at_mark<A: Allocator>(text: &mut Wtf8Buf<A>, n: usize) {
+    let view = text.as_wtf8();
+    let end = view.mark_before(view.start_mark(), view.len());
+    if n <= end.units {
+        let mark = view.mark_back(end, n);
+        text.truncate_units_at(mark, n);
+    }
+}
+
+/// Truncates the string of `units` to `n` code units, by a method only if it has at least `n`. Returns whether `apply`,
+/// if it is called, says whether there were at least `n`.
+fn cuts<A: Allocator>(text: &mut Wtf8Buf<A>, units: &[u16], n: usize, cut: Cut) -> bool {
+    match cut {
+        Cut::Apply => text.apply(Build::TruncateUnits(n)) == Ok(n <= units.len()),
+        Cut::TruncateUnits => {
             if n <= text.as_wtf8().unit_len() {
                 text.truncate_units(n);
             }
+            true
+        }
+        Cut::TruncateUnitsAt => {
+            cut_at_mark(text, n);
             true
         }
     }
@@ -27,11 +48,11 @@ fn cuts_without_memory(
     text: &mut Wtf8Buf<Lent<'_>>,
     units: &[u16],
     n: usize,
-    way: Way,
+    cut: Cut,
     refusal: Refusal,
 ) -> bool {
     heap.refuse_after(0, refusal);
-    cuts(text, units, n, way) && heap.requests() == 0
+    cuts(text, units, n, cut) && heap.requests() == 0
 }
 
 /// Truncates the string of `units` to `n` with every request refused or the first
@@ -41,12 +62,12 @@ fn expect_cut(
     heap: Lent<'_>,
     units: &[u16],
     n: usize,
-    way: Way,
+    cut: Cut,
     refusal: Refusal,
 ) -> Result<(), Wrong> {
     heap.grant(1_000);
     let mut text = Wtf8Buf::from_ill_formed_utf16(heap, units)?;
-    if !cuts_without_memory(heap, &mut text, units, n, way, refusal) {
+    if !cuts_without_memory(heap, &mut text, units, n, cut, refusal) {
         return Err(Wrong::Outcome);
     }
     expect_units(alloc, text.as_wtf8(), &units[..n.min(units.len())])
@@ -55,8 +76,9 @@ fn expect_cut(
 /// Fails unless truncation to `n` units is right.
 fn expect_cut_at(alloc: Global, heap: Lent<'_>, units: &[u16], n: usize) -> Result<(), Wrong> {
     for refusal in REFUSALS {
-        expect_cut(alloc, heap, units, n, Way::Apply, refusal)?;
-        expect_cut(alloc, heap, units, n, Way::Method, refusal)?;
+        for cut in [Cut::Apply, Cut::TruncateUnits, Cut::TruncateUnitsAt] {
+            expect_cut(alloc, heap, units, n, cut, refusal)?;
+        }
     }
     Ok(())
 }

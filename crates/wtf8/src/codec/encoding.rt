@@ -108,7 +108,7 @@ pub(crate) fn keep_lead<A: Allocator>(bytes: &mut Vec<u8, A>, at: usize, lead: u
     requires lead { IsLead lead }
     requires within { at + 3 ≤ length bytes.old.items }
     ensures items { bytes.new.items ≡ take at bytes.old.items ++ encoding lead }
-    ensures capacity { vec_capacity bytes.old ≤ vec_capacity bytes.new }
+    ensures capacity { vec_capacity bytes.new ≡ vec_capacity bytes.old }
 {
     bytes.truncate(at + 3);
     bytes[at..at + 3].copy_from_slice(&three_bytes(u32::from(lead)));

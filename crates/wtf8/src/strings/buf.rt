@@ -13,6 +13,7 @@ ghost use Rattle.wtf8.specs.private.Prefixes.{AreScalarTo, AreScalarTo-prop};
 ghost use Rattle.wtf8.specs.private.Search.{IsFirst, SurrogateAt};
 ghost use Rattle.wtf8.specs.Unicode.{units, units_of};
 ghost use Rattle.std.specs.Option.{option_to_list};
+ghost use Rattle.wtf8.specs.UnitMark.{IsMark, RoundsDownTo};
 ghost use Rattle.wtf8.specs.UnitPosition.{units_of_slice, TruncatesUnits};
 ghost use Rattle.wtf8.specs.UnitString.{UnitString, unit_string_code};
 ghost use Rattle.wtf8.specs.View.{view_points, view_units};
@@ -24,6 +25,8 @@ use crate::from_utf16::transcode;
 use crate::lanes::search;
 use crate::strings::concat;
 use crate::strings::lossy::replace_surrogates;
+use crate::strings::unit_counts::UnitCursor;
+use crate::strings::unit_marks::UnitMark;
 use crate::strings::unit_positions::find_cut;
 use crate::strings::unit_slices::UnitSlice;
 use crate::strings::utf8_prefix::Utf8Prefix;
@@ -425,6 +428,7 @@ impl<A: Allocator> Wtf8Buf<A> {
         requires { IsBoundary self.old.units new_len }
         ensures units { IsFront self.old.units new_len self.new.units }
         ensures bytes { self.new.bytes ≡ take new_len self.old.bytes }
+        ensures capacity { self.new.capacity ≡ self.old.capacity }
     {
         self.utf8_prefix = self.utf8_prefix.after_truncate(new_len);
         self.bytes.truncate(new_len)
@@ -442,16 +446,37 @@ impl<A: Allocator> Wtf8Buf<A> {
 
     /// Shortens the string to `n` code units, which must be at most the number of code units. If that splits a
     /// surrogate pair, its lead stays as a lone surrogate: three bytes in place of four. Does not allocate. Linear in
-    /// `n`: units are counted from the front each time. To cut units off the end again and again, `truncate` to the
-    /// position of a mark that `mark_at` finds from one shortly before it.
+    /// `n`: units are counted from the front each time. To cut units off the end again and again, take
+    /// `truncate_units_at` with the mark that `mark_back` finds from the end.
     pub fn truncate_units(&mut self, n: usize)
         requires { n ≤ length self.old.units }
         ensures units { self.new.units ≡ take n self.old.units }
 
         // If position `k` is the code point boundary after the first `n` units, the first `k` bytes stay.
         ensures bytes { (k : ℕ) → IsFront self.old.units k (take n self.old.units) → self.new.bytes ≡ take k self.old.bytes }
+        ensures capacity { self.new.capacity ≡ self.old.capacity }
     {
         self.try_truncate_units(n);
+    }
+
+    /// Shortens the string to `n` code units, as `truncate_units`, without counting: `mark` is the mark that `mark_at` or
+    /// `mark_back` finds for `n`, which has `n` units before it, or one fewer if `n` splits a pair. Does not allocate.
+    pub fn truncate_units_at(&mut self, mark: UnitMark, n: usize)
+        requires mark { IsMark self.old.bytes self.old.units mark.position mark.units }
+        requires last { RoundsDownTo self.old.units n mark.units }
+        ensures units { self.new.units ≡ take n self.old.units }
+
+        // If position `k` is the code point boundary after the first `n` units, the first `k` bytes stay.
+        ensures bytes { (k : ℕ) → IsFront self.old.units k (take n self.old.units) → self.new.bytes ≡ take k self.old.bytes }
+        ensures capacity { self.new.capacity ≡ self.old.capacity }
+    {
+        if mark.units == n {
+            return self.truncate(mark.position);
+        }
+        let (_, pair) = self.as_wtf8().bytes.split_at(mark.position);
+        let lead = encoding::read_lead(pair);
+        self.utf8_prefix = self.utf8_prefix.up_to(mark.position);
+        encoding::keep_lead(&mut self.bytes, mark.position, lead);
     }
 
     /// Truncates to `position` bytes if that is a code point boundary, and returns whether it is.
@@ -467,20 +492,14 @@ impl<A: Allocator> Wtf8Buf<A> {
 
     /// Keeps the first `n` code units and returns true, or changes nothing and returns false if there are fewer.
     pub(crate) fn try_truncate_units(&mut self, n: usize) -> bool
-        ensures { TruncatesUnits self.old.units n self.new.units (if result then 0 else 1) }
+        ensures units { TruncatesUnits self.old.units n self.new.units (if result then 0 else 1) }
+        ensures capacity { self.new.capacity ≡ self.old.capacity }
     {
-        let view = self.as_wtf8();
-        let Some(cut) = find_cut(view, n) else {
+        let Some(cut) = find_cut(self.as_wtf8(), n) else {
             return false;
         };
-        if cut.units == n {
-            self.truncate(cut.position);
-            return true;
-        }
-        let (_, pair) = view.bytes.split_at(cut.position);
-        let lead = encoding::read_lead(pair);
-        self.utf8_prefix = self.utf8_prefix.up_to(cut.position);
-        encoding::keep_lead(&mut self.bytes, cut.position, lead);
+        let UnitCursor { position, units } = cut;
+        self.truncate_units_at(UnitMark { position, units }, n);
         true
     }
 

@@ -58,6 +58,37 @@ impl<'a> Wtf8<'a> {
         UnitMark { position, units }
     }
 
+    /// The mark with `units` code units before it, or one fewer if that splits a pair, found backwards: `from` is a mark
+    /// of this string at or after `units`. Linear in the distance from it.
+    pub fn mark_back(&self, from: UnitMark, units: usize) -> UnitMark
+        requires mark { IsMarkOf self.now from }
+        requires order { units ≤ from.units }
+        ensures mark { IsMarkOf self.now result }
+        ensures last { RoundsDownTo (view_units self.now) units result.units }
+        ensures exact { ¬ (DividesPair (view_units self.now) units) → result.units ≡ units }
+    {
+        let start = self.mark_shortly_before(from, units);
+        if start.units == units {
+            return start;
+        }
+        self.mark_at(start, units)
+    }
+
+    /// A mark at or before `units`, from which `from` is at most four times as far as from `units`, and a code point:
+    /// three bytes are skipped for each unit, since no unit takes more.
+    fn mark_shortly_before(&self, from: UnitMark, units: usize) -> UnitMark
+        requires mark { IsMarkOf self.now from }
+        requires order { units ≤ from.units }
+        ensures mark { IsMarkOf self.now result }
+        ensures order { result.units ≤ units }
+    {
+        let skipped = (from.units - units).saturating_mul(3);
+        let position = self.boundary_before(from.position.saturating_sub(skipped));
+        let more = self.slice(position, from.position).unit_len();
+        let units = from.units - more;
+        UnitMark { position, units }
+    }
+
     /// The mark at the last code point boundary at or before the byte `position`, which must be at most the length.
     /// `from` must be a mark of this string at or before `position`. Linear in the distance from it.
     pub fn mark_before(&self, from: UnitMark, position: usize) -> UnitMark

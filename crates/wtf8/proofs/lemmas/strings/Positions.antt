@@ -7,7 +7,7 @@ use Rattle.wtf8.proofs.Common.{sum_by_more, Splits, IsMiddle, UnitCursor, common
 use Rattle.wtf8.proofs.lemmas.lanes.UnitCounts.{utf16_len-ascii, utf16_len-continuation, utf16_len-lead_below_F0, utf16_len-lead_from_F0}
 use Rattle.wtf8.proofs.lemmas.codec.Encoding.{Begins, first-encoding, continuation-encoding, length-encoding_bounds, length-bytes_append}
 use Rattle.wtf8.proofs.lemmas.codec.Encoding.{bytes-append, encoding_cases}
-use Rattle.wtf8.proofs.lemmas.codec.Readings.{clean-front, clean-back, reads_same, cons-equal_parts, same_points, same_reading}
+use Rattle.wtf8.proofs.lemmas.codec.Readings.{clean-front, clean-back, reads_same, cons-equal_parts, same_form, same_points, same_reading}
 use Rattle.wtf8.proofs.lemmas.codec.Readings.{units_one, units_two}
 
 -- Cuts of the bytes of a list of code points.
@@ -115,6 +115,11 @@ pub front_form : {w u : List ℕ} (h : IsForm w u) (k : ℕ) (v : List ℕ) → 
 front_form h k v f =
     let before = (cut_by (well_formed_of h) f.front f.back k (reads_same h.reads f.splits.reads) f.splits.front_len).before in
     record { points = f.front; reads = record { clean = before.clean; same_units = f.same_units }; encoded = before.encoded }
+
+-- what has the units before a boundary has the bytes before it
+pub front_bytes : {w u : List ℕ} (h : IsForm w u) (old : List ℕ) {v : List ℕ} → IsForm old v → (k : ℕ) → IsFront v k u
+    → w ≡ take k old
+front_bytes {w} {u} h old g k f = same_form w (take k old) u h (front_form g k u f)
 
 -- a position is a boundary exactly if it is the end or the byte there begins a code point
 pub boundary_from_byte : {w : List ℕ} (h : IsWellFormed w) (k : ℕ) → k ≤ length w → (k < length w → Begins (get_or w k 0))

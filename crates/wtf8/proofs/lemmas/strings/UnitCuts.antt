@@ -51,7 +51,7 @@ pub record Divided (c : List ℕ) (n k p : ℕ) : Type 0 where
   pub pushed_len : length (bytes (front ++ p ∷ [])) ≡ k + 4
   pub long : k + 4 ≤ length (bytes c)
 
-divided_from_cut : {c : List ℕ} {n m k : ℕ} (x : CutsUnits c m k) (p : ℕ) (rest : List ℕ) → x.back ≡ p ∷ rest → 0x10000 ≤ p
+pub divided_from_cut : {c : List ℕ} {n m k : ℕ} (x : CutsUnits c m k) (p : ℕ) (rest : List ℕ) → x.back ≡ p ∷ rest → 0x10000 ≤ p
     → m + 1 ≡ n → Divided c n k p
 divided_from_cut {c} {n} {m} {k} x p rest e large one_less =
     let joined : c ≡ x.front ++ p ∷ rest = x.joined ∙ ap (λ b. x.front ++ b) e in

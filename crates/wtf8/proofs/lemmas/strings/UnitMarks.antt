@@ -1,21 +1,21 @@
 -- Marks: byte positions with the number of units before them.
 use Rattle.wtf8.proofs.Common.{◌≡◌, ◌+◌, ◌<◌, ◌≤◌, ℕ, List, [], ◌∷◌, ◌++◌, length, take, refl, sym, ap, ◌∙◌, subst, arith, well_formed_of}
 use Rattle.wtf8.proofs.Common.{length-append, append_assoc, take-append-drop, bytes-injective, units, bytes}
-use Rattle.wtf8.proofs.Common.{IsWellFormed, IsForm, UnitCursor, glue, ◌-◌, drop, length-take-le, AreAscii}
+use Rattle.wtf8.proofs.Common.{◌*◌, append-nil, encoding, form_of, Splits, IsWellFormed, IsForm, UnitCursor, glue, ◌-◌, drop, length-take-le, AreAscii}
 use Rattle.wtf8.proofs.Common.{take_all, length-drop, get_or, IsLead, IsTrail, IsBoundary, IsMiddle, IsFront, inl, inr, cases_lt, take_at}
 use Rattle.wtf8.proofs.Common.{drop_at, drop-append-le, All, IsUnit, MeetsAsPair, get_or-append_seam, DividesPair}
 use Rattle.std.proofs.lemmas.List.{take-append-le}
 use Rattle.wtf8.specs.PositionLaws.{EqualBoundariesHaveEqualFronts, BoundariesAreInOneOrder, BoundariesDivideNoPair}
-use Rattle.wtf8.specs.UnitMark.{IsMark, EqualCountsAreMarks, MarksStay, MarksDivideNoPair, EqualMarksHaveEqualUnits, MarksAreInOneOrder}
+use Rattle.wtf8.specs.UnitMark.{IsMark, RoundsDownTo, EqualCountsAreMarks, MarksStay, MarksDivideNoPair, EqualMarksHaveEqualUnits, MarksAreInOneOrder}
 use Rattle.wtf8.specs.UnitMark.{MarksAreFoundAgain, BoundariesAreMarks, MarksStayInFront}
-use Rattle.wtf8.proofs.lemmas.codec.Encoding.{bytes-append, encoding_cases}
-use Rattle.wtf8.proofs.lemmas.codec.Readings.{units-append, lists_have_lengths, units_one, units_two, same_form}
+use Rattle.wtf8.proofs.lemmas.codec.Encoding.{bytes-append, bytes-pushed, encoding_cases}
+use Rattle.wtf8.proofs.lemmas.codec.Readings.{units-append, units-pushed, lists_have_lengths, units_one, units_two, same_form}
 use Rattle.wtf8.proofs.lemmas.codec.Readings.{same_reading, reads_same, meets_by, form_append-unpaired}
 use Rattle.wtf8.proofs.lemmas.strings.Concatenation.{reads-glue, one_form, units_read}
 use Rattle.wtf8.proofs.lemmas.strings.ExtendedForms.{all_back}
 use Rattle.wtf8.proofs.lemmas.strings.Positions.{CutsUnits, PointsAbout}
 use Rattle.wtf8.proofs.lemmas.strings.Positions.{cut_by, points_after, boundary_of, same_splits, shorter_is_prefix, front_unique}
-use Rattle.wtf8.proofs.lemmas.strings.UnitCuts.{undivided_from_cut, divides_none}
+use Rattle.wtf8.proofs.lemmas.strings.UnitCuts.{undivided_from_cut, divided_from_cut, divides_none, Divided}
 use Rattle.wtf8.proofs.lemmas.codec.Scalars.{IsKnownForm-ascii, units-ascii}
 use Rattle.std.proofs.lemmas.Simd.{Each1-chunk}
 
@@ -231,6 +231,89 @@ equal_counts w u k f e h =
       before = (IsKnownForm-ascii (take k u) (Each1-chunk (λ n. n < 0x80) 0 k u same.0)).form;
       after = (IsKnownForm-ascii (drop k u) ascii_rest).form;
     })
+
+-- a boundary before a mark, and the mark that it is: a unit has at most three bytes
+pub record MarkBefore (w u : List ℕ) (k n end between : ℕ) : Type 0 where
+  pub fewer : between ≤ n
+  pub mark : IsMark w u k (n - between)
+  pub least : n - between ≤ k
+  pub most : end ≤ k + 3 * between
+
+pub mark_before : {w : List ℕ} (h : IsWellFormed w) {k n end : ℕ} (v : List ℕ) → IsMark w (units h.points) end n
+    → IsMiddle (units h.points) k end v → MarkBefore w (units h.points) k n end (length v)
+mark_before {w} h {k} {n} {end} v m x =
+    let front = length (units x.front) in
+    let own : IsMark w (units h.points) k front = mark_at_cut h (record {
+      front = x.front;
+      back = x.middle ++ x.back;
+      joined = same_reading h.points (x.front ++ (x.middle ++ x.back)) h.clean x.begins.reads.clean (sym x.begins.reads.same_units);
+      front_len = x.begins.front_len;
+      counted = refl;
+    }) in
+    let whole : n ≡ front + length v = (same_mark w (units h.points) end end n (front + length v) (form_of h) m (mark_after h v own x)).0 refl in
+    let between = lists_have_lengths x.middle in
+    let before = lists_have_lengths x.front in
+    let long = ap length (bytes-append x.front x.middle) ∙ length-append (bytes x.front) (bytes x.middle) in
+    let same = ap length x.same_units in
+    record {
+      fewer = omega (arith, whole);
+      mark = subst (IsMark w (units h.points) k) (omega (arith, whole)) own;
+      least = omega (arith, whole, before.units_least, x.begins.front_len);
+      most = omega (arith, long, same, between.units_most, x.begins.front_len, x.ends.front_len);
+    }
+
+-- the units before a mark are those that it counts
+pub front_of_mark : {w u : List ℕ} (f : IsForm w u) {k n : ℕ} → IsMark w u k n → IsFront u k (take n u)
+front_of_mark f {k} m =
+    let x = cut_of (well_formed_of f) m in
+    let splits = (cut_by (well_formed_of f) x.front x.back k x.joined x.front_len).splits in
+    record {
+      front = x.front;
+      back = x.back;
+      splits = subst (λ v. Splits v k x.front x.back) f.reads.same_units splits;
+      same_units = m.before.reads.same_units;
+    }
+
+-- a pair that is divided one unit after a mark begins at the mark
+pub divided_at_mark : {w u : List ℕ} (f : IsForm w u) {k m n : ℕ} → IsMark w u k m → m + 1 ≡ n → DividesPair u n
+    → (p : ℕ) × Divided f.points n k p
+divided_at_mark {w} {u} f {k} {m} {n} mark e pair = at_back x.back refl
+  where
+    x : CutsUnits f.points m k
+    x = cut_of (well_formed_of f) mark
+
+    inside : n < length u
+    inside = (divided_are_surrogates u n pair).1
+
+    own : DividesPair (units f.points) n
+    own = subst (λ v. DividesPair v n) (sym f.reads.same_units) pair
+
+    whole : (back : List ℕ) → x.back ≡ back → f.points ≡ x.front ++ back
+    whole back same = x.joined ∙ ap (λ b. x.front ++ b) same
+
+    at_back : (back : List ℕ) → x.back ≡ back → (p : ℕ) × Divided f.points n k p
+    at_back [] none =
+        let all = ap (λ c. length (units c)) (whole [] none ∙ append-nil x.front) in
+        absurd (omega (arith, inside, e, x.counted, all, ap length f.reads.same_units))
+    at_back (p ∷ rest) some = elim (cases_lt p 0x10000) [
+      | inl small ↦
+          let after : CutsUnits f.points n (k + length (encoding p)) = record {
+            front = x.front ++ p ∷ [];
+            back = rest;
+            joined = whole (p ∷ rest) some ∙ sym (append_assoc x.front (p ∷ []) rest);
+            front_len = grind (arith, bytes-pushed, length-append, x.front_len);
+            counted = grind (arith, units-pushed, units_one, length-append, x.counted);
+          } in
+          absurd (divides_none f.reads.clean (undivided_from_cut after) own)
+      | inr large ↦ (p, divided_from_cut x p rest some large e)
+    ]
+
+-- a number of units whose mark there is, is within the string
+pub within_rounded : {w u : List ℕ} {k m n : ℕ} → IsMark w u k m → RoundsDownTo u n m → n ≤ length u
+within_rounded {u} {n} mark last = elim last [
+  | inl same ↦ omega (arith, same, mark.units_within)
+  | inr less ↦ omega (arith, (divided_are_surrogates u n less.1).1)
+]
 
 -- joining changes no code point before the last
 glue-append_left : (f b d : List ℕ) → 0 < length (units b) → glue (f ++ b) d ≡ f ++ glue b d

@@ -30,4 +30,5 @@ returns g c =
       units = subst (λ u. IsFront u c.args.new_len (units c.self-1.given.0.points)) same
           (record { front = cut.front; back = cut.back; splits = cut.splits; same_units = kept });
       bytes = items ∙ ap (λ (t : UnitString). take c.args.new_len t.bytes) c.self.view_is;
+      capacity = c.truncate.ensures.capacity ∙ ap (λ (t : UnitString). t.capacity) c.self.view_is;
     }
