@@ -172,12 +172,12 @@ impl<A: Allocator> IndexedBuf<A> {
         requires { i ≤ length self.now.units }
         ensures { result ≡ slice_get self.now.units i }
     {
-        // A kept mark is for an index of at least `SPACING`.
-        if i < marks::SPACING {
+        // A kept mark is for an index of at least `SPACING`, and the end is farther than the start.
+        if i < marks::SPACING / 2 {
             return self.text.as_wtf8().unit_at(i);
         }
         let marked = self.marked();
-        let mark = marked.kept_mark_at_or_before(i);
+        let mark = marked.near_mark(i);
         let rest = marked.text.view.slice_from_mark(mark);
         rest.unit_at(i - mark.units)
     }
@@ -271,13 +271,8 @@ impl<A: Allocator> IndexedBuf<A> {
         ensures room_left { length self.old.bytes + length (encoding (number code_point)) ≤ self.old.capacity → IsOk result }
     {
         self.text.push(code_point)?;
-        laws::law_marks();
-        marks::count_more(
-            &self.text,
-            &mut self.count,
-            &mut self.marks,
-            unit_count(code_point),
-        );
+        let more = unit_count(code_point);
+        marks::count_more(&self.text, &mut self.count, &mut self.marks, more);
         Ok(())
     }
 
@@ -292,7 +287,6 @@ impl<A: Allocator> IndexedBuf<A> {
         ensures capacity { self.old.capacity ≤ self.new.capacity }
     {
         self.text.push_unit(unit)?;
-        laws::law_marks();
         marks::count_more(&self.text, &mut self.count, &mut self.marks, 1);
         Ok(())
     }
@@ -319,13 +313,8 @@ impl<A: Allocator> IndexedBuf<A> {
         ensures ascii_room { c < 0x80 → length self.old.bytes + 1 ≤ self.old.capacity → IsOk result }
     {
         self.text.push_char(c)?;
-        laws::law_marks();
-        marks::count_more(
-            &self.text,
-            &mut self.count,
-            &mut self.marks,
-            unit_count(CodePoint::from_char(c)),
-        );
+        let more = unit_count(CodePoint::from_char(c));
+        marks::count_more(&self.text, &mut self.count, &mut self.marks, more);
         Ok(())
     }
 
@@ -346,13 +335,8 @@ impl<A: Allocator> IndexedBuf<A> {
         ensures nothing { other.now ≡ [] → KeepsContents self.old self.new }
     {
         self.text.push_str(other)?;
-        laws::law_marks();
-        marks::count_more(
-            &self.text,
-            &mut self.count,
-            &mut self.marks,
-            Wtf8::from_str(other).unit_len(),
-        );
+        let more = Wtf8::from_str(other).unit_len();
+        marks::count_more(&self.text, &mut self.count, &mut self.marks, more);
         Ok(())
     }
 
@@ -373,7 +357,6 @@ impl<A: Allocator> IndexedBuf<A> {
         ensures nothing { units.now ≡ [] → KeepsContents self.old self.new }
     {
         self.text.push_ill_formed_utf16(units)?;
-        laws::law_marks();
         marks::count_more(&self.text, &mut self.count, &mut self.marks, units.len());
         Ok(())
     }
@@ -414,7 +397,6 @@ impl<A: Allocator> IndexedBuf<A> {
         ensures nothing { other.entry.bytes.now ≡ [] → KeepsContents self.old self.new }
     {
         self.text.push_wtf8(other)?;
-        laws::law_marks();
         marks::count_more(&self.text, &mut self.count, &mut self.marks, count);
         Ok(())
     }
@@ -427,10 +409,10 @@ impl<A: Allocator> IndexedBuf<A> {
 
         // If position `k` is the code point boundary after the first `n` units, the first `k` bytes stay.
         ensures bytes { (k : ℕ) → IsFront self.old.units k (take n self.old.units) → self.new.bytes ≡ take k self.old.bytes }
+        ensures capacity { self.new.capacity ≡ self.old.capacity }
     {
-        let view = CountedView::new(&self.text, self.count);
-        let mark = MarkedView::new(view, self.marks.as_ref()).mark_at(n);
-        slices::truncate_at(&mut self.text, mark, n);
+        let mark = self.marked().mark_at(n);
+        self.text.truncate_units_at(mark, n);
         self.count = n;
         laws::law_marks();
         laws::law_one_form();
@@ -443,6 +425,7 @@ impl<A: Allocator> IndexedBuf<A> {
         requires { IsBoundary self.old.units new_len }
         ensures units { IsFront self.old.units new_len self.new.units }
         ensures bytes { self.new.bytes ≡ take new_len self.old.bytes }
+        ensures capacity { self.new.capacity ≡ self.old.capacity }
     {
         self.count = self.unit_before(new_len);
         self.text.truncate(new_len);
@@ -482,6 +465,7 @@ impl<A: Allocator> IndexedBuf<A> {
     /// The view of the string with its marks.
     #[inline(always)]
     fn marked(&self) -> MarkedView<'_>
+        ensures bytes { result.text.view.bytes.now ≡ self.now.bytes }
         ensures units { view_units result.text.view ≡ self.now.units }
         ensures count { result.text.count ≡ length self.now.units }
     {

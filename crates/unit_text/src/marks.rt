@@ -1,11 +1,13 @@
 // The marks of a text, from which a unit is found without counting from the front of the text.
-ghost use Rattle.std.specs.Prelude.{◌≡◌, ◌≢◌, ◌+◌, ◌-◌, ◌*◌, ◌/◌, ◌<◌, ◌≤◌, ℕ, false, length, vec_capacity, take, drop, IfSome, IsTrue, ◌↔◌};
+ghost use Rattle.std.specs.Prelude.{◌≡◌, ◌≢◌, ◌+◌, ◌-◌, ◌*◌, ◌/◌, ◌<◌, ◌≤◌, ℕ, List, length, vec_capacity, take, drop, IfSome, IsTrue, ◌↔◌};
 ghost use Rattle.std.proofs.Props.{props};
 ghost use Rattle.unit_text.specs.Marks.{AreEnough, AreKept, AreMarks};
 ghost use Rattle.wtf8.specs.OneForm.{IsForm-prop};
 ghost use Rattle.wtf8.specs.Position.{IsBoundary};
-ghost use Rattle.wtf8.specs.UnitMark.{IsMark, IsMarkOf};
+ghost use Rattle.wtf8.specs.Appending.{AppendsUnits};
+ghost use Rattle.wtf8.specs.UnitMark.{IsMark, IsMarkOf, RoundsDownTo};
 ghost use Rattle.wtf8.specs.UnitPosition.{units_of_slice, DividesPair};
+ghost use Rattle.wtf8.specs.UnitString.{UnitString};
 ghost use Rattle.wtf8.specs.View.{view_units};
 
 use std::alloc::Allocator;
@@ -47,6 +49,18 @@ impl<'a> CountedView<'a> {
         CountedView {
             view: text.as_wtf8(),
             count,
+        }
+    }
+
+    /// The mark at the end.
+    #[inline(always)]
+    fn end_mark(&self) -> UnitMark
+        ensures mark { IsMarkOf self.now.view result }
+        ensures units { result.units ≡ self.now.count }
+    {
+        UnitMark {
+            position: self.view.len(),
+            units: self.count,
         }
     }
 
@@ -114,7 +128,7 @@ fn add_to_kept<A: Allocator>(text: CountedView<'_>, marks: &mut Option<Vec<UnitM
     }
 }
 
-/// Counts `more` units that were appended, and appends their marks, if marks are kept.
+/// Counts `more` units that were appended, and appends their marks, if marks are kept: those that there were stay marks.
 #[inline(always)]
 pub(crate) fn count_more<A: Allocator>(
     text: &Wtf8Buf<A>,
@@ -123,11 +137,12 @@ pub(crate) fn count_more<A: Allocator>(
     more: usize,
 )
     requires count { count.old + more ≡ length text.now.units }
-    requires marks { IfSome marks.old (λ m. AreKept text.now.bytes text.now.units m.items) }
+    requires marks { (old : UnitString) × (v : List ℕ) × (AppendsUnits old v text.now × IfSome marks.old (λ m. AreMarks old.bytes old.units m.items (vec_capacity m))) }
     ensures count { count.new ≡ length text.now.units }
     ensures marks { IfSome marks.new (λ m. AreMarks text.now.bytes text.now.units m.items (vec_capacity m)) }
 {
     prove!(text.len() <= usize::MAX);
+    laws::law_marks();
     *count += more;
     add_to_kept(CountedView::new(text, *count), marks);
 }
@@ -178,7 +193,7 @@ impl<'a> MarkedView<'a> {
 
     /// The last kept mark for a multiple of `SPACING` that is at most `units`, or the start if there is none.
     #[inline(always)]
-    pub(crate) fn kept_mark_at_or_before(&self, units: usize) -> UnitMark
+    fn kept_mark_at_or_before(&self, units: usize) -> UnitMark
         requires within { units ≤ self.now.text.count }
         ensures mark { IsMarkOf self.now.text.view result }
         ensures before { result.units ≤ units }
@@ -191,7 +206,7 @@ impl<'a> MarkedView<'a> {
         self.marks[number - 1]
     }
 
-    /// A mark at or before unit index `units`: at that index if the text is ASCII, else a kept mark or the start.
+    /// A mark at or before unit index `units`: at that index if the text is ASCII, else as `near_mark` finds it.
     fn mark_at_or_before(&self, units: usize) -> UnitMark
         requires within { units ≤ self.now.text.count }
         ensures mark { IsMarkOf self.now.text.view result }
@@ -205,18 +220,42 @@ impl<'a> MarkedView<'a> {
                 units,
             };
         }
-        self.kept_mark_at_or_before(units)
+        self.near_mark(units)
+    }
+
+    /// The last kept mark at or before unit index `units`, or the start if there is none. If the end is nearer, and at
+    /// most `SPACING` units after, this is the mark for `units` instead, or the one before the pair that it splits.
+    #[inline(always)]
+    pub(crate) fn near_mark(&self, units: usize) -> UnitMark
+        requires within { units ≤ self.now.text.count }
+        ensures mark { IsMarkOf self.now.text.view result }
+        ensures before { result.units ≤ units }
+        ensures close { length self.now.text.view.bytes.now ≢ length (view_units self.now.text.view) → AreEnough self.now.text.view.bytes.now (view_units self.now.text.view) (length self.now.marks.now) → units ≤ result.units + SPACING + 1 }
+
+        // Near the end the mark is close also if no mark is kept.
+        ensures close_to_end { self.now.text.count ≤ units + SPACING → units ≤ result.units + SPACING + 1 }
+    {
+        let kept = self.kept_mark_at_or_before(units);
+        let left = self.text.count - units;
+        if left <= SPACING && left < units - kept.units {
+            return self.text.view.mark_back(self.text.end_mark(), units);
+        }
+        kept
     }
 
     /// The mark with `units` code units before it, or with one fewer if that splits a pair.
     pub(crate) fn mark_at(&self, units: usize) -> UnitMark
         requires within { units ≤ self.now.text.count }
         ensures mark { IsMarkOf self.now.text.view result }
+        ensures last { RoundsDownTo (view_units self.now.text.view) units result.units }
         ensures whole { ¬ (DividesPair (view_units self.now.text.view) units) → result.units ≡ units }
         ensures divided { DividesPair (view_units self.now.text.view) units → result.units + 1 ≡ units }
     {
         laws::law_marks();
         let from = self.mark_at_or_before(units);
+        if from.units == units {
+            return from;
+        }
         self.text.view.mark_at(from, units)
     }
 
