@@ -148,7 +148,9 @@ impl<A: Allocator> IndexedBuf<A> {
         self.text.as_wtf8()
     }
 
-    /// The code unit at index `i`, or `None` at or past the end.
+    /// The code unit at index `i`, or `None` at or past the end. Constant in an ASCII string. In others it counts the units
+    /// from the last mark that is kept, or from the start; if more than 128 units are held, from the end if that is nearer
+    /// and at most 128 units away.
     pub fn unit_at(&self, i: usize) -> Option<u16>
         ensures unit { result ≡ slice_get self.now.units i }
         ensures none { IsNone result ↔ (length self.now.units ≤ i) }
@@ -177,9 +179,23 @@ impl<A: Allocator> IndexedBuf<A> {
             return self.text.as_wtf8().unit_at(i);
         }
         let marked = self.marked();
-        let mark = marked.near_mark(i);
+        let mark = marked.kept_mark_at_or_before(i);
+        if marked.is_nearer_end(mark, i) {
+            return self.unit_near_end(i);
+        }
         let rest = marked.text.view.slice_from_mark(mark);
         rest.unit_at(i - mark.units)
+    }
+
+    /// The code unit at index `i`, found from the end. Not inlined, so that the way from a mark needs no stack.
+    #[inline(never)]
+    fn unit_near_end(&self, i: usize) -> Option<u16>
+        requires { i ≤ length self.now.units }
+        ensures { result ≡ slice_get self.now.units i }
+    {
+        let text = CountedView::new(&self.text, self.count);
+        let mark = marks::mark_from_end(text, i);
+        text.view.slice_from_mark(mark).unit_at(i - mark.units)
     }
 
     /// The part from code unit `begin` to before code unit `end`, which must be in order and at most the number of code
@@ -216,7 +232,9 @@ impl<A: Allocator> IndexedBuf<A> {
     }
 
     /// The byte position of the code point boundary before the code unit at index `i`, or of the end if `i` is the length,
-    /// which it must not exceed. If `i` splits a surrogate pair, that is the position of the pair.
+    /// which it must not exceed. If `i` splits a surrogate pair, that is the position of the pair. Constant in an ASCII
+    /// string. In others it counts the units from the last mark that is kept, or from the start, or from the end if that
+    /// is nearer and at most 128 units away.
     pub fn position_at(&self, i: usize) -> usize
         requires { i ≤ length self.now.units }
         ensures whole { ¬ (DividesPair self.now.units i) → IsFront self.now.units result (take i self.now.units) }
@@ -402,7 +420,7 @@ impl<A: Allocator> IndexedBuf<A> {
     }
 
     /// Shortens the string to `n` code units, which must be at most the number of code units. If that splits a surrogate
-    /// pair, its lead stays as a lone surrogate. Does not allocate.
+    /// pair, its lead stays as a lone surrogate. Does not allocate. Counts the units as `position_at` does.
     pub fn truncate_units(&mut self, n: usize)
         requires { n ≤ length self.old.units }
         ensures units { self.new.units ≡ take n self.old.units }

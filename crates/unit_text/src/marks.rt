@@ -128,7 +128,8 @@ fn add_to_kept<A: Allocator>(text: CountedView<'_>, marks: &mut Option<Vec<UnitM
     }
 }
 
-/// Counts `more` units that were appended, and appends their marks, if marks are kept: those that there were stay marks.
+/// Counts `more` units that were appended to a string, and appends their marks, if marks are kept. The marks of the old
+/// string are marks of the new one.
 #[inline(always)]
 pub(crate) fn count_more<A: Allocator>(
     text: &Wtf8Buf<A>,
@@ -173,6 +174,17 @@ fn last_or_start(view: Wtf8<'_>, marks: &[UnitMark]) -> UnitMark
     marks[marks.len() - 1]
 }
 
+/// The mark with `units` code units before it, or with one fewer if that splits a pair, found from the end. Not inlined,
+/// so that a text whose marks are nearer costs little.
+#[inline(never)]
+pub(crate) fn mark_from_end(text: CountedView<'_>, units: usize) -> UnitMark
+    requires { units ≤ text.count }
+    ensures mark { IsMarkOf text.entry.view result }
+    ensures last { RoundsDownTo (view_units text.entry.view) units result.units }
+{
+    text.view.mark_back(text.end_mark(), units)
+}
+
 impl<'a> MarkedView<'a> {
     /// The view with these marks, or with none.
     #[inline(always)]
@@ -193,7 +205,7 @@ impl<'a> MarkedView<'a> {
 
     /// The last kept mark for a multiple of `SPACING` that is at most `units`, or the start if there is none.
     #[inline(always)]
-    fn kept_mark_at_or_before(&self, units: usize) -> UnitMark
+    pub(crate) fn kept_mark_at_or_before(&self, units: usize) -> UnitMark
         requires within { units ≤ self.now.text.count }
         ensures mark { IsMarkOf self.now.text.view result }
         ensures before { result.units ≤ units }
@@ -226,7 +238,7 @@ impl<'a> MarkedView<'a> {
     /// The last kept mark at or before unit index `units`, or the start if there is none. If the end is nearer, and at
     /// most `SPACING` units after, this is the mark for `units` instead, or the one before the pair that it splits.
     #[inline(always)]
-    pub(crate) fn near_mark(&self, units: usize) -> UnitMark
+    fn near_mark(&self, units: usize) -> UnitMark
         requires within { units ≤ self.now.text.count }
         ensures mark { IsMarkOf self.now.text.view result }
         ensures before { result.units ≤ units }
@@ -236,11 +248,23 @@ impl<'a> MarkedView<'a> {
         ensures close_to_end { self.now.text.count ≤ units + SPACING → units ≤ result.units + SPACING + 1 }
     {
         let kept = self.kept_mark_at_or_before(units);
-        let left = self.text.count - units;
-        if left <= SPACING && left < units - kept.units {
-            return self.text.view.mark_back(self.text.end_mark(), units);
+        if self.is_nearer_end(kept, units) {
+            return mark_from_end(self.text, units);
         }
         kept
+    }
+
+    /// Whether unit index `units` is at most `SPACING` units before the end, and nearer to it than to the mark `kept`.
+    #[inline(always)]
+    pub(crate) fn is_nearer_end(&self, kept: UnitMark, units: usize) -> bool
+        requires order { kept.units ≤ units }
+        requires within { units ≤ self.now.text.count }
+        ensures near { IsTrue result → self.now.text.count ≤ units + SPACING }
+        ensures nearer { IsTrue result → self.now.text.count + kept.units < 2 * units }
+        ensures farther { self.now.text.count ≤ units + SPACING → self.now.text.count + kept.units < 2 * units → IsTrue result }
+    {
+        let left = self.text.count - units;
+        left <= SPACING && left < units - kept.units
     }
 
     /// The mark with `units` code units before it, or with one fewer if that splits a pair.
