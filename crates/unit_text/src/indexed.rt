@@ -174,8 +174,8 @@ impl<A: Allocator> IndexedBuf<A> {
         requires { i ≤ length self.now.units }
         ensures { result ≡ slice_get self.now.units i }
     {
-        // A kept mark is for an index of at least `SPACING`, and the end is farther than the start.
-        if i < marks::SPACING / 2 {
+        // A kept mark is for an index of at least `SPACING`. The end is no nearer than the start.
+        if i < marks::SPACING && i <= self.count - i {
             return self.text.as_wtf8().unit_at(i);
         }
         let marked = self.marked();
