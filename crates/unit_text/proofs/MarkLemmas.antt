@@ -1,7 +1,9 @@
 -- Marks that stay valid when units are appended, and the units after a mark.
 use Rattle.std.proofs.Common.{◌≡◌, ℕ, ◌+◌, ◌<◌, ◌≤◌, List, [], ◌∷◌, ◌++◌, length, ap, arith}
-use Rattle.std.proofs.Common.{length-append, ◌≢◌, ◌*◌, ◌/◌, Bool, min, get_or, below_more, Option, Some, None, IfSome}
+use Rattle.std.proofs.Common.{length-append, ◌≢◌, ◌*◌, ◌/◌, min, get_or, below_more, Option, Some, None, IfSome}
 use Rattle.std.proofs.lemmas.List.{get_or_append_left, get_or_push}
+use Rattle.std.specs.Prelude.{vec_capacity}
+use Rattle.std.specs.declared.vec.Vec.{Vec}
 use Rattle.wtf8.specs.UnitMark.{IsMark, RoundsDownTo, MarksStay}
 use Rattle.wtf8.specs.UnitString.{UnitString}
 use Rattle.wtf8.specs.declared.strings.unit_marks.UnitMark.{UnitMark}
@@ -17,11 +19,11 @@ module _ (stay : MarksStay) (old new : UnitString) (v : List ℕ) (e : new.units
     before_last = omega (arith, ap length e, length-append old.units v);
   }
 
-  pub AreKept-append : {X : Type 0} (kept : Option X) (items : X → List UnitMark) (is_incomplete : X → Bool)
-      → IfSome kept (λ k. AreMarks old.bytes old.units (items k) (is_incomplete k))
-      → IfSome kept (λ k. AreKept new.bytes new.units (items k))
-  AreKept-append None items is_incomplete h = h
-  AreKept-append (Some k) items is_incomplete h = λ i d l. IsKept-append _ _ (h.kept i d l)
+  pub AreKept-append : {Z : Type 0} (kept : Option (Vec UnitMark Z))
+      → IfSome kept (λ k. AreMarks old.bytes old.units k.items (vec_capacity k))
+      → IfSome kept (λ k. AreKept new.bytes new.units k.items)
+  AreKept-append None h = h
+  AreKept-append (Some k) h = λ i d l. IsKept-append _ _ (h.kept i d l)
 
 -- a mark at `n` units, or one unit before if `n` divides a pair, is kept if `n` is below the number of units
 pub IsKept-mark_at : (w u : List ℕ) (mark : UnitMark) (n : ℕ) → IsMark w u mark.position mark.units → RoundsDownTo u n mark.units

@@ -1,7 +1,9 @@
 -- Marks of a text that became shorter, and the units before the position of a mark.
-use Rattle.std.proofs.Common.{◌≡◌, ◌≢◌, ℕ, ◌+◌, ◌-◌, ◌*◌, ◌/◌, ◌<◌, ◌≤◌, List, length, take, refl, sym, ap, ◌∙◌, arith, Bool}
+use Rattle.std.proofs.Common.{◌≡◌, ◌≢◌, ℕ, ◌+◌, ◌-◌, ◌*◌, ◌/◌, ◌<◌, ◌≤◌, List, length, take, refl, sym, ap, ◌∙◌, arith}
 use Rattle.std.proofs.Common.{Option, Some, None, IfSome, get_or}
 use Rattle.std.proofs.lemmas.List.{length-take, length-take-le, get_or-take}
+use Rattle.std.specs.Prelude.{vec_capacity}
+use Rattle.std.specs.declared.vec.Vec.{Vec}
 use Rattle.wtf8.specs.Form.{IsForm}
 use Rattle.wtf8.specs.Laws.{EqualFormsHaveEqualUnits}
 use Rattle.wtf8.specs.UnitMark.{IsMark, EqualCountsAreMarks, MarksStayInFront, MarksAreInOneOrder}
@@ -39,9 +41,9 @@ module _ (equal : EqualCountsAreMarks) (cut : MarksStayInFront) (same : EqualFor
 
   -- the kept marks before the last unit of a text that became shorter are its marks
   AreMarks-truncate : (old : UnitString) (new : Wtf8) (n : ℕ) → n ≤ length old.units → view_units new ≡ take n old.units
-      → (marks : List UnitMark) (is_incomplete : Bool) → AreMarks old.bytes old.units marks is_incomplete
-      → AreMarks new.bytes.now (view_units new) (take ((n - 1) / spacing) marks) is_incomplete
-  AreMarks-truncate old new n within e marks is_incomplete m =
+      → (marks : List UnitMark) (capacity : ℕ) → AreMarks old.bytes old.units marks capacity
+      → AreMarks new.bytes.now (view_units new) (take ((n - 1) / spacing) marks) capacity
+  AreMarks-truncate old new n within e marks capacity m =
       let count = (n - 1) / spacing in
       let form : IsForm new.bytes.now (take n old.units) = rw e at (view_form new) in
       let long : length (view_units new) ≡ n = ap length e ∙ length-take-le n old.units within in
@@ -57,16 +59,15 @@ module _ (equal : EqualCountsAreMarks) (cut : MarksStayInFront) (same : EqualFor
               at_least = own.at_least;
               before_last = omega (arith, own.at_most);
             });
-        all = λ granted not_ascii number l.
+        all = λ room not_ascii number l.
             let old_not_ascii : length old.bytes ≢ length old.units =
             λ s. not_ascii (equal_counts_of_front old.bytes new.bytes.now old.units n old.form form within s ∙ sym (ap length e)) in
-            let enough = m.all granted old_not_ascii number (omega arith) in
-            omega arith;
+            let enough : length marks < capacity → number ≤ length marks = λ free. m.all free old_not_ascii number (omega arith) in
+            grind (arith, enough, fewer, long, l, room);
       }
 
-  pub AreMarks-truncated : {X : Type 0} (kept : Option X) (items : X → List UnitMark) (is_incomplete : X → Bool) (old : UnitString)
-      (new : Wtf8) (n : ℕ) → n ≤ length old.units
-      → view_units new ≡ take n old.units → IfSome kept (λ k. AreMarks old.bytes old.units (items k) (is_incomplete k))
-      → IfSome kept (λ k. AreMarks new.bytes.now (view_units new) (take ((n - 1) / spacing) (items k)) (is_incomplete k))
-  AreMarks-truncated None items is_incomplete old new n within e h = h
-  AreMarks-truncated (Some k) items is_incomplete old new n within e h = AreMarks-truncate old new n within e (items k) (is_incomplete k) h
+  pub AreMarks-truncated : {Z : Type 0} (kept : Option (Vec UnitMark Z)) (old : UnitString) (new : Wtf8) (n : ℕ) → n ≤ length old.units
+      → view_units new ≡ take n old.units → IfSome kept (λ k. AreMarks old.bytes old.units k.items (vec_capacity k))
+      → IfSome kept (λ k. AreMarks new.bytes.now (view_units new) (take ((n - 1) / spacing) k.items) (vec_capacity k))
+  AreMarks-truncated None old new n within e h = h
+  AreMarks-truncated (Some k) old new n within e h = AreMarks-truncate old new n within e k.items (vec_capacity k) h

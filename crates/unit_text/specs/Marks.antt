@@ -1,5 +1,5 @@
 -- The marks that a text keeps.
-use Rattle.std.specs.Prelude.{◌≡◌, ◌≢◌, ℕ, ◌+◌, ◌*◌, ◌<◌, ◌≤◌, Bool, false, List, length, slice_index_or}
+use Rattle.std.specs.Prelude.{◌≢◌, ℕ, ◌+◌, ◌*◌, ◌<◌, ◌≤◌, List, length, slice_index_or}
 use Rattle.wtf8.specs.UnitMark.{IsMark}
 use Rattle.wtf8.specs.declared.strings.unit_marks.UnitMark.{UnitMark}
 
@@ -23,7 +23,7 @@ AreKept w u marks = (k : ℕ) (d : UnitMark) → k < length marks → IsKept w u
 abbrev pub AreEnough : List ℕ → List ℕ → ℕ → Type 0
 AreEnough w u count = (length w ≢ length u) → (n : ℕ) → n * spacing < length u → n ≤ count
 
--- The marks are as `AreKept` says and, unless memory was refused for one, all that `AreEnough` says are there.
-pub record AreMarks (w u : List ℕ) (marks : List UnitMark) (is_incomplete : Bool) : Type 0 where
+-- The marks are as `AreKept` says and, unless a list of this capacity is full, as many as `AreEnough` says.
+pub record AreMarks (w u : List ℕ) (marks : List UnitMark) (capacity : ℕ) : Type 0 where
   pub kept : AreKept w u marks
-  pub all : is_incomplete ≡ false → AreEnough w u (length marks)
+  pub all : length marks < capacity → AreEnough w u (length marks)

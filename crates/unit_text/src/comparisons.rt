@@ -4,9 +4,10 @@ ghost use Rattle.std.specs.Cmp.Lexicographic.{pointwise, slice_cmp};
 ghost use Rattle.std.specs.Cmp.Rules.{comparing, hashing};
 ghost use Rattle.std.specs.Cmp.{partial_order_from_own_ties};
 ghost use Rattle.std.specs.Hash as fed;
-ghost use Rattle.std.specs.Ordering.{as_partial_cmp, nat_cmp, on};
+ghost use Rattle.std.specs.Ordering.{MatchOrdering, as_partial_cmp, nat_cmp, on};
 ghost use Rattle.std.specs.Prelude.{◌≡◌, ◌↔◌, ◌∷◌, nat_eq, IsTrue};
 ghost use Rattle.wtf8.specs.Form.{bytes};
+ghost use Rattle.wtf8.specs.Order.{Before};
 
 use crate::indexed::IndexedBuf;
 use crate::text::UnitText;
@@ -51,6 +52,7 @@ impl<A: Allocator> PartialEq for IndexedBuf<A> {
 
     fn eq(&self, other: &IndexedBuf<A>) -> bool
         ensures bytes { result ≡ pointwise nat_eq self.now.bytes other.now.bytes }
+        ensures points { IsTrue result ↔ (self.now.form.points ≡ other.now.form.points) }
         ensures units { IsTrue result ↔ (self.now.units ≡ other.now.units) }
     {
         self.text == other.text
@@ -79,6 +81,9 @@ impl<A: Allocator> Ord for IndexedBuf<A> {
 
     fn cmp(&self, other: &IndexedBuf<A>) -> Ordering
         ensures bytes { result ≡ slice_cmp nat_cmp self.now.bytes other.now.bytes }
+        ensures points { result ≡ slice_cmp nat_cmp self.now.form.points other.now.form.points }
+        ensures order { let own = self.now.form.points in let others = other.now.form.points in
+            MatchOrdering result (Before own others) (own ≡ others) (Before others own) }
     {
         self.text.cmp(&other.text)
     }

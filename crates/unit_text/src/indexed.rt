@@ -3,7 +3,7 @@ ghost use Rattle.std.specs.Prelude.{◌≡◌, ◌↔◌, ◌+◌, ◌*◌, ◌-
 ghost use Rattle.std.specs.Str.{chars};
 ghost use Rattle.wtf8.specs.Appending.{AppendsUnits, KeepsContents, HasRoomFor, AddsLength};
 ghost use Rattle.wtf8.specs.CodePoint.{number};
-ghost use Rattle.wtf8.specs.Form.{encoding};
+ghost use Rattle.wtf8.specs.Form.{IsForm, encoding};
 ghost use Rattle.wtf8.specs.Position.{IsBoundary, IsFront};
 ghost use Rattle.wtf8.specs.Unicode.{units, units_of};
 ghost use Rattle.wtf8.specs.UnitPosition.{units_of_slice, DividesPair};
@@ -12,11 +12,11 @@ ghost use Rattle.wtf8.specs.Units.{unread_units};
 ghost use Rattle.wtf8.specs.View.{view_points, view_units};
 ghost use Rattle.unit_text.specs.Positions.{AreUnitsBefore};
 
-use crate::marks::{self, CountedView, MarkedView, Marks};
+use crate::marks::{self, CountedView, MarkedView};
 use crate::slices;
 use std::alloc::{AllocError, Allocator};
 use std::marker::Model;
-use wtf8::{CodePoint, IllFormedUtf16CodeUnits, UnitSlice, Wtf8, Wtf8Buf, laws};
+use wtf8::{CodePoint, IllFormedUtf16CodeUnits, UnitMark, UnitSlice, Wtf8, Wtf8Buf, laws};
 
 /// A `Wtf8Buf` that knows the number of its code units, and finds any of them. `mark_units` adds marks, from which a unit
 /// is found without counting from the front; an ASCII string needs none.
@@ -26,7 +26,7 @@ use wtf8::{CodePoint, IllFormedUtf16CodeUnits, UnitSlice, Wtf8, Wtf8Buf, laws};
 pub struct IndexedBuf<A: Allocator> {
     pub(crate) text: Wtf8Buf<A>,
     count: usize,
-    marks: Option<Marks<A>>,
+    marks: Option<Vec<UnitMark, A>>,
 }
 
 impl<A: Allocator> Model for IndexedBuf<A> {
@@ -38,10 +38,10 @@ impl<A: Allocator> Model for IndexedBuf<A> {
 
     ghost view = { λ t. t.text };
 
-    ghost use Rattle.std.specs.Prelude.{◌≡◌, length, IfSome};
+    ghost use Rattle.std.specs.Prelude.{◌≡◌, length, vec_capacity, IfSome};
     ghost use Rattle.unit_text.specs.Marks.{AreMarks};
 
-    ghost invariant = { λ t. (t.count ≡ length t.text.units) × IfSome t.marks (λ m. AreMarks t.text.bytes t.text.units m.kept.items m.is_incomplete) };
+    ghost invariant = { λ t. (t.count ≡ length t.text.units) × IfSome t.marks (λ m. AreMarks t.text.bytes t.text.units m.items (vec_capacity m)) };
 }
 
 impl<A: Allocator> IndexedBuf<A> {
@@ -67,6 +67,7 @@ impl<A: Allocator> IndexedBuf<A> {
     /// Makes the string with these code units, paired or not. Does not allocate if there are none.
     pub fn from_units(alloc: A, units: &[u16]) -> Result<IndexedBuf<A>, AllocError>
         ensures ok { IfOk result (λ b. b.units ≡ units.now) }
+        ensures form { IfOk result (λ b. (w : List ℕ) → IsForm w units.now → b.bytes ≡ w) }
         ensures empty { units.now ≡ [] → IsOk result }
     {
         let text = Wtf8Buf::from_ill_formed_utf16(alloc, units)?;
@@ -120,7 +121,7 @@ impl<A: Allocator> IndexedBuf<A> {
         ensures { self.new ≡ self.old }
     {
         let text = CountedView::new(&self.text, self.count);
-        self.marks = Some(Marks::of(alloc, text));
+        self.marks = Some(marks::marks_of(alloc, text));
     }
 
     /// The length in code units. Constant.
@@ -147,7 +148,9 @@ impl<A: Allocator> IndexedBuf<A> {
         self.text.as_wtf8()
     }
 
-    /// The code unit at index `i`, or `None` at or past the end.
+    /// The code unit at index `i`, or `None` at or past the end. Constant in an ASCII string. In others it counts the units
+    /// from the last mark that is kept, or from the start; if more than 128 units are held, from the end if that is nearer
+    /// and at most 128 units away.
     pub fn unit_at(&self, i: usize) -> Option<u16>
         ensures unit { result ≡ slice_get self.now.units i }
         ensures none { IsNone result ↔ (length self.now.units ≤ i) }
@@ -171,14 +174,28 @@ impl<A: Allocator> IndexedBuf<A> {
         requires { i ≤ length self.now.units }
         ensures { result ≡ slice_get self.now.units i }
     {
-        // A kept mark is for an index of at least `SPACING`.
-        if i < marks::SPACING {
+        // A kept mark is for an index of at least `SPACING`. The end is no nearer than the start.
+        if i < marks::SPACING && i <= self.count - i {
             return self.text.as_wtf8().unit_at(i);
         }
         let marked = self.marked();
         let mark = marked.kept_mark_at_or_before(i);
+        if marked.is_nearer_end(mark, i) {
+            return self.unit_near_end(i);
+        }
         let rest = marked.text.view.slice_from_mark(mark);
         rest.unit_at(i - mark.units)
+    }
+
+    /// The code unit at index `i`, found from the end. Not inlined, so that the way from a mark needs no stack.
+    #[inline(never)]
+    fn unit_near_end(&self, i: usize) -> Option<u16>
+        requires { i ≤ length self.now.units }
+        ensures { result ≡ slice_get self.now.units i }
+    {
+        let text = CountedView::new(&self.text, self.count);
+        let mark = marks::mark_from_end(text, i);
+        text.view.slice_from_mark(mark).unit_at(i - mark.units)
     }
 
     /// The part from code unit `begin` to before code unit `end`, which must be in order and at most the number of code
@@ -215,7 +232,9 @@ impl<A: Allocator> IndexedBuf<A> {
     }
 
     /// The byte position of the code point boundary before the code unit at index `i`, or of the end if `i` is the length,
-    /// which it must not exceed. If `i` splits a surrogate pair, that is the position of the pair.
+    /// which it must not exceed. If `i` splits a surrogate pair, that is the position of the pair. Constant in an ASCII
+    /// string. In others it counts the units from the last mark that is kept, or from the start, or from the end if that
+    /// is nearer and at most 128 units away.
     pub fn position_at(&self, i: usize) -> usize
         requires { i ≤ length self.now.units }
         ensures whole { ¬ (DividesPair self.now.units i) → IsFront self.now.units result (take i self.now.units) }
@@ -258,18 +277,20 @@ impl<A: Allocator> IndexedBuf<A> {
         ensures ok { OnOk result (AppendsUnits self.old (units_of (number code_point)) self.new) }
         ensures kept { OnErr result (KeepsContents self.old self.new) }
 
+        // A code point below U+10000 is one unit.
+        ensures one_unit { number code_point < 0x10000 → OnOk result (AppendsUnits self.old (number code_point ∷ []) self.new) }
+
         // A push whose bytes fit is never refused, and the capacity never shrinks.
         ensures room { HasRoomFor self.old (units_of (number code_point)) → IsOk result }
         ensures capacity { self.old.capacity ≤ self.new.capacity }
+
+        // In bytes: the length grows by at most the code point's encoded length, and spare capacity for that is enough.
+        ensures at_most { OnOk result (length self.new.bytes ≤ length self.old.bytes + length (encoding (number code_point))) }
+        ensures room_left { length self.old.bytes + length (encoding (number code_point)) ≤ self.old.capacity → IsOk result }
     {
         self.text.push(code_point)?;
-        laws::law_marks();
-        marks::count_more(
-            &self.text,
-            &mut self.count,
-            &mut self.marks,
-            unit_count(code_point),
-        );
+        let more = unit_count(code_point);
+        marks::count_more(&self.text, &mut self.count, &mut self.marks, more);
         Ok(())
     }
 
@@ -284,7 +305,6 @@ impl<A: Allocator> IndexedBuf<A> {
         ensures capacity { self.old.capacity ≤ self.new.capacity }
     {
         self.text.push_unit(unit)?;
-        laws::law_marks();
         marks::count_more(&self.text, &mut self.count, &mut self.marks, 1);
         Ok(())
     }
@@ -294,18 +314,25 @@ impl<A: Allocator> IndexedBuf<A> {
         ensures ok { OnOk result (AppendsUnits self.old (units_of c) self.new) }
         ensures kept { OnErr result (KeepsContents self.old self.new) }
 
+        // A character below U+10000 is one unit.
+        ensures one_unit { c < 0x10000 → OnOk result (AppendsUnits self.old (c ∷ []) self.new) }
+
         // A push whose bytes fit is never refused, and the capacity never shrinks.
         ensures room { HasRoomFor self.old (units_of c) → IsOk result }
         ensures capacity { self.old.capacity ≤ self.new.capacity }
+
+        // In bytes: the character's encoding is appended, and spare capacity for it is enough.
+        ensures bytes { OnOk result (self.new.bytes ≡ self.old.bytes ++ encoding c) }
+        ensures at_most { OnOk result (length self.new.bytes ≤ length self.old.bytes + length (encoding c)) }
+        ensures room_left { length self.old.bytes + length (encoding c) ≤ self.old.capacity → IsOk result }
+
+        // An ASCII character is one byte.
+        ensures ascii_length { c < 0x80 → OnOk result (length self.new.bytes ≡ length self.old.bytes + 1) }
+        ensures ascii_room { c < 0x80 → length self.old.bytes + 1 ≤ self.old.capacity → IsOk result }
     {
         self.text.push_char(c)?;
-        laws::law_marks();
-        marks::count_more(
-            &self.text,
-            &mut self.count,
-            &mut self.marks,
-            unit_count(CodePoint::from_char(c)),
-        );
+        let more = unit_count(CodePoint::from_char(c));
+        marks::count_more(&self.text, &mut self.count, &mut self.marks, more);
         Ok(())
     }
 
@@ -314,34 +341,40 @@ impl<A: Allocator> IndexedBuf<A> {
         ensures ok { OnOk result (AppendsUnits self.old (units (chars other.now)) self.new) }
         ensures kept { OnErr result (KeepsContents self.old self.new) }
 
-        // A push whose bytes fit is never refused, and the capacity never shrinks.
+        // A push whose bytes fit is never refused, nor is an empty text, and the capacity never shrinks.
         ensures room { HasRoomFor self.old (units (chars other.now)) → IsOk result }
         ensures empty { other.now ≡ [] → IsOk result }
         ensures capacity { self.old.capacity ≤ self.new.capacity }
+
+        // In bytes: the length grows by at most the text's length, spare capacity for that is enough, and an empty text
+        // changes nothing.
+        ensures at_most { OnOk result (length self.new.bytes ≤ length self.old.bytes + length other.now) }
+        ensures room_left { length self.old.bytes + length other.now ≤ self.old.capacity → IsOk result }
+        ensures nothing { other.now ≡ [] → KeepsContents self.old self.new }
     {
         self.text.push_str(other)?;
-        laws::law_marks();
-        marks::count_more(
-            &self.text,
-            &mut self.count,
-            &mut self.marks,
-            Wtf8::from_str(other).unit_len(),
-        );
+        let more = Wtf8::from_str(other).unit_len();
+        marks::count_more(&self.text, &mut self.count, &mut self.marks, more);
         Ok(())
     }
 
     /// Appends code units, paired or not. If memory is refused, the string is unchanged.
     pub fn push_units(&mut self, units: &[u16]) -> Result<(), AllocError>
-        ensures ok { OnOk result (AppendsUnits self.old (units.now) self.new) }
+        ensures ok { OnOk result (AppendsUnits self.old units.now self.new) }
         ensures kept { OnErr result (KeepsContents self.old self.new) }
 
-        // A push whose bytes fit is never refused, and the capacity never shrinks.
-        ensures room { HasRoomFor self.old (units.now) → IsOk result }
+        // A push whose bytes fit is never refused, nor are no units, and the capacity never shrinks.
+        ensures room { HasRoomFor self.old units.now → IsOk result }
         ensures empty { units.now ≡ [] → IsOk result }
         ensures capacity { self.old.capacity ≤ self.new.capacity }
+
+        // In bytes: the length grows by at most three for each unit, spare capacity for that is enough, and no units
+        // change nothing.
+        ensures at_most { OnOk result (length self.new.bytes ≤ length self.old.bytes + 3 * length units.now) }
+        ensures room_left { length self.old.bytes + 3 * length units.now ≤ self.old.capacity → IsOk result }
+        ensures nothing { units.now ≡ [] → KeepsContents self.old self.new }
     {
         self.text.push_ill_formed_utf16(units)?;
-        laws::law_marks();
         marks::count_more(&self.text, &mut self.count, &mut self.marks, units.len());
         Ok(())
     }
@@ -351,10 +384,19 @@ impl<A: Allocator> IndexedBuf<A> {
         ensures ok { OnOk result (AppendsUnits self.old (view_units other.entry) self.new) }
         ensures kept { OnErr result (KeepsContents self.old self.new) }
 
+        // The length grows by the other's length, minus 2 if a lead meets a trail.
+        ensures length { OnOk result (AddsLength self.old other.entry self.new) }
+
         // A push whose bytes fit is never refused, nor is an empty string, and the capacity never shrinks.
         ensures room { HasRoomFor self.old (view_units other.entry) → IsOk result }
         ensures empty { view_units other.entry ≡ [] → IsOk result }
         ensures capacity { self.old.capacity ≤ self.new.capacity }
+
+        // In bytes: the length grows by at most the other's length, spare capacity for that is enough, and an empty
+        // string changes nothing.
+        ensures at_most { OnOk result (length self.new.bytes ≤ length self.old.bytes + length other.entry.bytes.now) }
+        ensures room_left { length self.old.bytes + length other.entry.bytes.now ≤ self.old.capacity → IsOk result }
+        ensures nothing { other.entry.bytes.now ≡ [] → KeepsContents self.old self.new }
     {
         self.push_counted(other, other.unit_len())
     }
@@ -364,25 +406,31 @@ impl<A: Allocator> IndexedBuf<A> {
         requires { count ≡ length (view_units other) }
         ensures ok { OnOk result (AppendsUnits self.old (view_units other.entry) self.new) }
         ensures kept { OnErr result (KeepsContents self.old self.new) }
+        ensures length { OnOk result (AddsLength self.old other.entry self.new) }
         ensures room { HasRoomFor self.old (view_units other.entry) → IsOk result }
         ensures empty { view_units other.entry ≡ [] → IsOk result }
         ensures capacity { self.old.capacity ≤ self.new.capacity }
+        ensures at_most { OnOk result (length self.new.bytes ≤ length self.old.bytes + length other.entry.bytes.now) }
+        ensures room_left { length self.old.bytes + length other.entry.bytes.now ≤ self.old.capacity → IsOk result }
+        ensures nothing { other.entry.bytes.now ≡ [] → KeepsContents self.old self.new }
     {
         self.text.push_wtf8(other)?;
-        laws::law_marks();
         marks::count_more(&self.text, &mut self.count, &mut self.marks, count);
         Ok(())
     }
 
     /// Shortens the string to `n` code units, which must be at most the number of code units. If that splits a surrogate
-    /// pair, its lead stays as a lone surrogate. Does not allocate.
+    /// pair, its lead stays as a lone surrogate. Does not allocate. Counts the units as `position_at` does.
     pub fn truncate_units(&mut self, n: usize)
         requires { n ≤ length self.old.units }
-        ensures { self.new.units ≡ take n self.old.units }
+        ensures units { self.new.units ≡ take n self.old.units }
+
+        // If position `k` is the code point boundary after the first `n` units, the first `k` bytes stay.
+        ensures bytes { (k : ℕ) → IsFront self.old.units k (take n self.old.units) → self.new.bytes ≡ take k self.old.bytes }
+        ensures capacity { self.new.capacity ≡ self.old.capacity }
     {
-        let view = CountedView::new(&self.text, self.count);
-        let mark = MarkedView::new(view, self.marks.as_ref()).mark_at(n);
-        slices::truncate_at(&mut self.text, mark, n);
+        let mark = self.marked().mark_at(n);
+        self.text.truncate_units_at(mark, n);
         self.count = n;
         laws::law_marks();
         laws::law_one_form();
@@ -395,6 +443,7 @@ impl<A: Allocator> IndexedBuf<A> {
         requires { IsBoundary self.old.units new_len }
         ensures units { IsFront self.old.units new_len self.new.units }
         ensures bytes { self.new.bytes ≡ take new_len self.old.bytes }
+        ensures capacity { self.new.capacity ≡ self.old.capacity }
     {
         self.count = self.unit_before(new_len);
         self.text.truncate(new_len);
@@ -427,13 +476,14 @@ impl<A: Allocator> IndexedBuf<A> {
         self.text.clear();
         self.count = 0;
         if let Some(marks) = &mut self.marks {
-            marks.kept.clear();
+            marks.clear();
         }
     }
 
     /// The view of the string with its marks.
     #[inline(always)]
-    fn marked(&self) -> MarkedView<'_, A>
+    fn marked(&self) -> MarkedView<'_>
+        ensures bytes { result.text.view.bytes.now ≡ self.now.bytes }
         ensures units { view_units result.text.view ≡ self.now.units }
         ensures count { result.text.count ≡ length self.now.units }
     {

@@ -1,4 +1,5 @@
-//! Text that is counted in 16-bit units, as a JavaScript runtime counts its strings.
+//! Strings whose 16-bit units are found by their index: `IndexedBuf`, a `Wtf8Buf` with the number of its units, and
+//! `UnitText`, which is counted, cut and compared by units, as a JavaScript runtime does.
 #![tactic(auto)]
 
 mod comparisons;

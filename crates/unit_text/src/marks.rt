@@ -1,11 +1,13 @@
 // The marks of a text, from which a unit is found without counting from the front of the text.
-ghost use Rattle.std.specs.Prelude.{◌≡◌, ◌≢◌, ◌+◌, ◌-◌, ◌*◌, ◌/◌, ◌<◌, ◌≤◌, ℕ, false, length, vec_capacity, take, drop, IfSome, IsTrue, ◌↔◌};
+ghost use Rattle.std.specs.Prelude.{◌≡◌, ◌≢◌, ◌+◌, ◌-◌, ◌*◌, ◌/◌, ◌<◌, ◌≤◌, ℕ, List, length, vec_capacity, take, drop, IfSome, IsTrue, ◌↔◌};
 ghost use Rattle.std.proofs.Props.{props};
 ghost use Rattle.unit_text.specs.Marks.{AreEnough, AreKept, AreMarks};
 ghost use Rattle.wtf8.specs.OneForm.{IsForm-prop};
 ghost use Rattle.wtf8.specs.Position.{IsBoundary};
-ghost use Rattle.wtf8.specs.UnitMark.{IsMark, IsMarkOf};
+ghost use Rattle.wtf8.specs.Appending.{AppendsUnits};
+ghost use Rattle.wtf8.specs.UnitMark.{IsMark, IsMarkOf, RoundsDownTo};
 ghost use Rattle.wtf8.specs.UnitPosition.{units_of_slice, DividesPair};
+ghost use Rattle.wtf8.specs.UnitString.{UnitString};
 ghost use Rattle.wtf8.specs.View.{view_units};
 
 use std::alloc::Allocator;
@@ -27,19 +29,12 @@ pub(crate) struct CountedView<'a> {
     ghost counted: { count ≡ length (view_units view) },
 }
 
-/// The marks of a text, in order, and whether memory was refused for any that is missing.
-#[derive(Drop)]
-pub(crate) struct Marks<A: Allocator> {
-    pub(crate) kept: Vec<UnitMark, A>,
-    pub(crate) is_incomplete: bool,
-}
-
-/// A view with the marks that are kept of it, if any are.
-#[derive(Drop)]
-pub(crate) struct MarkedView<'a, A: Allocator> {
+/// A view with the marks that are kept of it, in order.
+#[derive(Clone, Copy)]
+pub(crate) struct MarkedView<'a> {
     pub(crate) text: CountedView<'a>,
-    marks: Option<&'a Marks<A>>,
-    ghost marked: { IfSome marks (λ m. AreMarks text.view.bytes.now (view_units text.view) m.now.kept.items m.now.is_incomplete) } by { Prim.hlevel (props, IsForm-prop) },
+    marks: &'a [UnitMark],
+    ghost kept: { AreKept text.view.bytes.now (view_units text.view) marks.now } by { Prim.hlevel (props, IsForm-prop) },
 }
 
 impl<'a> CountedView<'a> {
@@ -54,6 +49,18 @@ impl<'a> CountedView<'a> {
         CountedView {
             view: text.as_wtf8(),
             count,
+        }
+    }
+
+    /// The mark at the end.
+    #[inline(always)]
+    fn end_mark(&self) -> UnitMark
+        ensures mark { IsMarkOf self.now.view result }
+        ensures units { result.units ≡ self.now.count }
+    {
+        UnitMark {
+            position: self.view.len(),
+            units: self.count,
         }
     }
 
@@ -80,81 +87,78 @@ impl<'a> CountedView<'a> {
     }
 }
 
-impl<A: Allocator> Marks<A> {
-    /// Makes the marks of a text, and stops at the first that is refused memory.
-    pub(crate) fn of(alloc: A, text: CountedView<'_>) -> Marks<A>
-        ensures { AreMarks text.entry.view.bytes.now (view_units text.entry.view) result.kept.items result.is_incomplete }
-    {
-        let mut kept = Vec::new(alloc);
-        // If memory for all marks at once is refused, there may be enough for a few.
-        let _is_found = kept.reserve_exact(text.needed_mark_count()).is_ok();
-        let is_incomplete = add_marks(text, &mut kept);
-        Marks {
-            kept,
-            is_incomplete,
-        }
-    }
+/// Makes the marks of a text, and stops at the first that is refused memory.
+pub(crate) fn marks_of<A: Allocator>(alloc: A, text: CountedView<'_>) -> Vec<UnitMark, A>
+    ensures { AreMarks text.entry.view.bytes.now (view_units text.entry.view) result.items (vec_capacity result) }
+{
+    let mut marks = Vec::new(alloc);
+    // If memory for all marks at once is refused, there may be enough for a few.
+    let _is_found = marks.reserve_exact(text.needed_mark_count()).is_ok();
+    add_marks(text, &mut marks);
+    marks
 }
 
-/// Appends the missing marks until one is refused memory, and returns whether one was. Not inlined, so that a text that
-/// lacks no mark costs little.
+/// Appends the missing marks, until memory is refused for one. Not inlined, so that a text that lacks no mark costs
+/// little.
 #[inline(never)]
-pub(crate) fn add_marks<A: Allocator>(text: CountedView<'_>, marks: &mut Vec<UnitMark, A>) -> bool
-    requires marks { AreKept text.view.bytes.now (view_units text.view) marks.old.items }
-    ensures marks { AreMarks text.entry.view.bytes.now (view_units text.entry.view) marks.new.items result }
-
-    // Memory is refused for none if the vector has room for all.
-    ensures room { AreEnough text.entry.view.bytes.now (view_units text.entry.view) (vec_capacity marks.old) → result ≡ false }
+fn add_marks<A: Allocator>(text: CountedView<'_>, marks: &mut Vec<UnitMark, A>)
+    requires { AreKept text.view.bytes.now (view_units text.view) marks.old.items }
+    ensures { AreMarks text.entry.view.bytes.now (view_units text.entry.view) marks.new.items (vec_capacity marks.new) }
 {
     let mut last = last_or_start(text.view, marks.as_slice());
     for number in marks.len()..text.needed_mark_count() {
+        if marks.reserve(1).is_err() {
+            return;
+        }
         last = text.view.mark_at(last, (number + 1) * SPACING);
-        let Ok(()) = marks.push(last) else {
-            return true;
-        };
+        marks.push_reserved(last);
     }
-    false
 }
 
 /// Appends the missing marks, if marks are kept.
 #[inline(always)]
-pub(crate) fn add_to_kept<A: Allocator>(text: CountedView<'_>, marks: &mut Option<Marks<A>>)
-    requires { IfSome marks.old (λ m. AreKept text.view.bytes.now (view_units text.view) m.kept.items) }
-    ensures { IfSome marks.new (λ m. AreMarks text.entry.view.bytes.now (view_units text.entry.view) m.kept.items m.is_incomplete) }
+fn add_to_kept<A: Allocator>(text: CountedView<'_>, marks: &mut Option<Vec<UnitMark, A>>)
+    requires { IfSome marks.old (λ m. AreKept text.view.bytes.now (view_units text.view) m.items) }
+    ensures { IfSome marks.new (λ m. AreMarks text.entry.view.bytes.now (view_units text.entry.view) m.items (vec_capacity m)) }
 {
     if let Some(marks) = marks {
-        if marks.kept.len() < text.needed_mark_count() {
-            marks.is_incomplete = add_marks(text, &mut marks.kept);
+        if marks.len() < text.needed_mark_count() {
+            add_marks(text, marks);
         }
     }
 }
 
-/// Counts `more` units that were appended, and appends their marks, if marks are kept.
+/// Counts `more` units that were appended to a string, and appends their marks, if marks are kept. The marks of the old
+/// string are marks of the new one.
 #[inline(always)]
 pub(crate) fn count_more<A: Allocator>(
     text: &Wtf8Buf<A>,
     count: &mut usize,
-    marks: &mut Option<Marks<A>>,
+    marks: &mut Option<Vec<UnitMark, A>>,
     more: usize,
 )
     requires count { count.old + more ≡ length text.now.units }
-    requires marks { IfSome marks.old (λ m. AreKept text.now.bytes text.now.units m.kept.items) }
+    requires marks { (old : UnitString) × (v : List ℕ) × (AppendsUnits old v text.now × IfSome marks.old (λ m. AreMarks old.bytes old.units m.items (vec_capacity m))) }
     ensures count { count.new ≡ length text.now.units }
-    ensures marks { IfSome marks.new (λ m. AreMarks text.now.bytes text.now.units m.kept.items m.is_incomplete) }
+    ensures marks { IfSome marks.new (λ m. AreMarks text.now.bytes text.now.units m.items (vec_capacity m)) }
 {
     prove!(text.len() <= usize::MAX);
+    laws::law_marks();
     *count += more;
     add_to_kept(CountedView::new(text, *count), marks);
 }
 
 /// Leaves out the marks, if marks are kept, that are not before the last unit of a text that became shorter.
 #[inline(always)]
-pub(crate) fn truncate_kept<A: Allocator>(text: CountedView<'_>, marks: &mut Option<Marks<A>>)
-    requires { IfSome marks.old (λ m. AreMarks text.view.bytes.now (view_units text.view) (take ((text.count - 1) / SPACING) m.kept.items) m.is_incomplete) }
-    ensures { IfSome marks.new (λ m. AreMarks text.entry.view.bytes.now (view_units text.entry.view) m.kept.items m.is_incomplete) }
+pub(crate) fn truncate_kept<A: Allocator>(
+    text: CountedView<'_>,
+    marks: &mut Option<Vec<UnitMark, A>>,
+)
+    requires { IfSome marks.old (λ m. AreMarks text.view.bytes.now (view_units text.view) (take ((text.count - 1) / SPACING) m.items) (vec_capacity m)) }
+    ensures { IfSome marks.new (λ m. AreMarks text.entry.view.bytes.now (view_units text.entry.view) m.items (vec_capacity m)) }
 {
     if let Some(marks) = marks {
-        marks.kept.truncate(text.count.saturating_sub(1) / SPACING);
+        marks.truncate(text.count.saturating_sub(1) / SPACING);
     }
 }
 
@@ -170,27 +174,33 @@ fn last_or_start(view: Wtf8<'_>, marks: &[UnitMark]) -> UnitMark
     marks[marks.len() - 1]
 }
 
-impl<'a, A: Allocator> MarkedView<'a, A> {
+/// The mark with `units` code units before it, or with one fewer if that splits a pair, found from the end. Not inlined,
+/// so that a text whose marks are nearer costs little.
+#[inline(never)]
+pub(crate) fn mark_from_end(text: CountedView<'_>, units: usize) -> UnitMark
+    requires { units ≤ text.count }
+    ensures mark { IsMarkOf text.entry.view result }
+    ensures last { RoundsDownTo (view_units text.entry.view) units result.units }
+{
+    text.view.mark_back(text.end_mark(), units)
+}
+
+impl<'a> MarkedView<'a> {
     /// The view with these marks, or with none.
     #[inline(always)]
-    pub(crate) fn new(text: CountedView<'a>, marks: Option<&'a Marks<A>>) -> MarkedView<'a, A>
-        requires { IfSome marks (λ m. AreMarks text.view.bytes.now (view_units text.view) m.now.kept.items m.now.is_incomplete) }
+    pub(crate) fn new<A: Allocator>(
+        text: CountedView<'a>,
+        marks: Option<&'a Vec<UnitMark, A>>,
+    ) -> MarkedView<'a>
+        requires { IfSome marks (λ m. AreKept text.view.bytes.now (view_units text.view) m.now.items) }
         ensures text { result.text ≡ text.entry }
-        ensures marks { result.marks ≡ marks.entry }
+        ensures marks { IfSome marks.entry (λ m. result.marks.now ≡ m.now.items) }
     {
-        MarkedView { text, marks }
-    }
-
-    /// The kept marks.
-    #[inline(always)]
-    fn kept(&self) -> &'a [UnitMark]
-        ensures kept { AreKept self.now.text.view.bytes.now (view_units self.now.text.view) result.now }
-        ensures all { IfSome self.now.marks (λ m. m.now.is_incomplete ≡ false → AreEnough self.now.text.view.bytes.now (view_units self.now.text.view) (length result.now)) }
-    {
-        match self.marks {
-            Some(marks) => marks.kept.as_slice(),
+        let marks = match marks {
+            Some(marks) => marks.as_slice(),
             None => &[],
-        }
+        };
+        MarkedView { text, marks }
     }
 
     /// The last kept mark for a multiple of `SPACING` that is at most `units`, or the start if there is none.
@@ -199,22 +209,21 @@ impl<'a, A: Allocator> MarkedView<'a, A> {
         requires within { units ≤ self.now.text.count }
         ensures mark { IsMarkOf self.now.text.view result }
         ensures before { result.units ≤ units }
-        ensures close { length self.now.text.view.bytes.now ≢ length (view_units self.now.text.view) → IfSome self.now.marks (λ m. m.now.is_incomplete ≡ false → units ≤ result.units + SPACING + 1) }
+        ensures close { length self.now.text.view.bytes.now ≢ length (view_units self.now.text.view) → AreEnough self.now.text.view.bytes.now (view_units self.now.text.view) (length self.now.marks.now) → units ≤ result.units + SPACING + 1 }
     {
-        let marks = self.kept();
-        let number = marks.len().min(units / SPACING);
+        let number = self.marks.len().min(units / SPACING);
         if number == 0 {
             return self.text.view.start_mark();
         }
-        marks[number - 1]
+        self.marks[number - 1]
     }
 
-    /// A mark at or before unit index `units`: at that index if the text is ASCII, else a kept mark or the start.
+    /// A mark at or before unit index `units`: at that index if the text is ASCII, else as `near_mark` finds it.
     fn mark_at_or_before(&self, units: usize) -> UnitMark
         requires within { units ≤ self.now.text.count }
         ensures mark { IsMarkOf self.now.text.view result }
         ensures before { result.units ≤ units }
-        ensures close { IfSome self.now.marks (λ m. m.now.is_incomplete ≡ false → units ≤ result.units + SPACING + 1) }
+        ensures close { AreEnough self.now.text.view.bytes.now (view_units self.now.text.view) (length self.now.marks.now) → units ≤ result.units + SPACING + 1 }
     {
         laws::law_marks();
         if self.text.is_ascii() {
@@ -223,18 +232,54 @@ impl<'a, A: Allocator> MarkedView<'a, A> {
                 units,
             };
         }
-        self.kept_mark_at_or_before(units)
+        self.near_mark(units)
+    }
+
+    /// The last kept mark at or before unit index `units`, or the start if there is none. If the end is nearer, and at
+    /// most `SPACING` units after, this is the mark for `units` instead, or the one before the pair that it splits.
+    #[inline(always)]
+    fn near_mark(&self, units: usize) -> UnitMark
+        requires within { units ≤ self.now.text.count }
+        ensures mark { IsMarkOf self.now.text.view result }
+        ensures before { result.units ≤ units }
+        ensures close { length self.now.text.view.bytes.now ≢ length (view_units self.now.text.view) → AreEnough self.now.text.view.bytes.now (view_units self.now.text.view) (length self.now.marks.now) → units ≤ result.units + SPACING + 1 }
+
+        // Near the end the mark is close also if no mark is kept.
+        ensures close_to_end { self.now.text.count ≤ units + SPACING → units ≤ result.units + SPACING + 1 }
+    {
+        let kept = self.kept_mark_at_or_before(units);
+        if self.is_nearer_end(kept, units) {
+            return mark_from_end(self.text, units);
+        }
+        kept
+    }
+
+    /// Whether unit index `units` is at most `SPACING` units before the end, and nearer to it than to the mark `kept`.
+    #[inline(always)]
+    pub(crate) fn is_nearer_end(&self, kept: UnitMark, units: usize) -> bool
+        requires order { kept.units ≤ units }
+        requires within { units ≤ self.now.text.count }
+        ensures near { IsTrue result → self.now.text.count ≤ units + SPACING }
+        ensures nearer { IsTrue result → self.now.text.count + kept.units < 2 * units }
+        ensures farther { self.now.text.count ≤ units + SPACING → self.now.text.count + kept.units < 2 * units → IsTrue result }
+    {
+        let left = self.text.count - units;
+        left <= SPACING && left < units - kept.units
     }
 
     /// The mark with `units` code units before it, or with one fewer if that splits a pair.
     pub(crate) fn mark_at(&self, units: usize) -> UnitMark
         requires within { units ≤ self.now.text.count }
         ensures mark { IsMarkOf self.now.text.view result }
+        ensures last { RoundsDownTo (view_units self.now.text.view) units result.units }
         ensures whole { ¬ (DividesPair (view_units self.now.text.view) units) → result.units ≡ units }
         ensures divided { DividesPair (view_units self.now.text.view) units → result.units + 1 ≡ units }
     {
         laws::law_marks();
         let from = self.mark_at_or_before(units);
+        if from.units == units {
+            return from;
+        }
         self.text.view.mark_at(from, units)
     }
 
@@ -262,10 +307,10 @@ impl<'a, A: Allocator> MarkedView<'a, A> {
         ensures before { result.position ≤ position }
 
         // A mark of this view at or before `position` has at most `SPACING` more units.
-        ensures close { length self.now.text.view.bytes.now ≢ length (view_units self.now.text.view) → IfSome self.now.marks (λ m. m.now.is_incomplete ≡ false → (k n : ℕ) → IsMark self.now.text.view.bytes.now (view_units self.now.text.view) k n → k ≤ position → n ≤ result.units + SPACING + 1) }
+        ensures close { length self.now.text.view.bytes.now ≢ length (view_units self.now.text.view) → AreEnough self.now.text.view.bytes.now (view_units self.now.text.view) (length self.now.marks.now) → (k n : ℕ) → IsMark self.now.text.view.bytes.now (view_units self.now.text.view) k n → k ≤ position → n ≤ result.units + SPACING + 1 }
     {
         laws::law_marks();
-        let marks = self.kept();
+        let marks = self.marks;
         let mut low = 0;
         let mut high = marks.len();
         while low < high {
@@ -289,7 +334,7 @@ impl<'a, A: Allocator> MarkedView<'a, A> {
         requires within { units ≤ self.now.text.count }
         ensures units { drop result.1 (view_units result.0) ≡ drop units (view_units self.now.text.view) }
         ensures within { result.1 ≤ length (view_units result.0) }
-        ensures close { IfSome self.now.marks (λ m. m.now.is_incomplete ≡ false → result.1 ≤ SPACING + 1) }
+        ensures close { AreEnough self.now.text.view.bytes.now (view_units self.now.text.view) (length self.now.marks.now) → result.1 ≤ SPACING + 1 }
     {
         if self.text.count <= SPACING && (units < FRONT || !self.text.is_ascii()) {
             return (self.text.view, units);

@@ -1,13 +1,12 @@
 // Slices of units, copied and compared.
 ghost use Rattle.std.specs.Option.{option_to_list};
-ghost use Rattle.std.specs.Prelude.{◌≡◌, ◌↔◌, ◌+◌, ◌≤◌, length, take, [], IfOk, IsOk, IsTrue};
+ghost use Rattle.std.specs.Prelude.{◌≡◌, ◌↔◌, ◌+◌, ◌≤◌, length, [], IfOk, IsOk, IsTrue};
 ghost use Rattle.unit_text.specs.Written.{WritesAt};
-ghost use Rattle.wtf8.specs.UnitMark.{IsMark};
 ghost use Rattle.wtf8.specs.UnitPosition.{units_of_slice};
 ghost use Rattle.wtf8.specs.View.{view_units};
 
 use std::alloc::{AllocError, Allocator};
-use wtf8::{UnitMark, UnitSlice, Wtf8, Wtf8Buf, laws};
+use wtf8::{UnitSlice, Wtf8, Wtf8Buf};
 
 /// Copies a slice to a new string. Does not allocate if the slice is empty.
 pub(crate) fn buf_of_slice<A: Allocator>(
@@ -20,20 +19,6 @@ pub(crate) fn buf_of_slice<A: Allocator>(
     let mut text = Wtf8Buf::new(alloc);
     text.push_unit_slice(slice)?;
     Ok(text)
-}
-
-/// Keeps the first `n` units of a string. `mark` is the mark for `n`: if a pair is split there, units are counted from
-/// the front.
-pub(crate) fn truncate_at<A: Allocator>(text: &mut Wtf8Buf<A>, mark: UnitMark, n: usize)
-    requires mark { IsMark text.old.bytes text.old.units mark.position mark.units }
-    requires within { n ≤ length text.old.units }
-    ensures { text.new.units ≡ take n text.old.units }
-{
-    if mark.units != n {
-        return text.truncate_units(n);
-    }
-    laws::law_mark(text.as_wtf8(), mark);
-    text.truncate(mark.position);
 }
 
 /// Whether a slice has the code units of `other`. Compares bytes, unless an end of the slice splits a surrogate pair.

@@ -118,7 +118,7 @@ impl<A: Allocator> UnitText<A> {
 
     /// The byte position in the view of the code point boundary before the code unit at index `i`, or of the end if `i`
     /// is the length, which it must not exceed. If `i` splits a surrogate pair, that is the position of the pair.
-    /// Counts at most 129 units if marks are kept, else those before `i`.
+    /// Counts the units from the nearest mark that is kept, or from the start or the end.
     pub fn position_at(&self, i: usize) -> usize
         requires { i ≤ length self.now }
         ensures whole { ¬ (DividesPair self.now i) → IsFront self.now result (take i self.now) }
@@ -128,7 +128,7 @@ impl<A: Allocator> UnitText<A> {
     }
 
     /// The number of code units before the last code point boundary of the view at or before the byte `position`; the
-    /// length if `position` is past the end. Counts at most 129 units if marks are kept, else those before it.
+    /// length if `position` is past the end. Counts the units from the last mark that is kept, or from the start.
     pub fn unit_before(&self, position: usize) -> usize
         ensures before { AreUnitsBefore self.now position result }
         ensures exact { (v : List ℕ) → IsFront self.now position v → result ≡ length v }
@@ -137,8 +137,8 @@ impl<A: Allocator> UnitText<A> {
     }
 
     /// Shortens the text to `n` code units, which must be at most its length. If that splits a surrogate pair, its lead
-    /// stays as a lone surrogate. Does not allocate. Counts at most 129 units if marks are kept and `n` splits no pair,
-    /// else the `n` units.
+    /// stays as a lone surrogate. Does not allocate. Counts the units from the nearest mark that is kept, or from the
+    /// start or the end.
     pub fn truncate_units(&mut self, n: usize)
         requires { n ≤ length self.old }
         ensures { self.new ≡ take n self.old }

@@ -4,7 +4,7 @@ use std::alloc::{AllocError, Allocator, Global};
 use std::cmp::Ordering;
 use std::hash::{DefaultHasher, Hash, Hasher};
 use unit_text::{IndexedBuf, UnitText};
-use wtf8::Wtf8Buf;
+use wtf8::{Wtf8, Wtf8Buf};
 use wtf8_tests::wrong::{Wrong, expect, expect_bytes, made};
 
 /// What a unit of an output is before a call writes to it.
@@ -363,6 +363,11 @@ fn positions_of_a_buffer_are_rounded_down(rt: HostRuntime) -> Result<(), Wrong> 
     expect(is_mapped(&buf), Wrong::Outcome)
 }
 
+#[test]
+fn a_buffer_has_72_bytes(rt: HostRuntime) {
+    assert!(rt; size_of::<IndexedBuf<Global>>() <= 72);
+}
+
 /// The number of units of a long buffer.
 const LENGTH: usize = 301;
 
@@ -468,6 +473,41 @@ fn expect_long<A: Allocator>(
     Ok(())
 }
 
+/// The buffer of a string, pushed at once to an empty one with marks kept.
+fn pushed_view(alloc: Global, text: Wtf8<'_>) -> Result<IndexedBuf<Global>, AllocError> {
+    let mut buf = IndexedBuf::new(alloc);
+    buf.mark_units(alloc);
+    buf.push_wtf8(text)?;
+    Ok(buf)
+}
+
+/// The buffer of a text, pushed at once to an empty one with marks kept.
+fn pushed_str(alloc: Global, text: &str) -> Result<IndexedBuf<Global>, AllocError> {
+    let mut buf = IndexedBuf::new(alloc);
+    buf.mark_units(alloc);
+    buf.push_str(text)?;
+    Ok(buf)
+}
+
+/// Fails unless a buffer with marks has the units of its kind after these are pushed as one string and as one text.
+fn expect_pushed_string(alloc: Global, units: &[u16], kind: Kind) -> Result<(), Wrong> {
+    let text = made(Wtf8Buf::from_ill_formed_utf16(alloc, units))?;
+    let view = made(pushed_view(alloc, text.as_wtf8()))?;
+    expect_long(alloc, &view, units, kind)?;
+    let value = text.as_wtf8().as_str().ok_or(Wrong::Outcome)?;
+    let buf = made(pushed_str(alloc, value))?;
+    expect_long(alloc, &buf, units, kind)
+}
+
+#[test]
+fn a_buffer_has_marks_of_a_string_pushed_at_once(rt: HostRuntime) -> Result<(), Wrong> {
+    for kind in KINDS {
+        let units = made(long_units(rt.alloc(), kind))?;
+        expect_pushed_string(rt.alloc(), &units, kind)?;
+    }
+    Ok(())
+}
+
 /// Fails unless a long buffer of the kind has its units without marks, with them, and if it is grown with them.
 fn expect_kind(alloc: Global, kind: Kind) -> Result<(), Wrong> {
     let units = made(long_units(alloc, kind))?;
@@ -505,6 +545,50 @@ fn expect_cut<A: Allocator>(
     expect(has_units_from(buf, front, n / 2), Wrong::Units)?;
     made(buf.push_units(back))?;
     expect_long(alloc, buf, units, kind)
+}
+
+/// Indexes about 128 before the end of a long buffer, and near its end. A pair is split by each even one.
+fn last_indexes() -> [usize; 6] {
+    [172, 173, 174, 298, 299, 300]
+}
+
+/// Cuts a buffer to its first `n` units, pushes the others, and cuts it at its end. Fails unless it has each time the
+/// units that it should.
+fn expect_cut_near_end<A: Allocator>(
+    buf: &mut IndexedBuf<A>,
+    units: &[u16],
+    n: usize,
+) -> Result<(), Wrong> {
+    let (front, back) = units.split_at(n.min(units.len()));
+    if buf.unit_len() < front.len() {
+        return Err(Wrong::Row);
+    }
+    buf.truncate_units(front.len());
+    expect(buf_has_units(buf, front), Wrong::Units)?;
+    made(buf.push_units(back))?;
+    expect(buf_has_units(buf, units), Wrong::Units)
+}
+
+/// Fails unless a long buffer without marks has its units and positions from each of `last_indexes` on, and if it is cut
+/// there.
+fn expect_end(alloc: Global, kind: Kind) -> Result<(), Wrong> {
+    let units = made(long_units(alloc, kind))?;
+    let mut buf = made(IndexedBuf::from_units(alloc, &units))?;
+    for i in last_indexes() {
+        let is_found = i <= buf.unit_len() && buf.position_at(i) == position_of(kind, i);
+        expect(is_found, Wrong::Outcome)?;
+        expect_part(alloc, &buf, &units, i, LENGTH)?;
+        expect_cut_near_end(&mut buf, &units, i)?;
+    }
+    Ok(())
+}
+
+#[test]
+fn the_last_units_of_a_buffer_without_marks_are_found(rt: HostRuntime) -> Result<(), Wrong> {
+    for kind in KINDS {
+        expect_end(rt.alloc(), kind)?;
+    }
+    Ok(())
 }
 
 /// Cuts a buffer at the byte position of index `n`, or of its pair. Fails unless it has the units before alone, and all

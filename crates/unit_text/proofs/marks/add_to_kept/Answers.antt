@@ -5,5 +5,5 @@ pub returns-else-len-needed_mark_count : goal.returns-else-len-needed_mark_count
 returns-else-len-needed_mark_count g c =
     record {
       kept = search rules;
-      all = λ granted not_ascii n h. let enough = c.needed_mark_count.ensures.all not_ascii n h in omega arith;
+      all = λ free not_ascii n h. let enough = c.needed_mark_count.ensures.all not_ascii n h in omega arith;
     }

@@ -1,4 +1,5 @@
 use Rattle.std.proofs.Common.{◌-◌, ◌/◌, ◌≡◌, take, sym, ◌∙◌, subst, length, IfSome}
+use Rattle.std.specs.Prelude.{vec_capacity}
 use Rattle.wtf8.specs.Position.{IsFront}
 use Rattle.wtf8.specs.View.{view_units, view_form}
 use Rattle.unit_text.specs.Marks.{AreMarks, spacing}
@@ -17,6 +18,5 @@ truncate_kept-requires g c =
     (c.law_one_form.ensures.equal view.bytes.now (take c.args.new_len old.bytes) v (take (length v) old.units) (view_form view)
     mark.before).0 same_bytes in
     subst (λ n. IfSome c.self.inside.marks
-    (λ m. AreMarks view.bytes.now v (take ((n - 1) / spacing) m.kept.items) m.is_incomplete)) (sym c.new-front.result.counted)
-    (AreMarks-truncated c.law_marks.ensures.equal c.law_marks.ensures.cut c.law_one_form.ensures.equal c.self.inside.marks
-    (λ k. k.kept.items) (λ k. k.is_incomplete) old view (length v) mark.units_within units c.self.invariant.1)
+    (λ m. AreMarks view.bytes.now v (take ((n - 1) / spacing) m.items) (vec_capacity m))) (sym c.new-front.result.counted)
+    (AreMarks-truncated c.law_marks.ensures.equal c.law_marks.ensures.cut c.law_one_form.ensures.equal c.self.inside.marks old view (length v) mark.units_within units c.self.invariant.1)

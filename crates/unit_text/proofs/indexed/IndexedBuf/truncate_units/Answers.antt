@@ -1,4 +1,5 @@
 use Rattle.std.proofs.Common.{◌≤◌, ◌-◌, ◌/◌, take, sym, ap, ◌∙◌, subst, arith, length, IfSome}
+use Rattle.std.specs.Prelude.{vec_capacity}
 use Rattle.wtf8.specs.UnitString.{UnitString}
 use Rattle.wtf8.specs.View.{view_units}
 use Rattle.unit_text.specs.Marks.{AreMarks, spacing}
@@ -11,7 +12,6 @@ truncate_kept-requires g c =
     let within : c.args.n ≤ length c.self.inside.text.units =
     omega (arith, c.requires, ap (λ (s : UnitString). length s.units) c.self.view_is) in
     subst (λ n. IfSome c.self.inside.marks
-    (λ m. AreMarks view.bytes.now (view_units view) (take ((n - 1) / spacing) m.kept.items) m.is_incomplete)) (sym c.new-text.ensures.count)
-    (AreMarks-truncated c.law_marks.ensures.equal c.law_marks.ensures.cut c.law_one_form.ensures.equal c.self.inside.marks
-    (λ k. k.kept.items) (λ k. k.is_incomplete) c.self.inside.text view c.args.n within
-    (c.new-text.ensures.units ∙ c.truncate_at.ensures) c.self.invariant.1)
+    (λ m. AreMarks view.bytes.now (view_units view) (take ((n - 1) / spacing) m.items) (vec_capacity m))) (sym c.new-text.ensures.count)
+    (AreMarks-truncated c.law_marks.ensures.equal c.law_marks.ensures.cut c.law_one_form.ensures.equal c.self.inside.marks c.self.inside.text view c.args.n within
+    (c.new-text.ensures.units ∙ c.truncate_units_at.ensures.units) c.self.invariant.1)
