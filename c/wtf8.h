@@ -11,8 +11,9 @@
  * - A string is made by WTF8_EMPTY or by setting all its bytes to 0, and freed by wtf8_free. Its fields are not read or
  *   written. An assignment or memcpy makes no second string: wtf8_set_string does. They, or realloc of an array of
  *   strings, may move one, if the old place is not used again.
- * - One call at a time uses a string, calls that only ask included. Other threads may use other strings meanwhile. A
- *   string may go to another thread if a lock, a thread's start or a join orders that.
+ * - While a call changes a string, no other call uses it. Calls that take it as const only read it: any number of them
+ *   may use one string at once, in any threads. Changes are ordered before and after them by a lock, a thread's start or
+ *   a join.
  * - No call comes from a signal handler, or from the forked child of a process with threads.
  * - malloc, realloc and free of the program come from one allocator, which aligns a block to each power of two up to 16
  *   that divides its size.
@@ -37,7 +38,11 @@ typedef struct {
 } wtf8_string;
 
 /* The empty string: `wtf8_string name = WTF8_EMPTY;`. */
-#define WTF8_EMPTY {0, 0}
+#ifdef __cplusplus
+#define WTF8_EMPTY {}
+#else
+#define WTF8_EMPTY {0}
+#endif
 
 /* The codes that calls return. Any code but WTF8_DONE says that no string and no array was changed. */
 enum {
@@ -59,7 +64,7 @@ int32_t wtf8_set_units(wtf8_string *string, const uint16_t *units, size_t n);
 int32_t wtf8_set_utf8(wtf8_string *string, const uint8_t *text, size_t n);
 
 /* Replaces the string by a copy of `other`. Codes: DONE, MEMORY. */
-int32_t wtf8_set_string(wtf8_string *string, wtf8_string *other);
+int32_t wtf8_set_string(wtf8_string *string, const wtf8_string *other);
 
 /* Empties the string and keeps its capacity. */
 void wtf8_clear(wtf8_string *string);
@@ -89,39 +94,39 @@ int32_t wtf8_push_units(wtf8_string *string, const uint16_t *units, size_t n);
 int32_t wtf8_push_utf8(wtf8_string *string, const uint8_t *text, size_t n);
 
 /* Another string. Never refused if it fits, unless both are one string. Codes: DONE, MEMORY. */
-int32_t wtf8_push_string(wtf8_string *string, wtf8_string *other);
+int32_t wtf8_push_string(wtf8_string *string, const wtf8_string *other);
 
 /* ---- Asking ---- */
 
-/* These change no string. */
+/* These only read their strings. */
 
 /* The number of units. It counts them, in time proportional to the length. */
-size_t wtf8_unit_len(wtf8_string *string);
+size_t wtf8_unit_len(const wtf8_string *string);
 
 /* The length in bytes. */
-size_t wtf8_byte_len(wtf8_string *string);
+size_t wtf8_byte_len(const wtf8_string *string);
 
 /* Writes the unit at `index` to `*unit`. It counts the units before it, so a loop over all of them is quadratic: copy the
  * units out. Codes: DONE, POSITION (`index` is the length or greater). */
-int32_t wtf8_unit_at(wtf8_string *string, size_t index, uint16_t *unit);
+int32_t wtf8_unit_at(const wtf8_string *string, size_t index, uint16_t *unit);
 
 /* Whether a position in bytes is a code point boundary: 0 and the length are, a position after the end is not. */
-bool wtf8_is_boundary(wtf8_string *string, size_t position);
+bool wtf8_is_boundary(const wtf8_string *string, size_t position);
 
 /* Whether the string holds no surrogate, so that wtf8_copy_utf8 gives its text. */
-bool wtf8_is_utf8(wtf8_string *string);
+bool wtf8_is_utf8(const wtf8_string *string);
 
 /* Whether two strings have the same units. */
-bool wtf8_equal(wtf8_string *string, wtf8_string *other);
+bool wtf8_equal(const wtf8_string *string, const wtf8_string *other);
 
 /* Compare two strings, by their units as JavaScript does, or by their code points as their bytes in UTF-8 would: -1 if
  * the first comes before the second, 0 if they are equal, 1 if it comes after. */
-int32_t wtf8_compare_units(wtf8_string *string, wtf8_string *other);
-int32_t wtf8_compare_code_points(wtf8_string *string, wtf8_string *other);
+int32_t wtf8_compare_units(const wtf8_string *string, const wtf8_string *other);
+int32_t wtf8_compare_code_points(const wtf8_string *string, const wtf8_string *other);
 
 /* A hash for tables: SipHash-1-3 under the key 0, which everybody knows, so it does not hold off strings that were
  * chosen to collide. Equal strings have equal hashes. */
-uint64_t wtf8_hash(wtf8_string *string);
+uint64_t wtf8_hash(const wtf8_string *string);
 
 /* ---- Cutting ---- */
 
@@ -133,7 +138,7 @@ int32_t wtf8_truncate(wtf8_string *string, size_t position);
 
 /* Replaces `into` by the units of `string` from `begin` to before `end`. Codes: DONE, MEMORY, POSITION (`begin` is greater
  * than `end`, or `end` than the length). */
-int32_t wtf8_slice_units(wtf8_string *string, size_t begin, size_t end, wtf8_string *into);
+int32_t wtf8_slice_units(const wtf8_string *string, size_t begin, size_t end, wtf8_string *into);
 
 /* ---- Copying out ----
  *
@@ -143,16 +148,16 @@ int32_t wtf8_slice_units(wtf8_string *string, size_t begin, size_t end, wtf8_str
 
 /* Writes all units at the front of `out`, which has room for `size`, and their number to `*len`. If the array is too
  * short, only the number is written. Codes: DONE, MEMORY, TOO_SHORT. */
-int32_t wtf8_copy_units(wtf8_string *string, uint16_t *out, size_t size, size_t *len);
+int32_t wtf8_copy_units(const wtf8_string *string, uint16_t *out, size_t size, size_t *len);
 
 /* The same of the units from `begin` to before `end`. Codes: DONE, MEMORY, POSITION, TOO_SHORT. */
-int32_t wtf8_copy_slice(wtf8_string *string, size_t begin, size_t end, uint16_t *out, size_t size, size_t *len);
+int32_t wtf8_copy_slice(const wtf8_string *string, size_t begin, size_t end, uint16_t *out, size_t size, size_t *len);
 
 /* The same of the text in UTF-8, `*len` in bytes, if there is no surrogate. Codes: DONE, SURROGATE, TOO_SHORT. */
-int32_t wtf8_copy_utf8(wtf8_string *string, uint8_t *out, size_t size, size_t *len);
+int32_t wtf8_copy_utf8(const wtf8_string *string, uint8_t *out, size_t size, size_t *len);
 
 /* The same of the text with U+FFFD in place of each surrogate. Codes: DONE, MEMORY (only if there is one), TOO_SHORT. */
-int32_t wtf8_copy_lossy(wtf8_string *string, uint8_t *out, size_t size, size_t *len);
+int32_t wtf8_copy_lossy(const wtf8_string *string, uint8_t *out, size_t size, size_t *len);
 
 #ifdef __cplusplus
 }
