@@ -65,47 +65,47 @@ __attribute__((constructor)) static void choose_build(void) {
 /* The proved call of the build that is taken. */
 #define PROVED(name) builds_##name[__atomic_load_n(&build, __ATOMIC_RELAXED)]
 
-DECLARE(int32_t, set_units, wtf8_string *, const uint16_t *, size_t)
-DECLARE(int32_t, set_utf8, wtf8_string *, const uint8_t *, size_t)
-DECLARE(int32_t, set_string, wtf8_string *, wtf8_string *)
+DECLARE(wtf8_result, set_units, wtf8_string *, const uint16_t *, size_t)
+DECLARE(wtf8_result, set_utf8, wtf8_string *, const uint8_t *, size_t)
+DECLARE(wtf8_result, set_string, wtf8_string *, wtf8_string *)
 DECLARE(void, clear, wtf8_string *)
 DECLARE(void, free, wtf8_string *)
-DECLARE(int32_t, reserve, wtf8_string *, size_t)
-DECLARE(int32_t, push_unit, wtf8_string *, uint16_t)
-DECLARE(int32_t, push_code_point, wtf8_string *, uint32_t)
-DECLARE(int32_t, push_units, wtf8_string *, const uint16_t *, size_t)
-DECLARE(int32_t, push_utf8, wtf8_string *, const uint8_t *, size_t)
-DECLARE(int32_t, push_string, wtf8_string *, wtf8_string *)
+DECLARE(wtf8_result, reserve_bytes, wtf8_string *, size_t)
+DECLARE(wtf8_result, push_unit, wtf8_string *, uint16_t)
+DECLARE(wtf8_result, push_code_point, wtf8_string *, uint32_t)
+DECLARE(wtf8_result, push_units, wtf8_string *, const uint16_t *, size_t)
+DECLARE(wtf8_result, push_utf8, wtf8_string *, const uint8_t *, size_t)
+DECLARE(wtf8_result, push_string, wtf8_string *, wtf8_string *)
 DECLARE(size_t, unit_len, wtf8_string *)
 DECLARE(size_t, byte_len, wtf8_string *)
-DECLARE(int32_t, unit_at, wtf8_string *, size_t, uint16_t *)
+DECLARE(wtf8_result, unit_at, wtf8_string *, size_t, uint16_t *)
 DECLARE(bool, is_boundary, wtf8_string *, size_t)
 DECLARE(bool, is_utf8, wtf8_string *)
 DECLARE(bool, equal, wtf8_string *, wtf8_string *)
 DECLARE(int32_t, compare_units, wtf8_string *, wtf8_string *)
 DECLARE(int32_t, compare_code_points, wtf8_string *, wtf8_string *)
 DECLARE(uint64_t, hash, wtf8_string *)
-DECLARE(int32_t, truncate, wtf8_string *, size_t)
-DECLARE(int32_t, truncate_units, wtf8_string *, size_t)
-DECLARE(int32_t, slice_units, wtf8_string *, size_t, size_t, wtf8_string *)
-DECLARE(int32_t, copy_units, wtf8_string *, uint16_t *, size_t, size_t *)
-DECLARE(int32_t, copy_slice, wtf8_string *, size_t, size_t, uint16_t *, size_t, size_t *)
-DECLARE(int32_t, copy_utf8, wtf8_string *, uint8_t *, size_t, size_t *)
-DECLARE(int32_t, copy_lossy, wtf8_string *, uint8_t *, size_t, size_t *)
+DECLARE(wtf8_result, truncate_bytes, wtf8_string *, size_t)
+DECLARE(wtf8_result, truncate_units, wtf8_string *, size_t)
+DECLARE(wtf8_result, slice_units, wtf8_string *, wtf8_string *, size_t, size_t)
+DECLARE(wtf8_result, copy_units, wtf8_string *, uint16_t *, size_t, size_t *)
+DECLARE(wtf8_result, copy_slice, wtf8_string *, size_t, size_t, uint16_t *, size_t, size_t *)
+DECLARE(wtf8_result, copy_utf8, wtf8_string *, uint8_t *, size_t, size_t *)
+DECLARE(wtf8_result, copy_lossy, wtf8_string *, uint8_t *, size_t, size_t *)
 
 /* What an array of length 0 points to. Nothing is read or written there. */
 static uint16_t nothing[1];
 
-int32_t wtf8_set_units(wtf8_string *string, const uint16_t *units, size_t n) {
+wtf8_result wtf8_set_units(wtf8_string *string, const uint16_t *units, size_t n) {
     return PROVED(set_units)(string, n ? units : nothing, n);
 }
 
-int32_t wtf8_set_utf8(wtf8_string *string, const uint8_t *text, size_t n) {
+wtf8_result wtf8_set_utf8(wtf8_string *string, const uint8_t *text, size_t n) {
     return PROVED(set_utf8)(string, n ? text : (const uint8_t *)nothing, n);
 }
 
-int32_t wtf8_set_string(wtf8_string *string, const wtf8_string *other) {
-    if (string == other) return WTF8_DONE;
+wtf8_result wtf8_set_string(wtf8_string *string, const wtf8_string *other) {
+    if (string == other) return WTF8_OK;
     wtf8_string copy = *other;
     return PROVED(set_string)(string, &copy);
 }
@@ -118,32 +118,32 @@ void wtf8_free(wtf8_string *string) {
     PROVED(free)(string);
 }
 
-int32_t wtf8_reserve(wtf8_string *string, size_t additional) {
-    return PROVED(reserve)(string, additional);
+wtf8_result wtf8_reserve_bytes(wtf8_string *string, size_t additional) {
+    return PROVED(reserve_bytes)(string, additional);
 }
 
-int32_t wtf8_push_unit(wtf8_string *string, uint16_t unit) {
+wtf8_result wtf8_push_unit(wtf8_string *string, uint16_t unit) {
     return PROVED(push_unit)(string, unit);
 }
 
-int32_t wtf8_push_code_point(wtf8_string *string, uint32_t value) {
+wtf8_result wtf8_push_code_point(wtf8_string *string, uint32_t value) {
     return PROVED(push_code_point)(string, value);
 }
 
-int32_t wtf8_push_units(wtf8_string *string, const uint16_t *units, size_t n) {
+wtf8_result wtf8_push_units(wtf8_string *string, const uint16_t *units, size_t n) {
     return PROVED(push_units)(string, n ? units : nothing, n);
 }
 
-int32_t wtf8_push_utf8(wtf8_string *string, const uint8_t *text, size_t n) {
+wtf8_result wtf8_push_utf8(wtf8_string *string, const uint8_t *text, size_t n) {
     return PROVED(push_utf8)(string, n ? text : (const uint8_t *)nothing, n);
 }
 
-int32_t wtf8_push_string(wtf8_string *string, const wtf8_string *other) {
+wtf8_result wtf8_push_string(wtf8_string *string, const wtf8_string *other) {
     wtf8_string copy = *other;
     if (string != other) return PROVED(push_string)(string, &copy);
     wtf8_string second = WTF8_EMPTY;
-    int32_t code = PROVED(set_string)(&second, &copy);
-    if (code == WTF8_DONE) code = PROVED(push_string)(string, &second);
+    wtf8_result code = PROVED(set_string)(&second, &copy);
+    if (code == WTF8_OK) code = PROVED(push_string)(string, &second);
     PROVED(free)(&second);
     return code;
 }
@@ -158,7 +158,7 @@ size_t wtf8_byte_len(const wtf8_string *string) {
     return PROVED(byte_len)(&copy);
 }
 
-int32_t wtf8_unit_at(const wtf8_string *string, size_t index, uint16_t *unit) {
+wtf8_result wtf8_unit_at(const wtf8_string *string, size_t index, uint16_t *unit) {
     wtf8_string copy = *string;
     return PROVED(unit_at)(&copy, index, unit);
 }
@@ -193,42 +193,59 @@ uint64_t wtf8_hash(const wtf8_string *string) {
     return PROVED(hash)(&copy);
 }
 
-int32_t wtf8_truncate(wtf8_string *string, size_t position) {
-    return PROVED(truncate)(string, position);
+wtf8_result wtf8_truncate_bytes(wtf8_string *string, size_t position) {
+    return PROVED(truncate_bytes)(string, position);
 }
 
-int32_t wtf8_truncate_units(wtf8_string *string, size_t n) {
+wtf8_result wtf8_truncate_units(wtf8_string *string, size_t n) {
     return PROVED(truncate_units)(string, n);
 }
 
-int32_t wtf8_slice_units(const wtf8_string *string, size_t begin, size_t end, wtf8_string *into) {
+wtf8_result wtf8_slice_units(wtf8_string *into, const wtf8_string *string, size_t begin, size_t end) {
     wtf8_string copy = *string;
-    if (string != into) return PROVED(slice_units)(&copy, begin, end, into);
+    if (string != into) return PROVED(slice_units)(into, &copy, begin, end);
     wtf8_string part = WTF8_EMPTY;
-    int32_t code = PROVED(slice_units)(&copy, begin, end, &part);
-    if (code == WTF8_DONE) {
+    wtf8_result code = PROVED(slice_units)(&part, &copy, begin, end);
+    if (code == WTF8_OK) {
         PROVED(free)(into);
         *into = part;
     }
     return code;
 }
 
-int32_t wtf8_copy_units(const wtf8_string *string, uint16_t *out, size_t size, size_t *len) {
+wtf8_result wtf8_copy_units(const wtf8_string *string, uint16_t *out, size_t size, size_t *len) {
     wtf8_string copy = *string;
     return PROVED(copy_units)(&copy, size ? out : nothing, size, len);
 }
 
-int32_t wtf8_copy_slice(const wtf8_string *string, size_t begin, size_t end, uint16_t *out, size_t size, size_t *len) {
+wtf8_result wtf8_copy_slice(const wtf8_string *string, size_t begin, size_t end, uint16_t *out, size_t size, size_t *len) {
     wtf8_string copy = *string;
     return PROVED(copy_slice)(&copy, begin, end, size ? out : nothing, size, len);
 }
 
-int32_t wtf8_copy_utf8(const wtf8_string *string, uint8_t *out, size_t size, size_t *len) {
+wtf8_result wtf8_copy_utf8(const wtf8_string *string, uint8_t *out, size_t size, size_t *len) {
     wtf8_string copy = *string;
     return PROVED(copy_utf8)(&copy, size ? out : (uint8_t *)nothing, size, len);
 }
 
-int32_t wtf8_copy_lossy(const wtf8_string *string, uint8_t *out, size_t size, size_t *len) {
+wtf8_result wtf8_copy_lossy(const wtf8_string *string, uint8_t *out, size_t size, size_t *len) {
     wtf8_string copy = *string;
     return PROVED(copy_lossy)(&copy, size ? out : (uint8_t *)nothing, size, len);
+}
+
+const char *wtf8_result_text(wtf8_result code) {
+    switch (code) {
+        case WTF8_OK: return "the call did what it says";
+        case WTF8_NO_MEMORY: return "memory was refused";
+        case WTF8_BAD_POSITION: return "an index or a position is after the end, or not a boundary";
+        case WTF8_ARRAY_TOO_SHORT: return "the array is too short";
+        case WTF8_HAS_SURROGATE: return "the string holds a surrogate";
+        case WTF8_BAD_CODE_POINT: return "the number is not a code point";
+        case WTF8_NOT_UTF8: return "the bytes are not UTF-8";
+    }
+    return "not a code of this library";
+}
+
+const char *wtf8_version(void) {
+    return WTF8_VERSION;
 }

@@ -23,16 +23,16 @@ int main(void) {
     wtf8_string string = WTF8_EMPTY, equal = WTF8_EMPTY;
     if (scanf("%7s %15s %zu %zu", call, text, &count, &rounds) != 4 || count > UNITS) return 1;
     for (size_t i = 0; i < count; i++) units[i] = unit_of(text, i);
-    bad += wtf8_set_units(&string, units, count) != WTF8_DONE;
-    bad += wtf8_set_units(&equal, units, count) != WTF8_DONE;
+    bad += wtf8_set_units(&string, units, count) != WTF8_OK;
+    bad += wtf8_set_units(&equal, units, count) != WTF8_OK;
     for (size_t i = 0; i < rounds; i++) {
         if (strcmp(call, "in") == 0)
-            bad += wtf8_set_units(&string, units, count) != WTF8_DONE;
+            bad += wtf8_set_units(&string, units, count) != WTF8_OK;
         else if (strcmp(call, "out") == 0)
-            bad += wtf8_copy_units(&string, out, count, &len) != WTF8_DONE;
+            bad += wtf8_copy_units(&string, out, count, &len) != WTF8_OK;
         else if (strcmp(call, "append") == 0) {
             wtf8_clear(&string);
-            bad += wtf8_push_string(&string, &equal) != WTF8_DONE;
+            bad += wtf8_push_string(&string, &equal) != WTF8_OK;
         } else if (strcmp(call, "equal") == 0)
             bad += !wtf8_equal(&string, &equal);
         else

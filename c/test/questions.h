@@ -31,7 +31,7 @@ static inline struct answers answers_of(const struct pair *p, const struct pair 
 static inline int has_units(const wtf8_string *string, const uint16_t *units, size_t n) {
     uint16_t out[MOST];
     size_t len = 0;
-    return wtf8_copy_units(string, out, MOST, &len) == WTF8_DONE && len == n && memcmp(out, units, 2 * n) == 0;
+    return wtf8_copy_units(string, out, MOST, &len) == WTF8_OK && len == n && memcmp(out, units, 2 * n) == 0;
 }
 
 /* Whether a question of this kind, below QUESTIONS, is answered right. `number` draws indexes and positions; `own` is a
@@ -42,35 +42,35 @@ static inline int is_right(unsigned kind, size_t number, const struct pair *p, c
     size_t end = number % (p->n + 1), begin = number / 7 % (end + 1);
     uint16_t unit = 0, units[MOST];
     uint8_t bytes[3 * MOST];
-    int32_t code;
+    wtf8_result code;
     switch (kind) {
         case 0: return wtf8_unit_len(s) == p->n;
         case 1: return wtf8_byte_len(s) == a->byte_len;
         case 2:
             code = wtf8_unit_at(s, index, &unit);
-            return p->n <= index ? code == WTF8_POSITION : code == WTF8_DONE && unit == p->units[index];
+            return p->n <= index ? code == WTF8_BAD_POSITION : code == WTF8_OK && unit == p->units[index];
         case 3: return wtf8_is_boundary(s, position) == is_boundary(p, position);
         case 4: return wtf8_is_utf8(s) == a->is_utf8;
         case 5: return wtf8_equal(s, &q->string) == (a->order == 0);
         case 6: return wtf8_compare_units(s, &q->string) == a->order;
         case 7: return wtf8_compare_code_points(s, &q->string) == a->point_order;
         case 8: return wtf8_hash(s) == a->hash;
-        case 9: return wtf8_slice_units(s, begin, end, own) == WTF8_DONE && has_units(own, p->units + begin, end - begin);
+        case 9: return wtf8_slice_units(own, s, begin, end) == WTF8_OK && has_units(own, p->units + begin, end - begin);
         case 10: return has_units(s, p->units, p->n);
         case 11:
             code = wtf8_copy_slice(s, begin, end, units, MOST, &len);
-            return code == WTF8_DONE && len == end - begin && memcmp(units, p->units + begin, 2 * len) == 0;
+            return code == WTF8_OK && len == end - begin && memcmp(units, p->units + begin, 2 * len) == 0;
         case 12:
             code = wtf8_copy_utf8(s, bytes, sizeof bytes, &len);
-            if (!a->is_utf8) return code == WTF8_SURROGATE;
-            return code == WTF8_DONE && len == a->byte_len && memcmp(bytes, a->lossy, len) == 0;
+            if (!a->is_utf8) return code == WTF8_HAS_SURROGATE;
+            return code == WTF8_OK && len == a->byte_len && memcmp(bytes, a->lossy, len) == 0;
         case 13:
             code = wtf8_copy_lossy(s, bytes, sizeof bytes, &len);
-            return code == WTF8_DONE && len == a->byte_len && memcmp(bytes, a->lossy, len) == 0;
-        case 14: return wtf8_set_string(own, s) == WTF8_DONE && has_units(own, p->units, p->n);
+            return code == WTF8_OK && len == a->byte_len && memcmp(bytes, a->lossy, len) == 0;
+        case 14: return wtf8_set_string(own, s) == WTF8_OK && has_units(own, p->units, p->n);
         default:
             wtf8_clear(own);
-            return wtf8_push_string(own, s) == WTF8_DONE && has_units(own, p->units, p->n);
+            return wtf8_push_string(own, s) == WTF8_OK && has_units(own, p->units, p->n);
     }
 }
 

@@ -76,8 +76,8 @@ int main(int count, char **words) {
         fill(q);
         if (below(3) == 0) memcpy(q->units, p->units, 2 * (q->n = p->n));
         if (round % 50 == 49) p->n = 0; /* and the string has no buffer */
-        else must(wtf8_set_units(&p->string, p->units, p->n) == WTF8_DONE, "a string in the pages");
-        must(wtf8_set_units(&q->string, q->units, q->n) == WTF8_DONE, "another string in the pages");
+        else must(wtf8_set_units(&p->string, p->units, p->n) == WTF8_OK, "a string in the pages");
+        must(wtf8_set_units(&q->string, q->units, q->n) == WTF8_OK, "another string in the pages");
         is_in_pages = 0;
         struct answers a = answers_of(p, q);
         must(mprotect(pages, SIZE, PROT_READ) == 0, "pages that cannot be written");

@@ -28,8 +28,8 @@ int main(int count, char **words) {
     for (asked.n = 0; asked.n < 100; asked.n++) asked.units[asked.n] = pattern[asked.n % 10];
     memcpy(other.units, asked.units, sizeof asked.units);
     other.n = asked.n - 1;
-    if (wtf8_set_units(&asked.string, asked.units, asked.n) != WTF8_DONE) return 1;
-    if (wtf8_set_units(&other.string, other.units, other.n) != WTF8_DONE) return 1;
+    if (wtf8_set_units(&asked.string, asked.units, asked.n) != WTF8_OK) return 1;
+    if (wtf8_set_units(&other.string, other.units, other.n) != WTF8_OK) return 1;
     answers = answers_of(&asked, &other);
     for (int i = 0; i < THREADS; i++)
         if (pthread_create(&threads[i], NULL, ask, &wrong[i])) return 1;

@@ -28,7 +28,7 @@ either f g h = elim h [ inl a ↦ f a | inr b ↦ g b ]
 pub or_third : {A B C : Type 0} → A ⊎ B → A ⊎ (B ⊎ C)
 or_third = either inl (λ b. inr (inl b))
 
--- a code that is DONE or MEMORY is no greater one
+-- a code that is OK or NO_MEMORY is no greater one
 pub no_greater : {A : Type 0} {k : ℤ} (m : ℕ) → 1 < m → (k ≡ pos 0) ⊎ (k ≡ pos 1) → k ≡ pos m → A
 no_greater m l h e = elim h [
   | inl d ↦ other_code 0 m (grind (arith, nat_tests)) (sym d ∙ e)
@@ -44,36 +44,36 @@ on_err : {T E P : Type 0} (r : Result T E) → OnErr r P → IsErr r → P
 on_err (Ok x) p e = cc
 on_err (Err x) p e = p
 
--- the code that a call passes on as it got it: DONE or MEMORY
+-- the code that a call passes on as it got it: OK or NO_MEMORY
 same_code : {k z : ℤ} → mag k < 2147483648 → k ≡ z → to_z w32 (of_z w32 k) ≡ z
 same_code {k} fits e = to_z-of_z (sfits_of {w = w32} {z = k} fits) ∙ e
 
 pub if_code : {A : Type 0} {k z : ℤ} → mag k < 2147483648 → (k ≡ z → A) → to_z w32 (of_z w32 k) ≡ z → A
 if_code fits f e = f (sym (same_code fits refl) ∙ e)
 
-pub done_or_memory_as : {k : ℤ} → mag k < 2147483648 → (k ≡ pos 0) ⊎ (k ≡ pos 1)
+pub ok_or_no_memory_as : {k : ℤ} → mag k < 2147483648 → (k ≡ pos 0) ⊎ (k ≡ pos 1)
     → (to_z w32 (of_z w32 k) ≡ pos 0) ⊎ (to_z w32 (of_z w32 k) ≡ pos 1)
-done_or_memory_as fits = either (λ e. inl (same_code fits e)) (λ e. inr (same_code fits e))
+ok_or_no_memory_as fits = either (λ e. inl (same_code fits e)) (λ e. inr (same_code fits e))
 
-pub unless_done : {A : Type 0} {k : ℤ} → mag k < 2147483648 → (k ≡ pos 0) ⊎ (k ≡ pos 1) → (k ≡ pos 1 → A)
+pub unless_ok : {A : Type 0} {k : ℤ} → mag k < 2147483648 → (k ≡ pos 0) ⊎ (k ≡ pos 1) → (k ≡ pos 1 → A)
     → ¬ (to_z w32 (of_z w32 k) ≡ pos 0) → A
-unless_done fits h f not = elim h [ inl d ↦ absurd (not (same_code fits d)) | inr d ↦ f d ]
+unless_ok fits h f not = elim h [ inl d ↦ absurd (not (same_code fits d)) | inr d ↦ f d ]
 
--- the code for the outcome `r` of an append: DONE or MEMORY
+-- the code for the outcome `r` of an append: OK or NO_MEMORY
 pub record IsCodeOf {T E : Type 0} (r : Result T E) (code : ℤ) : Type 0 where
-  pub done : code ≡ pos 0 ↔ IsOk r
+  pub ok : code ≡ pos 0 ↔ IsOk r
   pub memory : code ≡ pos 1 ↔ IsErr r
 
 pub returned : {T E : Type 0} {r : Result T E} {k : ℤ} → mag k < 2147483648 → (k ≡ pos 0 ↔ IsOk r) → (k ≡ pos 1 ↔ IsErr r)
     → IsCodeOf r (to_z w32 (of_z w32 k))
-returned {r = r} fits done memory = subst (IsCodeOf r) (sym (same_code fits refl)) (record { done = done; memory = memory })
+returned {r = r} fits ok memory = subst (IsCodeOf r) (sym (same_code fits refl)) (record { ok = ok; memory = memory })
 
-pub done_or_memory : {T E : Type 0} (r : Result T E) (k : ℤ) → IsCodeOf r k → (k ≡ pos 0) ⊎ (k ≡ pos 1)
-done_or_memory (Ok x) k h = inl (h.done.1 refl)
-done_or_memory (Err x) k h = inr (h.memory.1 refl)
+pub ok_or_no_memory : {T E : Type 0} (r : Result T E) (k : ℤ) → IsCodeOf r k → (k ≡ pos 0) ⊎ (k ≡ pos 1)
+ok_or_no_memory (Ok x) k h = inl (h.ok.1 refl)
+ok_or_no_memory (Err x) k h = inr (h.memory.1 refl)
 
-pub once_done : {T E P : Type 0} {r : Result T E} {k : ℤ} → IsCodeOf r k → OnOk r P → k ≡ pos 0 → P
-once_done {r = r} h p e = on_ok r p (h.done.0 e)
+pub once_ok : {T E P : Type 0} {r : Result T E} {k : ℤ} → IsCodeOf r k → OnOk r P → k ≡ pos 0 → P
+once_ok {r = r} h p e = on_ok r p (h.ok.0 e)
 
 -- the buffer `d` that was taken out of the string `old`, or made for it, and, changed to `n`, put back: the string is `s` then
 pub record Opened (old d : UnitString) (full : Bool) : Type 0 where
@@ -89,7 +89,7 @@ opened {old} {full = full} is u w m h =
 
 pub appended : {T E : Type 0} {r : Result T E} {k : ℤ} {old d n s : UnitString} {full : Bool} (us : List ℕ) → IsCodeOf r k
     → Opened old d full → s ≡ n → OnOk r (n.units ≡ d.units ++ us) → k ≡ pos 0 → s.units ≡ old.units ++ us
-appended us h o put ok e = ap (λ x. x.units) put ∙ once_done h ok e ∙ ap (λ x. x ++ us) o.units
+appended us h o put ok e = ap (λ x. x.units) put ∙ once_ok h ok e ∙ ap (λ x. x ++ us) o.units
 
 pub kept : {T E : Type 0} {r : Result T E} {k : ℤ} {old d n s : UnitString} {full : Bool} → IsCodeOf r k → Opened old d full
     → s ≡ n → OnErr r (KeepsContents d n) → k ≡ pos 1 → KeepsContents old s
@@ -97,16 +97,16 @@ kept {r = r} h o put err e =
     let same = on_err r err (h.memory.0 e) in
     record { units = ap (λ x. x.units) put ∙ same.units ∙ o.units; bytes = ap (λ x. x.bytes) put ∙ same.bytes ∙ o.bytes }
 
-pub kept_unless_done : {T E : Type 0} {r : Result T E} {k : ℤ} {old d n s : UnitString} {full : Bool} → IsCodeOf r k → Opened old d full
+pub kept_unless_ok : {T E : Type 0} {r : Result T E} {k : ℤ} {old d n s : UnitString} {full : Bool} → IsCodeOf r k → Opened old d full
     → s ≡ n → OnErr r (KeepsContents d n) → ¬ (k ≡ pos 0) → KeepsContents old s
-kept_unless_done {r = r} {k} h o put err not = elim (done_or_memory r k h) [
+kept_unless_ok {r = r} {k} h o put err not = elim (ok_or_no_memory r k h) [
   | inl e ↦ absurd (not e)
   | inr e ↦ kept h o put err e
 ]
 
 pub room : {T E : Type 0} {r : Result T E} {k : ℤ} {old d : UnitString} {full : Bool} (us : List ℕ) → IsCodeOf r k → Opened old d full
     → (HasRoomFor d us → IsOk r) → IsTrue full → HasRoomFor old us → k ≡ pos 0
-room us h o ok is fit = h.done.1 (ok (subst (λ x. HasRoomFor x us) (sym (o.held is)) fit))
+room us h o ok is fit = h.ok.1 (ok (subst (λ x. HasRoomFor x us) (sym (o.held is)) fit))
 
 pub capacity_kept : {old d n s : UnitString} {full : Bool} → Opened old d full → s ≡ n → d.capacity ≤ n.capacity
     → old.capacity ≤ s.capacity

@@ -8,7 +8,7 @@ ghost use Rattle.wtf8.specs.Surrogates.{AreScalar};
 ghost use Rattle.wtf8_c.specs.Contents.{contents};
 ghost use Rattle.wtf8_c.specs.Hashing.{hash_of};
 
-use crate::codes::{AFTER, BEFORE, DONE, POSITION, SAME};
+use crate::codes::{AFTER, BAD_POSITION, BEFORE, OK, SAME};
 use crate::handle::Wtf8String;
 use crate::opening::view;
 use std::alloc::Global;
@@ -47,10 +47,10 @@ pub extern "C" fn wtf8_unit_at(
     index: usize,
     unit: &mut u16,
 ) -> i32
-    ensures code { (result ≡ DONE) ⊎ (result ≡ POSITION) }
-    ensures position { result ≡ POSITION ↔ length (contents string.old).units ≤ index }
-    ensures done { result ≡ DONE → slice_get (contents string.old).units index ≡ Some unit.new }
-    ensures unit { result ≡ POSITION → unit.new ≡ unit.old }
+    ensures code { (result ≡ OK) ⊎ (result ≡ BAD_POSITION) }
+    ensures position { result ≡ BAD_POSITION ↔ length (contents string.old).units ≤ index }
+    ensures ok { result ≡ OK → slice_get (contents string.old).units index ≡ Some unit.new }
+    ensures unit { result ≡ BAD_POSITION → unit.new ≡ unit.old }
     ensures kept { contents string.new ≡ contents string.old }
 {
     let held = string.take(alloc);
@@ -59,9 +59,9 @@ pub extern "C" fn wtf8_unit_at(
     match found {
         Some(value) => {
             *unit = value;
-            DONE
+            OK
         }
-        None => POSITION,
+        None => BAD_POSITION,
     }
 }
 

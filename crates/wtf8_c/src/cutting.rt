@@ -5,7 +5,7 @@ ghost use Rattle.wtf8.specs.Position.{IsBoundary, IsFront};
 ghost use Rattle.wtf8.specs.UnitPosition.{units_of_slice};
 ghost use Rattle.wtf8_c.specs.Contents.{contents, buffer_contents};
 
-use crate::codes::{DONE, MEMORY, POSITION};
+use crate::codes::{BAD_POSITION, NO_MEMORY, OK};
 use crate::handle::Wtf8String;
 use crate::making::replace;
 use crate::opening::view;
@@ -15,15 +15,15 @@ use wtf8::{UnitSlice, Wtf8Buf};
 /// Shortens the string to `n` units.
 #[unsafe(no_mangle)]
 pub extern "C" fn wtf8_truncate_units(alloc: Global, string: &mut Wtf8String, n: usize) -> i32
-    ensures code { (result ≡ DONE) ⊎ (result ≡ POSITION) }
-    ensures position { result ≡ POSITION ↔ length (contents string.old).units < n }
-    ensures done { result ≡ DONE → (contents string.new).units ≡ take n (contents string.old).units }
-    ensures kept { result ≡ POSITION → contents string.new ≡ contents string.old }
+    ensures code { (result ≡ OK) ⊎ (result ≡ BAD_POSITION) }
+    ensures position { result ≡ BAD_POSITION ↔ length (contents string.old).units < n }
+    ensures ok { result ≡ OK → (contents string.new).units ≡ take n (contents string.old).units }
+    ensures kept { result ≡ BAD_POSITION → contents string.new ≡ contents string.old }
 {
     let held = string.take(alloc);
     if view(&held).unit_len() < n {
         string.put_back(held);
-        return POSITION;
+        return BAD_POSITION;
     }
     match held {
         Some(mut buf) => {
@@ -32,24 +32,28 @@ pub extern "C" fn wtf8_truncate_units(alloc: Global, string: &mut Wtf8String, n:
         }
         None => (),
     }
-    DONE
+    OK
 }
 
 /// Shortens the string to `position` bytes.
 #[unsafe(no_mangle)]
-pub extern "C" fn wtf8_truncate(alloc: Global, string: &mut Wtf8String, position: usize) -> i32
-    ensures code { (result ≡ DONE) ⊎ (result ≡ POSITION) }
-    ensures position { result ≡ POSITION ↔ ¬ (IsBoundary (contents string.old).units position) }
-    ensures done { result ≡ DONE → IsFront (contents string.old).units position (contents string.new).units }
-    ensures kept { result ≡ POSITION → contents string.new ≡ contents string.old }
+pub extern "C" fn wtf8_truncate_bytes(
+    alloc: Global,
+    string: &mut Wtf8String,
+    position: usize,
+) -> i32
+    ensures code { (result ≡ OK) ⊎ (result ≡ BAD_POSITION) }
+    ensures position { result ≡ BAD_POSITION ↔ ¬ (IsBoundary (contents string.old).units position) }
+    ensures ok { result ≡ OK → IsFront (contents string.old).units position (contents string.new).units }
+    ensures kept { result ≡ BAD_POSITION → contents string.new ≡ contents string.old }
 {
     let held = string.take(alloc);
     if !view(&held).is_code_point_boundary(position) {
         string.put_back(held);
-        return POSITION;
+        return BAD_POSITION;
     }
     string.put_back(truncated(held, position));
-    DONE
+    OK
 }
 
 /// Shortens the buffer's string to `position` bytes, if there is a buffer.
@@ -73,28 +77,28 @@ fn truncated(
 #[unsafe(no_mangle)]
 pub extern "C" fn wtf8_slice_units(
     alloc: Global,
+    into: &mut Wtf8String,
     string: &mut Wtf8String,
     begin: usize,
     end: usize,
-    into: &mut Wtf8String,
 ) -> i32
-    ensures code { (result ≡ DONE) ⊎ ((result ≡ MEMORY) ⊎ (result ≡ POSITION)) }
-    ensures position { result ≡ POSITION ↔ ¬ ((begin ≤ end) × (end ≤ length (contents string.old).units)) }
-    ensures done { result ≡ DONE → (contents into.new).units ≡ drop begin (take end (contents string.old).units) }
-    ensures kept { ¬ (result ≡ DONE) → contents into.new ≡ contents into.old }
+    ensures code { (result ≡ OK) ⊎ ((result ≡ NO_MEMORY) ⊎ (result ≡ BAD_POSITION)) }
+    ensures position { result ≡ BAD_POSITION ↔ ¬ ((begin ≤ end) × (end ≤ length (contents string.old).units)) }
+    ensures ok { result ≡ OK → (contents into.new).units ≡ drop begin (take end (contents string.old).units) }
+    ensures kept { ¬ (result ≡ OK) → contents into.new ≡ contents into.old }
     ensures string { contents string.new ≡ contents string.old }
 {
     let held = string.take(alloc);
     let text = view(&held);
     if end < begin || text.unit_len() < end {
         string.put_back(held);
-        return POSITION;
+        return BAD_POSITION;
     }
     let copied = copy_of_slice(alloc, text.slice_units(begin, end));
     string.put_back(held);
     match copied {
         Ok(made) => replace(alloc, into, made),
-        Err(_) => MEMORY,
+        Err(_) => NO_MEMORY,
     }
 }
 

@@ -5,7 +5,7 @@ ghost use Rattle.wtf8.specs.Appending.{KeepsContents};
 ghost use Rattle.wtf8.specs.Unicode.{units};
 ghost use Rattle.wtf8_c.specs.Contents.{contents, no_string};
 
-use crate::codes::{DONE, MEMORY, NO_UTF8, code_of};
+use crate::codes::{NO_MEMORY, NOT_UTF8, OK, code_of};
 use crate::handle::Wtf8String;
 use crate::opening::view;
 use std::alloc::Global;
@@ -15,30 +15,30 @@ use wtf8::Wtf8Buf;
 /// Replaces the units of the string.
 #[unsafe(no_mangle)]
 pub extern "C" fn wtf8_set_units(alloc: Global, string: &mut Wtf8String, units: &[u16]) -> i32
-    ensures code { (result ≡ DONE) ⊎ (result ≡ MEMORY) }
-    ensures done { result ≡ DONE → (contents string.new).units ≡ units.now }
-    ensures kept { result ≡ MEMORY → contents string.new ≡ contents string.old }
+    ensures code { (result ≡ OK) ⊎ (result ≡ NO_MEMORY) }
+    ensures ok { result ≡ OK → (contents string.new).units ≡ units.now }
+    ensures kept { result ≡ NO_MEMORY → contents string.new ≡ contents string.old }
 {
     match Wtf8Buf::from_ill_formed_utf16(alloc, units) {
         Ok(made) => replace(alloc, string, made),
-        Err(_) => MEMORY,
+        Err(_) => NO_MEMORY,
     }
 }
 
 /// Replaces the string by a text, which must be UTF-8.
 #[unsafe(no_mangle)]
 pub extern "C" fn wtf8_set_utf8(alloc: Global, string: &mut Wtf8String, text: &[u8]) -> i32
-    ensures code { (result ≡ DONE) ⊎ ((result ≡ MEMORY) ⊎ (result ≡ NO_UTF8)) }
-    ensures no_utf8 { result ≡ NO_UTF8 ↔ ¬ (IsUtf8 text.now) }
-    ensures done { result ≡ DONE → (contents string.new).units ≡ units (chars text.now) }
-    ensures kept { ¬ (result ≡ DONE) → contents string.new ≡ contents string.old }
+    ensures code { (result ≡ OK) ⊎ ((result ≡ NO_MEMORY) ⊎ (result ≡ NOT_UTF8)) }
+    ensures not_utf8 { result ≡ NOT_UTF8 ↔ ¬ (IsUtf8 text.now) }
+    ensures ok { result ≡ OK → (contents string.new).units ≡ units (chars text.now) }
+    ensures kept { ¬ (result ≡ OK) → contents string.new ≡ contents string.old }
 {
     let Ok(text) = str::from_utf8(text) else {
-        return NO_UTF8;
+        return NOT_UTF8;
     };
     match Wtf8Buf::from_str(alloc, text) {
         Ok(made) => replace(alloc, string, made),
-        Err(_) => MEMORY,
+        Err(_) => NO_MEMORY,
     }
 }
 
@@ -49,9 +49,9 @@ pub extern "C" fn wtf8_set_string(
     string: &mut Wtf8String,
     other: &mut Wtf8String,
 ) -> i32
-    ensures code { (result ≡ DONE) ⊎ (result ≡ MEMORY) }
-    ensures done { result ≡ DONE → (contents string.new).units ≡ (contents other.old).units }
-    ensures kept { result ≡ MEMORY → contents string.new ≡ contents string.old }
+    ensures code { (result ≡ OK) ⊎ (result ≡ NO_MEMORY) }
+    ensures ok { result ≡ OK → (contents string.new).units ≡ (contents other.old).units }
+    ensures kept { result ≡ NO_MEMORY → contents string.new ≡ contents string.old }
     ensures other { contents other.new ≡ contents other.old }
 {
     let held = other.take(alloc);
@@ -60,7 +60,7 @@ pub extern "C" fn wtf8_set_string(
     other.put_back(held);
     match copied {
         Ok(()) => replace(alloc, string, made),
-        Err(_) => MEMORY,
+        Err(_) => NO_MEMORY,
     }
 }
 
@@ -90,15 +90,19 @@ pub extern "C" fn wtf8_free(alloc: Global, string: &mut Wtf8String)
 
 /// Reserves capacity for at least `additional` more bytes.
 #[unsafe(no_mangle)]
-pub extern "C" fn wtf8_reserve(alloc: Global, string: &mut Wtf8String, additional: usize) -> i32
-    ensures code { (result ≡ DONE) ⊎ (result ≡ MEMORY) }
-    ensures done { result ≡ DONE → length (contents string.new).bytes + additional ≤ (contents string.new).capacity }
+pub extern "C" fn wtf8_reserve_bytes(
+    alloc: Global,
+    string: &mut Wtf8String,
+    additional: usize,
+) -> i32
+    ensures code { (result ≡ OK) ⊎ (result ≡ NO_MEMORY) }
+    ensures ok { result ≡ OK → length (contents string.new).bytes + additional ≤ (contents string.new).capacity }
     ensures kept { KeepsContents (contents string.old) (contents string.new) }
-    ensures room { IsTrue string.old.full → length (contents string.old).bytes + additional ≤ (contents string.old).capacity → result ≡ DONE }
+    ensures room { IsTrue string.old.full → length (contents string.old).bytes + additional ≤ (contents string.old).capacity → result ≡ OK }
     ensures capacity { (contents string.old).capacity ≤ (contents string.new).capacity }
 {
     let Ok(mut buf) = string.open(alloc) else {
-        return MEMORY;
+        return NO_MEMORY;
     };
     let reserved = buf.reserve(additional);
     string.put(buf);
@@ -107,15 +111,15 @@ pub extern "C" fn wtf8_reserve(alloc: Global, string: &mut Wtf8String, additiona
 
 /// Replaces the string's buffer.
 pub(crate) fn replace(alloc: Global, string: &mut Wtf8String, made: Wtf8Buf<Global>) -> i32
-    ensures code { (result ≡ DONE) ⊎ (result ≡ MEMORY) }
-    ensures done { result ≡ DONE → contents string.new ≡ made }
-    ensures kept { result ≡ MEMORY → contents string.new ≡ contents string.old }
+    ensures code { (result ≡ OK) ⊎ (result ≡ NO_MEMORY) }
+    ensures ok { result ≡ OK → contents string.new ≡ made }
+    ensures kept { result ≡ NO_MEMORY → contents string.new ≡ contents string.old }
 {
     let Ok(buf) = Box::new(alloc, made) else {
-        return MEMORY;
+        return NO_MEMORY;
     };
     let replaced = string.take(alloc);
     drop(replaced);
     string.put(buf);
-    DONE
+    OK
 }

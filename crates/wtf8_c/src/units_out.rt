@@ -5,7 +5,7 @@ ghost use Rattle.wtf8.specs.Surrogates.{AreScalar, lossy_points};
 ghost use Rattle.wtf8_c.specs.Contents.{contents};
 ghost use Rattle.wtf8_c.specs.Front.{with_front};
 
-use crate::codes::{DONE, MEMORY, POSITION, SURROGATE, TOO_SHORT};
+use crate::codes::{ARRAY_TOO_SHORT, BAD_POSITION, HAS_SURROGATE, NO_MEMORY, OK};
 use crate::cutting::append_slice;
 use crate::handle::Wtf8String;
 use crate::opening::view;
@@ -20,12 +20,12 @@ pub extern "C" fn wtf8_copy_units(
     out: &mut [u16],
     len: &mut usize,
 ) -> i32
-    ensures code { (result ≡ DONE) ⊎ ((result ≡ MEMORY) ⊎ (result ≡ TOO_SHORT)) }
-    ensures short { result ≡ TOO_SHORT ↔ length out.old < length (contents string.old).units }
-    ensures done { result ≡ DONE → out.new ≡ with_front (contents string.old).units out.old }
-    ensures out { ¬ (result ≡ DONE) → out.new ≡ out.old }
-    ensures len { ¬ (result ≡ MEMORY) → len.new ≡ length (contents string.old).units }
-    ensures len_kept { result ≡ MEMORY → len.new ≡ len.old }
+    ensures code { (result ≡ OK) ⊎ ((result ≡ NO_MEMORY) ⊎ (result ≡ ARRAY_TOO_SHORT)) }
+    ensures short { result ≡ ARRAY_TOO_SHORT ↔ length out.old < length (contents string.old).units }
+    ensures ok { result ≡ OK → out.new ≡ with_front (contents string.old).units out.old }
+    ensures out { ¬ (result ≡ OK) → out.new ≡ out.old }
+    ensures len { ¬ (result ≡ NO_MEMORY) → len.new ≡ length (contents string.old).units }
+    ensures len_kept { result ≡ NO_MEMORY → len.new ≡ len.old }
     ensures kept { contents string.new ≡ contents string.old }
 {
     let held = string.take(alloc);
@@ -36,17 +36,17 @@ pub extern "C" fn wtf8_copy_units(
         let needed = text.unit_len();
         string.put_back(held);
         *len = needed;
-        return TOO_SHORT;
+        return ARRAY_TOO_SHORT;
     }
     let mut units = Vec::new(alloc);
     let copied = text.append_units(&mut units);
     string.put_back(held);
     if copied.is_err() {
-        return MEMORY;
+        return NO_MEMORY;
     }
     *len = units.len();
     out[..units.len()].copy_from_slice(&units);
-    DONE
+    OK
 }
 
 /// Writes the units from index `begin` to before `end` at the front of `out`, and their number to `len`.
@@ -59,36 +59,36 @@ pub extern "C" fn wtf8_copy_slice(
     out: &mut [u16],
     len: &mut usize,
 ) -> i32
-    ensures code { (result ≡ DONE) ⊎ ((result ≡ MEMORY) ⊎ ((result ≡ POSITION) ⊎ (result ≡ TOO_SHORT))) }
-    ensures position { result ≡ POSITION ↔ ¬ ((begin ≤ end) × (end ≤ length (contents string.old).units)) }
-    ensures short { result ≡ TOO_SHORT ↔ (begin ≤ end) × (end ≤ length (contents string.old).units) × (begin + length out.old < end) }
-    ensures done { result ≡ DONE → out.new ≡ with_front (drop begin (take end (contents string.old).units)) out.old }
-    ensures out { ¬ (result ≡ DONE) → out.new ≡ out.old }
-    ensures len { (result ≡ DONE) ⊎ (result ≡ TOO_SHORT) → begin + len.new ≡ end }
-    ensures len_kept { (result ≡ MEMORY) ⊎ (result ≡ POSITION) → len.new ≡ len.old }
+    ensures code { (result ≡ OK) ⊎ ((result ≡ NO_MEMORY) ⊎ ((result ≡ BAD_POSITION) ⊎ (result ≡ ARRAY_TOO_SHORT))) }
+    ensures position { result ≡ BAD_POSITION ↔ ¬ ((begin ≤ end) × (end ≤ length (contents string.old).units)) }
+    ensures short { result ≡ ARRAY_TOO_SHORT ↔ (begin ≤ end) × (end ≤ length (contents string.old).units) × (begin + length out.old < end) }
+    ensures ok { result ≡ OK → out.new ≡ with_front (drop begin (take end (contents string.old).units)) out.old }
+    ensures out { ¬ (result ≡ OK) → out.new ≡ out.old }
+    ensures len { (result ≡ OK) ⊎ (result ≡ ARRAY_TOO_SHORT) → begin + len.new ≡ end }
+    ensures len_kept { (result ≡ NO_MEMORY) ⊎ (result ≡ BAD_POSITION) → len.new ≡ len.old }
     ensures kept { contents string.new ≡ contents string.old }
 {
     let held = string.take(alloc);
     let text = view(&held);
     if end < begin || text.unit_len() < end {
         string.put_back(held);
-        return POSITION;
+        return BAD_POSITION;
     }
     let needed = end - begin;
     if out.len() < needed {
         string.put_back(held);
         *len = needed;
-        return TOO_SHORT;
+        return ARRAY_TOO_SHORT;
     }
     let mut units = Vec::new(alloc);
     let copied = append_slice(text.slice_units(begin, end), &mut units);
     string.put_back(held);
     if copied.is_err() {
-        return MEMORY;
+        return NO_MEMORY;
     }
     *len = needed;
     out[..needed].copy_from_slice(&units);
-    DONE
+    OK
 }
 
 /// Writes the text at the front of `out` in UTF-8, and its length in bytes to `len`, if the string holds no surrogate.
@@ -99,19 +99,19 @@ pub extern "C" fn wtf8_copy_utf8(
     out: &mut [u8],
     len: &mut usize,
 ) -> i32
-    ensures code { (result ≡ DONE) ⊎ ((result ≡ SURROGATE) ⊎ (result ≡ TOO_SHORT)) }
-    ensures surrogate { result ≡ SURROGATE ↔ ¬ (AreScalar (contents string.old).form.points) }
-    ensures short { result ≡ TOO_SHORT ↔ AreScalar (contents string.old).form.points × (length out.old < length (contents string.old).bytes) }
-    ensures done { result ≡ DONE → out.new ≡ with_front (contents string.old).bytes out.old }
-    ensures out { ¬ (result ≡ DONE) → out.new ≡ out.old }
-    ensures len { ¬ (result ≡ SURROGATE) → len.new ≡ length (contents string.old).bytes }
-    ensures len_kept { result ≡ SURROGATE → len.new ≡ len.old }
+    ensures code { (result ≡ OK) ⊎ ((result ≡ HAS_SURROGATE) ⊎ (result ≡ ARRAY_TOO_SHORT)) }
+    ensures surrogate { result ≡ HAS_SURROGATE ↔ ¬ (AreScalar (contents string.old).form.points) }
+    ensures short { result ≡ ARRAY_TOO_SHORT ↔ AreScalar (contents string.old).form.points × (length out.old < length (contents string.old).bytes) }
+    ensures ok { result ≡ OK → out.new ≡ with_front (contents string.old).bytes out.old }
+    ensures out { ¬ (result ≡ OK) → out.new ≡ out.old }
+    ensures len { ¬ (result ≡ HAS_SURROGATE) → len.new ≡ length (contents string.old).bytes }
+    ensures len_kept { result ≡ HAS_SURROGATE → len.new ≡ len.old }
     ensures kept { contents string.new ≡ contents string.old }
 {
     let held = string.take(alloc);
     let code = match view(&held).as_str() {
         Some(text) => write_text(text.as_bytes(), out, len),
-        None => SURROGATE,
+        None => HAS_SURROGATE,
     };
     string.put_back(held);
     code
@@ -125,13 +125,13 @@ pub extern "C" fn wtf8_copy_lossy(
     out: &mut [u8],
     len: &mut usize,
 ) -> i32
-    ensures code { (result ≡ DONE) ⊎ ((result ≡ MEMORY) ⊎ (result ≡ TOO_SHORT)) }
-    ensures granted { AreScalar (contents string.old).form.points → ¬ (result ≡ MEMORY) }
-    ensures short { result ≡ TOO_SHORT ↔ length out.old < length (contents string.old).bytes }
-    ensures done { result ≡ DONE → out.new ≡ with_front (bytes (lossy_points (contents string.old).form.points)) out.old }
-    ensures out { ¬ (result ≡ DONE) → out.new ≡ out.old }
-    ensures len { ¬ (result ≡ MEMORY) → len.new ≡ length (contents string.old).bytes }
-    ensures len_kept { result ≡ MEMORY → len.new ≡ len.old }
+    ensures code { (result ≡ OK) ⊎ ((result ≡ NO_MEMORY) ⊎ (result ≡ ARRAY_TOO_SHORT)) }
+    ensures granted { AreScalar (contents string.old).form.points → ¬ (result ≡ NO_MEMORY) }
+    ensures short { result ≡ ARRAY_TOO_SHORT ↔ length out.old < length (contents string.old).bytes }
+    ensures ok { result ≡ OK → out.new ≡ with_front (bytes (lossy_points (contents string.old).form.points)) out.old }
+    ensures out { ¬ (result ≡ OK) → out.new ≡ out.old }
+    ensures len { ¬ (result ≡ NO_MEMORY) → len.new ≡ length (contents string.old).bytes }
+    ensures len_kept { result ≡ NO_MEMORY → len.new ≡ len.old }
     ensures kept { contents string.new ≡ contents string.old }
 {
     let held = string.take(alloc);
@@ -141,11 +141,11 @@ pub extern "C" fn wtf8_copy_lossy(
     if out.len() < needed {
         string.put_back(held);
         *len = needed;
-        return TOO_SHORT;
+        return ARRAY_TOO_SHORT;
     }
     let code = match text.to_string_lossy(alloc) {
         Ok(lossy) => write_text(lossy.as_str().as_bytes(), out, len),
-        Err(_) => MEMORY,
+        Err(_) => NO_MEMORY,
     };
     string.put_back(held);
     code
@@ -153,16 +153,16 @@ pub extern "C" fn wtf8_copy_lossy(
 
 /// Writes a text at the front of `out` if it fits, and its length in any case.
 fn write_text(text: &[u8], out: &mut [u8], len: &mut usize) -> i32
-    ensures code { (result ≡ DONE) ⊎ (result ≡ TOO_SHORT) }
-    ensures short { result ≡ TOO_SHORT ↔ length out.old < length text.now }
-    ensures done { result ≡ DONE → out.new ≡ with_front text.now out.old }
-    ensures out { result ≡ TOO_SHORT → out.new ≡ out.old }
+    ensures code { (result ≡ OK) ⊎ (result ≡ ARRAY_TOO_SHORT) }
+    ensures short { result ≡ ARRAY_TOO_SHORT ↔ length out.old < length text.now }
+    ensures ok { result ≡ OK → out.new ≡ with_front text.now out.old }
+    ensures out { result ≡ ARRAY_TOO_SHORT → out.new ≡ out.old }
     ensures len { len.new ≡ length text.now }
 {
     *len = text.len();
     if out.len() < text.len() {
-        return TOO_SHORT;
+        return ARRAY_TOO_SHORT;
     }
     out[..text.len()].copy_from_slice(text);
-    DONE
+    OK
 }

@@ -14,8 +14,8 @@ returns-in-Some-clause-position c =
     let found = sym (c.in-Some.ensures ∙ ap (λ x. slice_get x c.args.index) units) in
     (other_code _ _ refl, λ past. outside (slice_get_within _ _ _ found) past)
 
-pub returns-in-Some-clause-done : goal.returns-in-Some-clause-done
-returns-in-Some-clause-done c _ =
+pub returns-in-Some-clause-ok : goal.returns-in-Some-clause-ok
+returns-in-Some-clause-ok c _ =
     let units = c.view.ensures.units ∙ ap (λ x. x.units) c.take-held.ensures.contents in
     sym (c.in-Some.ensures ∙ ap (λ x. slice_get x c.args.index) units)
 
@@ -39,7 +39,7 @@ returns-in-None c =
     record {
       code = inr refl;
       position = (λ _. none_past _ _ none, λ _. refl);
-      done = other_code _ _ refl;
+      ok = other_code _ _ refl;
       unit = λ _. refl;
       kept = c.put_back.ensures ∙ c.take-held.ensures.contents;
     }

@@ -30,8 +30,8 @@ returns-then-end-begin-clause-short c =
       ],
     )
 
-pub returns-then-end-begin-clause-done : goal.returns-then-end-begin-clause-done
-returns-then-end-begin-clause-done c = other_code _ _ refl
+pub returns-then-end-begin-clause-ok : goal.returns-then-end-begin-clause-ok
+returns-then-end-begin-clause-ok c = other_code _ _ refl
 
 pub returns-then-end-begin-clause-out : goal.returns-then-end-begin-clause-out
 returns-then-end-begin-clause-out c _ = refl
@@ -54,7 +54,7 @@ returns-then-out-needed c =
       code = inr (inr (inr refl));
       position = (other_code _ _ refl, λ not. absurd (not (c.if-end-begin.false, within)));
       short = (λ _. (c.if-end-begin.false, within, too_short _ _ _ c.if-out-needed.true), λ _. refl);
-      done = other_code _ _ refl;
+      ok = other_code _ _ refl;
       out = λ _. refl;
       len = λ _. rest_is c.if-end-begin.false;
       len_kept = either (other_code _ _ refl) (other_code _ _ refl);
@@ -70,7 +70,7 @@ returns-then-is_err c =
       code = inr (inl refl);
       position = (other_code _ _ refl, λ not. absurd (not (c.if-end-begin.false, within)));
       short = (other_code _ _ refl, λ fit. long_enough _ _ _ c.if-out-needed.false fit.2);
-      done = other_code _ _ refl;
+      ok = other_code _ _ refl;
       out = λ _. refl;
       len = either (other_code _ _ refl) (other_code _ _ refl);
       len_kept = λ _. refl;
@@ -97,7 +97,7 @@ returns c =
       code = inl refl;
       position = (other_code _ _ refl, λ not. absurd (not (c.if-end-begin.false, within)));
       short = (other_code _ _ refl, λ fit. long_enough _ _ _ c.if-out-needed.false fit.2);
-      done = λ _. over_front _ _ (c.copy_from_slice.ensures.after ∙ part) (part_length _ _ _ within);
+      ok = λ _. over_front _ _ (c.copy_from_slice.ensures.after ∙ part) (part_length _ _ _ within);
       out = λ not. absurd (not refl);
       len = λ _. rest_is c.if-end-begin.false;
       len_kept = either (other_code _ _ refl) (other_code _ _ refl);

@@ -10,8 +10,8 @@ returns-then-out-unit_len-clause-short c =
     let units = c.view-text.ensures.units ∙ ap (λ x. x.units) c.take-held.ensures.contents in
     (λ _. rw (c.unit_len.ensures ∙ ap length units) at c.if-out-unit_len.true, λ _. refl)
 
-pub returns-then-out-unit_len-clause-done : goal.returns-then-out-unit_len-clause-done
-returns-then-out-unit_len-clause-done c = other_code _ _ refl
+pub returns-then-out-unit_len-clause-ok : goal.returns-then-out-unit_len-clause-ok
+returns-then-out-unit_len-clause-ok c = other_code _ _ refl
 
 pub returns-then-out-unit_len-clause-out : goal.returns-then-out-unit_len-clause-out
 returns-then-out-unit_len-clause-out c _ = refl
@@ -29,8 +29,8 @@ returns-then-out-unit_len-clause-kept c = c.put_back.ensures ∙ c.take-held.ens
 pub returns-then-is_err-clause-code : goal.returns-then-is_err-clause-code
 returns-then-is_err-clause-code c = inr (inl refl)
 
-pub returns-then-is_err-clause-done : goal.returns-then-is_err-clause-done
-returns-then-is_err-clause-done c = other_code _ _ refl
+pub returns-then-is_err-clause-ok : goal.returns-then-is_err-clause-ok
+returns-then-is_err-clause-ok c = other_code _ _ refl
 
 pub returns-then-is_err-clause-out : goal.returns-then-is_err-clause-out
 returns-then-is_err-clause-out c _ = refl
@@ -47,8 +47,8 @@ returns-then-is_err-clause-kept c = c.put_back-2.ensures ∙ c.take-held.ensures
 pub returns-clause-code : goal.returns-clause-code
 returns-clause-code c = inl refl
 
-pub returns-clause-done : goal.returns-clause-done
-returns-clause-done c _ =
+pub returns-clause-ok : goal.returns-clause-ok
+returns-clause-ok c _ =
     let units = c.view-text.ensures.units ∙ ap (λ x. x.units) c.take-held.ensures.contents in
     let items = copied _ refl c.append_units-copied.ensures.ok c.new-units.ensures.items c.if-is_err.ensures.value units in
     let same = c.deref.ensures.value ∙ items in
