@@ -71,6 +71,7 @@ DECLARE(wtf8_result, set_string, wtf8_string *, wtf8_string *)
 DECLARE(void, clear, wtf8_string *)
 DECLARE(void, free, wtf8_string *)
 DECLARE(wtf8_result, reserve_bytes, wtf8_string *, size_t)
+DECLARE(wtf8_result, mark, wtf8_string *)
 DECLARE(wtf8_result, push_unit, wtf8_string *, uint16_t)
 DECLARE(wtf8_result, push_code_point, wtf8_string *, uint32_t)
 DECLARE(wtf8_result, push_units, wtf8_string *, const uint16_t *, size_t)
@@ -120,6 +121,10 @@ void wtf8_free(wtf8_string *string) {
 
 wtf8_result wtf8_reserve_bytes(wtf8_string *string, size_t additional) {
     return PROVED(reserve_bytes)(string, additional);
+}
+
+wtf8_result wtf8_mark(wtf8_string *string) {
+    return PROVED(mark)(string);
 }
 
 wtf8_result wtf8_push_unit(wtf8_string *string, uint16_t unit) {

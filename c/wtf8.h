@@ -101,6 +101,18 @@ void wtf8_free(wtf8_string *string);
  * 0 bytes for a string without a buffer may be. Codes: OK, NO_MEMORY. */
 WTF8_CODE wtf8_result wtf8_reserve_bytes(wtf8_string *string, size_t additional);
 
+/* ---- Marks ----
+ *
+ * Calls that find a unit by its index take constant time in a string of ASCII. Else they count the units before it, from
+ * the start, or at most 129 of them from a mark if the string has marks.
+ */
+
+/* Makes a mark for each 128 units of the string, if it is not ASCII. Appends and truncations keep the marks; a
+ * wtf8_set_ call and wtf8_slice_units lose those of the string that they replace. A mark for which memory is refused is
+ * left out, as those after it, until an append finds memory for them. Only a string without a buffer is refused memory.
+ * Linear in the length. Codes: OK, NO_MEMORY. */
+WTF8_CODE wtf8_result wtf8_mark(wtf8_string *string);
+
 /* ---- Appending ---- */
 
 /* Each appends to the string. A trail after a lead completes the pair. A call whose bytes fit the capacity is never
@@ -125,14 +137,14 @@ WTF8_CODE wtf8_result wtf8_push_string(wtf8_string *string, const wtf8_string *o
 
 /* These only read their strings. */
 
-/* The number of units. It counts them, in time linear in the length. */
+/* The number of units. Constant. */
 size_t wtf8_unit_len(const wtf8_string *string);
 
 /* The length in bytes. Constant. */
 size_t wtf8_byte_len(const wtf8_string *string);
 
-/* Writes the unit at `index` to `*unit`. It counts the units before it, so a loop over all of them is quadratic: copy the
- * units out. Codes: OK, BAD_POSITION (`index` is the length or greater). */
+/* Writes the unit at `index`, found by the marks, to `*unit`. Codes: OK, BAD_POSITION (`index` is the length or
+ * greater). */
 WTF8_CODE wtf8_result wtf8_unit_at(const wtf8_string *string, size_t index, uint16_t *unit);
 
 /* Whether a position in bytes is a code point boundary: 0 and the length are, a position after the end is not. Constant. */
@@ -155,29 +167,29 @@ uint64_t wtf8_hash(const wtf8_string *string);
 
 /* ---- Cutting ---- */
 
-/* Shortens the string to `n` units, which it counts from the start. A pair that this divides leaves its lead. Codes: OK,
- * BAD_POSITION. */
+/* Shortens the string to `n` units, found by the marks. A pair that this divides leaves its lead, and units are counted
+ * from the start then. Codes: OK, BAD_POSITION. */
 WTF8_CODE wtf8_result wtf8_truncate_units(wtf8_string *string, size_t n);
 
-/* Shortens the string to `position` bytes, a boundary. Constant. Codes: OK, BAD_POSITION. */
+/* Shortens the string to `position` bytes, a boundary. It counts the units before it from a mark, or from the start.
+ * Codes: OK, BAD_POSITION. */
 WTF8_CODE wtf8_result wtf8_truncate_bytes(wtf8_string *string, size_t position);
 
-/* Replaces `into` by the units of `string` from `begin` to before `end`; units are counted from the start. Codes: OK,
- * NO_MEMORY, BAD_POSITION (`begin` is greater than `end`, or `end` than the length). */
+/* Replaces `into` by the units of `string` from `begin`, found by the marks, to before `end`. Codes: OK, NO_MEMORY,
+ * BAD_POSITION (`begin` is greater than `end`, or `end` than the length). */
 WTF8_CODE wtf8_result wtf8_slice_units(wtf8_string *into, const wtf8_string *string, size_t begin, size_t end);
 
 /* ---- Copying out ----
  *
- * A short array is reported before memory is requested, so an array of size 0 asks for the length. An array of
- * wtf8_byte_len elements always suffices. `*len` is written with OK and ARRAY_TOO_SHORT alone.
+ * An array of size 0 asks for the length. An array of wtf8_byte_len elements always suffices. `*len` is written with OK
+ * and ARRAY_TOO_SHORT alone.
  */
 
 /* Writes all units at the front of `out`, which has room for `size`, and their number to `*len`. If the array is too
- * short, only the number is written. Codes: OK, NO_MEMORY, ARRAY_TOO_SHORT. */
+ * short, only the number is written. Codes: OK, ARRAY_TOO_SHORT. */
 WTF8_CODE wtf8_result wtf8_copy_units(const wtf8_string *string, uint16_t *out, size_t size, size_t *len);
 
-/* The same of the units from `begin` to before `end`, which are counted from the start. Codes: OK, NO_MEMORY, BAD_POSITION,
- * ARRAY_TOO_SHORT. */
+/* The same of the units from `begin`, found by the marks, to before `end`. Codes: OK, BAD_POSITION, ARRAY_TOO_SHORT. */
 WTF8_CODE wtf8_result wtf8_copy_slice(const wtf8_string *string, size_t begin, size_t end, uint16_t *out, size_t size, size_t *len);
 
 /* The same of the text in UTF-8, `*len` in bytes, if there is no surrogate. Codes: OK, HAS_SURROGATE, ARRAY_TOO_SHORT. */

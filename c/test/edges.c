@@ -133,6 +133,73 @@ static void indexes(void) {
     wtf8_free(&string);
 }
 
+enum { MARKED = 700, APPENDED = 300, SPACING = 128 };
+
+/* CJK letters with a surrogate pair around each multiple of the marks' spacing, less `shift`. */
+static void marked_units(uint16_t *units, size_t n, size_t shift) {
+    for (size_t i = 0; i < n; i++) {
+        size_t at = (i + shift) % SPACING;
+        units[i] = (uint16_t)(at == SPACING - 1 ? 0xD83D : at == 0 && i > 0 ? 0xDC00 + i % 0x400 : 0x4E00 + i);
+    }
+}
+
+/* Each unit and slices of a string with marks are those of the units. */
+static void must_find(const wtf8_string *string, const uint16_t *units, size_t n, const char *what) {
+    uint16_t unit = 0;
+    must(wtf8_unit_len(string) == n, what);
+    for (size_t i = 0; i < n; i++)
+        must(wtf8_unit_at(string, i, &unit) == WTF8_OK && unit == units[i], what);
+    must(wtf8_unit_at(string, n, &unit) == WTF8_BAD_POSITION, what);
+    for (size_t i = 0; i + 70 <= n; i += 23) {
+        uint16_t *out = an_array(140);
+        size_t len = 0;
+        must(wtf8_copy_slice(string, i, i + 70, out, 70, &len) == WTF8_OK && len == 70, what);
+        must_begin(out, 140, units + i, 140, what);
+    }
+}
+
+/* Marks, with each request for one granted or refused, while the string grows and is cut. */
+static void marks(void) {
+    static uint16_t units[MARKED + APPENDED + 1];
+    for (size_t shift = 0; shift < 3; shift++) {
+        for (int is_refused = 0; is_refused < 2; is_refused++) {
+            wtf8_string string = WTF8_EMPTY, letters_only = WTF8_EMPTY;
+            marked_units(units, MARKED + APPENDED, shift);
+            must(wtf8_set_units(&string, units, MARKED) == WTF8_OK, "a string to mark");
+            must(wtf8_set_utf8(&letters_only, letters, MARKED) == WTF8_OK, "letters to mark");
+            long requested = requests;
+            must(wtf8_mark(&letters_only) == WTF8_OK && requests == requested, "letters need no marks");
+            if (is_refused) refuse_after = 0;
+            must(wtf8_mark(&string) == WTF8_OK && requests > requested, "marks are requested");
+            refuse_after = -1;
+            must_find(&string, units, MARKED, "a marked string");
+            must(wtf8_push_units(&string, units + MARKED, APPENDED) == WTF8_OK, "units after marks");
+            must_find(&string, units, MARKED + APPENDED, "a marked string that grew");
+            for (size_t n = MARKED + APPENDED; n > 100; n -= 1 + n % 7) {
+                uint16_t trail = 0xDC00;
+                must(wtf8_truncate_units(&string, n) == WTF8_OK, "a cut of a marked string");
+                must(wtf8_push_unit(&string, trail) == WTF8_OK, "a trail after a cut");
+                uint16_t after = units[n];
+                units[n] = trail;
+                if (n % 3 == 0) must_find(&string, units, n + 1, "a marked string that was cut");
+                units[n] = after;
+                must(wtf8_truncate_units(&string, n) == WTF8_OK, "the trail cut off");
+            }
+            wtf8_free(&string);
+            wtf8_free(&letters_only);
+        }
+    }
+    wtf8_string none = WTF8_EMPTY;
+    refuse_after = 0;
+    must(wtf8_mark(&none) == WTF8_NO_MEMORY, "marks of a string without a buffer");
+    refuse_after = -1;
+    must(wtf8_mark(&none) == WTF8_OK, "marks of an empty string");
+    marked_units(units, MARKED, 0);
+    for (size_t i = 0; i < MARKED; i++) must(wtf8_push_unit(&none, units[i]) == WTF8_OK, "a unit of a marked string");
+    must_find(&none, units, MARKED, "a string that was marked when it was empty");
+    wtf8_free(&none);
+}
+
 /* Appends `n` letters with each request refused: they must fit. */
 static void must_take(wtf8_string *string, size_t n, const char *what) {
     long requested = requests;
@@ -204,6 +271,7 @@ int main(void) {
     for (size_t front = 0; front < 48; front++) utf8_after(front);
     hash();
     indexes();
+    marks();
     reserve();
     kept_capacity();
     growth();

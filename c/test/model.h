@@ -7,13 +7,15 @@
 #include <stddef.h>
 #include <stdint.h>
 
-enum { MOST = 400 };
+enum { MOST = 800 };
 
-/* A string, the units that it must have, and a number of bytes that it must have the capacity for. */
+/* A string, the units that it must have, a number of bytes that it must have the capacity for, and whether it may have
+ * marks. */
 struct pair {
     wtf8_string string;
     uint16_t units[4 * MOST];
     size_t n, capacity;
+    int is_marked;
 };
 
 static uint64_t state;

@@ -4,7 +4,7 @@
 #include "model.h"
 #include "requests.h"
 
-enum { STRINGS = 4, KINDS = 26 };
+enum { STRINGS = 4, KINDS = 27 };
 
 static struct pair pairs[STRINGS];
 static long counts[40][7];
@@ -65,6 +65,7 @@ static int refuse_if_units_fit(struct pair *p, const uint16_t *units, size_t n) 
 static void replace(struct pair *p, const uint16_t *units, size_t n) {
     p->n = 0;
     p->capacity = 0;
+    p->is_marked = 0;
     append(p, units, n);
 }
 
@@ -192,10 +193,12 @@ static void step(int kind, struct pair *p, struct pair *q) {
             int in_range = a <= b && b <= p->n;
             uint16_t *out = an_array(2 * size);
             len = 77;
+            needs_none = in_range && b - a <= size;
+            if (below(2)) refuse_after = 0;
             code = wtf8_copy_slice(&p->string, a, b, size ? out : NULL, size, &len);
             must((code == WTF8_BAD_POSITION) == !in_range, "copy_slice, position");
             must((code == WTF8_ARRAY_TOO_SHORT) == (in_range && size < b - a), "copy_slice, short");
-            must(code == WTF8_NO_MEMORY || code == WTF8_BAD_POSITION ? len == 77 : len == b - a, "copy_slice, length");
+            must(code == WTF8_BAD_POSITION ? len == 77 : len == b - a, "copy_slice, length");
             must_begin(out, 2 * size, p->units + (in_range ? a : 0), code == WTF8_OK ? 2 * len : 0, "copy_slice, array");
             break;
         }
@@ -220,21 +223,31 @@ static void step(int kind, struct pair *p, struct pair *q) {
             must_begin(out, size, bytes, code == WTF8_OK ? needed : 0, "copy_text, array");
             break;
         }
-        default: {
+        case 25: {
             size_t size = below((uint32_t)p->n + 3);
             uint16_t *out = an_array(2 * size);
             len = 77;
+            needs_none = p->n <= size;
+            if (below(2)) refuse_after = 0;
             code = wtf8_copy_units(&p->string, size ? out : NULL, size, &len);
             must((code == WTF8_ARRAY_TOO_SHORT) == (size < p->n), "copy_units");
-            must(code == WTF8_NO_MEMORY ? len == 77 : len == p->n, "copy_units, length");
+            must(len == p->n, "copy_units, length");
             must_begin(out, 2 * size, p->units, code == WTF8_OK ? 2 * p->n : 0, "copy_units, array");
             break;
         }
+        default:
+            if (below(2)) refuse_after = 0;
+            code = wtf8_mark(&p->string);
+            must(code == WTF8_OK || p->capacity == 0, "mark of a string with a buffer");
+            if (code == WTF8_OK) p->is_marked = 1;
+            break;
     }
     must(code <= WTF8_NOT_UTF8, "code");
     must(code != WTF8_NO_MEMORY || refused < refusals || more > PTRDIFF_MAX, "MEMORY, but no request was refused");
     must(!needs_none || code == WTF8_OK, "a call that needs no memory is not done");
-    must(!needs_none || requests == requested, "a call that needs no memory requests it");
+    /* An append may ask for memory for marks, and does without it. */
+    int may_ask_for_marks = p->is_marked && kind >= 6 && kind <= 10;
+    must(!needs_none || may_ask_for_marks || requests == requested, "a call that needs no memory requests it");
     counts[kind][code]++;
 }
 
@@ -258,8 +271,8 @@ int main(int count, char **words) {
         {0, WTF8_NO_MEMORY}, {1, WTF8_NO_MEMORY}, {1, WTF8_NOT_UTF8}, {2, WTF8_NO_MEMORY}, {5, WTF8_NO_MEMORY}, {6, WTF8_NO_MEMORY},
         {7, WTF8_NO_MEMORY}, {7, WTF8_BAD_CODE_POINT}, {8, WTF8_NO_MEMORY}, {9, WTF8_NO_MEMORY}, {9, WTF8_NOT_UTF8},
         {10, WTF8_NO_MEMORY}, {12, WTF8_BAD_POSITION}, {18, WTF8_BAD_POSITION}, {19, WTF8_NO_MEMORY}, {19, WTF8_BAD_POSITION},
-        {20, WTF8_BAD_POSITION}, {22, WTF8_NO_MEMORY}, {22, WTF8_BAD_POSITION}, {22, WTF8_ARRAY_TOO_SHORT}, {23, WTF8_HAS_SURROGATE}, {23, WTF8_ARRAY_TOO_SHORT},
-        {24, WTF8_NO_MEMORY}, {24, WTF8_ARRAY_TOO_SHORT}, {25, WTF8_NO_MEMORY}, {25, WTF8_ARRAY_TOO_SHORT}};
+        {20, WTF8_BAD_POSITION}, {22, WTF8_BAD_POSITION}, {22, WTF8_ARRAY_TOO_SHORT}, {23, WTF8_HAS_SURROGATE}, {23, WTF8_ARRAY_TOO_SHORT},
+        {24, WTF8_NO_MEMORY}, {24, WTF8_ARRAY_TOO_SHORT}, {25, WTF8_ARRAY_TOO_SHORT}, {26, WTF8_NO_MEMORY}};
     for (int kind = 0; kind < KINDS; kind++) must(counts[kind][WTF8_OK] > 0 || steps < 25000, "a call is never done");
     for (size_t i = 0; i < sizeof reached / sizeof reached[0]; i++)
         must(counts[reached[i][0]][reached[i][1]] > 0 || steps < 25000, "a code is never reached");

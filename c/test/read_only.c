@@ -1,4 +1,4 @@
-/* Each call that only reads, over strings whose structs and blocks are in pages that cannot be written. Arguments: a
+/* Each call that only reads, over strings whose structs, bytes and marks are in pages that cannot be written. Arguments: a
  * seed and the number of rounds. Linked with -Wl,--wrap=malloc,--wrap=realloc,--wrap=free. */
 #define _DEFAULT_SOURCE
 #include "must.h"
@@ -44,7 +44,7 @@ void __wrap_free(void *at) {
 /* Fills the pair with units: of every kind, scalar values alone, or ASCII. */
 static void fill(struct pair *p) {
     uint32_t kind = below(3);
-    p->n = below(60);
+    p->n = below(8) ? below(60) : 120 + below(300);
     for (size_t i = 0; i < p->n; i++)
         p->units[i] = kind == 0 ? a_unit() : (uint16_t)below(kind == 1 ? 0xD800 : 0x80);
 }
@@ -78,6 +78,7 @@ int main(int count, char **words) {
         if (round % 50 == 49) p->n = 0; /* and the string has no buffer */
         else must(wtf8_set_units(&p->string, p->units, p->n) == WTF8_OK, "a string in the pages");
         must(wtf8_set_units(&q->string, q->units, q->n) == WTF8_OK, "another string in the pages");
+        must(below(2) || wtf8_mark(&p->string) == WTF8_OK, "a marked string in the pages");
         is_in_pages = 0;
         struct answers a = answers_of(p, q);
         must(mprotect(pages, SIZE, PROT_READ) == 0, "pages that cannot be written");

@@ -62,7 +62,7 @@ pub extern "C" fn wtf8_push_units(alloc: Global, string: &mut Wtf8String, units:
     let Ok(mut buf) = string.open(alloc) else {
         return NO_MEMORY;
     };
-    let pushed = buf.push_ill_formed_utf16(units);
+    let pushed = buf.push_units(units);
     string.put(buf);
     code_of(pushed)
 }

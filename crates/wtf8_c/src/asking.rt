@@ -5,15 +5,16 @@ ghost use Rattle.wtf8.specs.Form.{Reads};
 ghost use Rattle.wtf8.specs.Order.{Before};
 ghost use Rattle.wtf8.specs.Position.{IsBoundary};
 ghost use Rattle.wtf8.specs.Surrogates.{AreScalar};
-ghost use Rattle.wtf8_c.specs.Contents.{contents};
+ghost use Rattle.wtf8_c.specs.Contents.{contents, buffer_contents};
 ghost use Rattle.wtf8_c.specs.Hashing.{hash_of};
 
 use crate::codes::{AFTER, BAD_POSITION, BEFORE, OK, SAME};
 use crate::handle::Wtf8String;
-use crate::opening::view;
+use crate::opening::{unit_len, view};
 use std::alloc::Global;
 use std::cmp::Ordering;
 use std::hash::{DefaultHasher, Hash, Hasher};
+use unit_text::IndexedBuf;
 
 /// The number of units.
 #[unsafe(no_mangle)]
@@ -22,7 +23,7 @@ pub extern "C" fn wtf8_unit_len(alloc: Global, string: &mut Wtf8String) -> usize
     ensures kept { contents string.new ≡ contents string.old }
 {
     let held = string.take(alloc);
-    let len = view(&held).unit_len();
+    let len = unit_len(&held);
     string.put_back(held);
     len
 }
@@ -54,7 +55,7 @@ pub extern "C" fn wtf8_unit_at(
     ensures kept { contents string.new ≡ contents string.old }
 {
     let held = string.take(alloc);
-    let found = view(&held).unit_at(index);
+    let found = find_unit(&held, index);
     string.put_back(held);
     match found {
         Some(value) => {
@@ -62,6 +63,16 @@ pub extern "C" fn wtf8_unit_at(
             OK
         }
         None => BAD_POSITION,
+    }
+}
+
+/// The unit of the buffer's string at an index, if there is one.
+fn find_unit(held: &Option<Box<IndexedBuf<Global>, Global>>, index: usize) -> Option<u16>
+    ensures { result ≡ slice_get (buffer_contents held.now).units index }
+{
+    match held {
+        Some(buf) => buf.unit_at(index),
+        None => None,
     }
 }
 

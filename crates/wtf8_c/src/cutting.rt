@@ -1,6 +1,5 @@
 // Calls that shorten a string, and that copy a part of one.
 ghost use Rattle.std.specs.Prelude.{◌≡◌, [], ◌++◌, ◌⊎◌, ◌<◌, ◌≤◌, ◌↔◌, IfOk, OnOk, length, take, drop};
-ghost use Rattle.std.specs.Option.{option_to_list};
 ghost use Rattle.wtf8.specs.Position.{IsBoundary, IsFront};
 ghost use Rattle.wtf8.specs.UnitPosition.{units_of_slice};
 ghost use Rattle.wtf8_c.specs.Contents.{contents, buffer_contents};
@@ -8,9 +7,10 @@ ghost use Rattle.wtf8_c.specs.Contents.{contents, buffer_contents};
 use crate::codes::{BAD_POSITION, NO_MEMORY, OK};
 use crate::handle::Wtf8String;
 use crate::making::replace;
-use crate::opening::view;
+use crate::opening::{unit_len, view};
 use std::alloc::{AllocError, Global};
-use wtf8::{UnitSlice, Wtf8Buf};
+use unit_text::IndexedBuf;
+use wtf8::{UnitSlice, Wtf8, Wtf8Buf};
 
 /// Shortens the string to `n` units.
 #[unsafe(no_mangle)]
@@ -21,7 +21,7 @@ pub extern "C" fn wtf8_truncate_units(alloc: Global, string: &mut Wtf8String, n:
     ensures kept { result ≡ BAD_POSITION → contents string.new ≡ contents string.old }
 {
     let held = string.take(alloc);
-    if view(&held).unit_len() < n {
+    if unit_len(&held) < n {
         string.put_back(held);
         return BAD_POSITION;
     }
@@ -58,9 +58,9 @@ pub extern "C" fn wtf8_truncate_bytes(
 
 /// Shortens the buffer's string to `position` bytes, if there is a buffer.
 fn truncated(
-    held: Option<Box<Wtf8Buf<Global>, Global>>,
+    held: Option<Box<IndexedBuf<Global>, Global>>,
     position: usize,
-) -> Option<Box<Wtf8Buf<Global>, Global>>
+) -> Option<Box<IndexedBuf<Global>, Global>>
     requires { IsBoundary (buffer_contents held).units position }
     ensures { IsFront (buffer_contents held).units position (buffer_contents result).units }
 {
@@ -89,12 +89,11 @@ pub extern "C" fn wtf8_slice_units(
     ensures string { contents string.new ≡ contents string.old }
 {
     let held = string.take(alloc);
-    let text = view(&held);
-    if end < begin || text.unit_len() < end {
+    if end < begin || unit_len(&held) < end {
         string.put_back(held);
         return BAD_POSITION;
     }
-    let copied = copy_of_slice(alloc, text.slice_units(begin, end));
+    let copied = copy_of_slice(alloc, slice_of(&held, begin, end));
     string.put_back(held);
     match copied {
         Ok(made) => replace(alloc, into, made),
@@ -102,33 +101,27 @@ pub extern "C" fn wtf8_slice_units(
     }
 }
 
+/// The part of the buffer's string from unit `begin` to before unit `end`.
+fn slice_of(
+    held: &Option<Box<IndexedBuf<Global>, Global>>,
+    begin: usize,
+    end: usize,
+) -> UnitSlice<'_>
+    requires order { begin ≤ end }
+    requires within { end ≤ length (buffer_contents held.now).units }
+    ensures { units_of_slice result ≡ drop begin (take end (buffer_contents held.now).units) }
+{
+    match held {
+        Some(buf) => buf.slice_units(begin, end),
+        None => Wtf8::from_str("").slice_units(begin, end),
+    }
+}
+
 /// A copy of a slice.
-fn copy_of_slice(alloc: Global, slice: UnitSlice<'_>) -> Result<Wtf8Buf<Global>, AllocError>
+fn copy_of_slice(alloc: Global, slice: UnitSlice<'_>) -> Result<IndexedBuf<Global>, AllocError>
     ensures { IfOk result (λ b. b.units ≡ units_of_slice slice.entry) }
 {
-    let mut units = Vec::new(alloc);
-    append_slice(slice, &mut units)?;
-    Wtf8Buf::from_ill_formed_utf16(alloc, &units)
-}
-
-/// Appends the units of a slice.
-pub(crate) fn append_slice(
-    slice: UnitSlice<'_>,
-    units: &mut Vec<u16, Global>,
-) -> Result<(), AllocError>
-    ensures { OnOk result (units.new.items ≡ units.old.items ++ units_of_slice slice.entry) }
-{
-    append_half(slice.trail, units)?;
-    slice.whole.append_units(units)?;
-    append_half(slice.lead, units)
-}
-
-/// Appends half of a surrogate pair, if there is one.
-fn append_half(half: Option<u16>, units: &mut Vec<u16, Global>) -> Result<(), AllocError>
-    ensures { OnOk result (units.new.items ≡ units.old.items ++ option_to_list half) }
-{
-    match half {
-        Some(unit) => Ok(units.push(unit)?),
-        None => Ok(()),
-    }
+    let mut made = Wtf8Buf::new(alloc);
+    made.push_unit_slice(slice)?;
+    Ok(IndexedBuf::from_buf(made))
 }

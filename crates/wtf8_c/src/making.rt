@@ -10,7 +10,7 @@ use crate::handle::Wtf8String;
 use crate::opening::view;
 use std::alloc::Global;
 use std::str;
-use wtf8::Wtf8Buf;
+use unit_text::IndexedBuf;
 
 /// Replaces the units of the string.
 #[unsafe(no_mangle)]
@@ -19,7 +19,7 @@ pub extern "C" fn wtf8_set_units(alloc: Global, string: &mut Wtf8String, units: 
     ensures ok { result ≡ OK → (contents string.new).units ≡ units.now }
     ensures kept { result ≡ NO_MEMORY → contents string.new ≡ contents string.old }
 {
-    match Wtf8Buf::from_ill_formed_utf16(alloc, units) {
+    match IndexedBuf::from_units(alloc, units) {
         Ok(made) => replace(alloc, string, made),
         Err(_) => NO_MEMORY,
     }
@@ -36,8 +36,9 @@ pub extern "C" fn wtf8_set_utf8(alloc: Global, string: &mut Wtf8String, text: &[
     let Ok(text) = str::from_utf8(text) else {
         return NOT_UTF8;
     };
-    match Wtf8Buf::from_str(alloc, text) {
-        Ok(made) => replace(alloc, string, made),
+    let mut made = IndexedBuf::new(alloc);
+    match made.push_str(text) {
+        Ok(()) => replace(alloc, string, made),
         Err(_) => NO_MEMORY,
     }
 }
@@ -55,7 +56,7 @@ pub extern "C" fn wtf8_set_string(
     ensures other { contents other.new ≡ contents other.old }
 {
     let held = other.take(alloc);
-    let mut made = Wtf8Buf::new(alloc);
+    let mut made = IndexedBuf::new(alloc);
     let copied = made.push_wtf8(view(&held));
     other.put_back(held);
     match copied {
@@ -109,8 +110,24 @@ pub extern "C" fn wtf8_reserve_bytes(
     code_of(reserved)
 }
 
+/// Keeps marks of the string, from which its units are found. A mark without memory is left out.
+#[unsafe(no_mangle)]
+pub extern "C" fn wtf8_mark(alloc: Global, string: &mut Wtf8String) -> i32
+    ensures code { (result ≡ OK) ⊎ (result ≡ NO_MEMORY) }
+    ensures kept { KeepsContents (contents string.old) (contents string.new) }
+    ensures full { IsTrue string.old.full → result ≡ OK }
+    ensures capacity { (contents string.old).capacity ≤ (contents string.new).capacity }
+{
+    let Ok(mut marked) = string.open(alloc) else {
+        return NO_MEMORY;
+    };
+    marked.mark_units(alloc);
+    string.put(marked);
+    OK
+}
+
 /// Replaces the string's buffer.
-pub(crate) fn replace(alloc: Global, string: &mut Wtf8String, made: Wtf8Buf<Global>) -> i32
+pub(crate) fn replace(alloc: Global, string: &mut Wtf8String, made: IndexedBuf<Global>) -> i32
     ensures code { (result ≡ OK) ⊎ (result ≡ NO_MEMORY) }
     ensures ok { result ≡ OK → contents string.new ≡ made }
     ensures kept { result ≡ NO_MEMORY → contents string.new ≡ contents string.old }

@@ -2,15 +2,14 @@
 ghost use Rattle.std.specs.Prelude.{◌≡◌, ◌⊎◌, ◌+◌, ◌<◌, ◌≤◌, ◌↔◌, length, take, drop};
 ghost use Rattle.wtf8.specs.Form.{bytes};
 ghost use Rattle.wtf8.specs.Surrogates.{AreScalar, lossy_points};
-ghost use Rattle.wtf8_c.specs.Contents.{contents};
+ghost use Rattle.wtf8_c.specs.Contents.{contents, buffer_contents};
 ghost use Rattle.wtf8_c.specs.Front.{with_front};
 
 use crate::codes::{ARRAY_TOO_SHORT, BAD_POSITION, HAS_SURROGATE, NO_MEMORY, OK};
-use crate::cutting::append_slice;
 use crate::handle::Wtf8String;
-use crate::opening::view;
+use crate::opening::{unit_len, view};
 use std::alloc::Global;
-use wtf8::laws;
+use unit_text::IndexedBuf;
 
 /// Writes all units at the front of `out`, and their number to `len`.
 #[unsafe(no_mangle)]
@@ -20,33 +19,17 @@ pub extern "C" fn wtf8_copy_units(
     out: &mut [u16],
     len: &mut usize,
 ) -> i32
-    ensures code { (result ≡ OK) ⊎ ((result ≡ NO_MEMORY) ⊎ (result ≡ ARRAY_TOO_SHORT)) }
+    ensures code { (result ≡ OK) ⊎ (result ≡ ARRAY_TOO_SHORT) }
     ensures short { result ≡ ARRAY_TOO_SHORT ↔ length out.old < length (contents string.old).units }
     ensures ok { result ≡ OK → out.new ≡ with_front (contents string.old).units out.old }
     ensures out { ¬ (result ≡ OK) → out.new ≡ out.old }
-    ensures len { ¬ (result ≡ NO_MEMORY) → len.new ≡ length (contents string.old).units }
-    ensures len_kept { result ≡ NO_MEMORY → len.new ≡ len.old }
+    ensures len { len.new ≡ length (contents string.old).units }
     ensures kept { contents string.new ≡ contents string.old }
 {
     let held = string.take(alloc);
-    let text = view(&held);
-    laws::law_view_lengths(text);
-    // There are no more units than bytes: an array of as many units as bytes is long enough, and nothing is counted.
-    if out.len() < text.len() && out.len() < text.unit_len() {
-        let needed = text.unit_len();
-        string.put_back(held);
-        *len = needed;
-        return ARRAY_TOO_SHORT;
-    }
-    let mut units = Vec::new(alloc);
-    let copied = text.append_units(&mut units);
+    let code = write_units(&held, out, len);
     string.put_back(held);
-    if copied.is_err() {
-        return NO_MEMORY;
-    }
-    *len = units.len();
-    out[..units.len()].copy_from_slice(&units);
-    OK
+    code
 }
 
 /// Writes the units from index `begin` to before `end` at the front of `out`, and their number to `len`.
@@ -59,36 +42,23 @@ pub extern "C" fn wtf8_copy_slice(
     out: &mut [u16],
     len: &mut usize,
 ) -> i32
-    ensures code { (result ≡ OK) ⊎ ((result ≡ NO_MEMORY) ⊎ ((result ≡ BAD_POSITION) ⊎ (result ≡ ARRAY_TOO_SHORT))) }
+    ensures code { (result ≡ OK) ⊎ ((result ≡ BAD_POSITION) ⊎ (result ≡ ARRAY_TOO_SHORT)) }
     ensures position { result ≡ BAD_POSITION ↔ ¬ ((begin ≤ end) × (end ≤ length (contents string.old).units)) }
     ensures short { result ≡ ARRAY_TOO_SHORT ↔ (begin ≤ end) × (end ≤ length (contents string.old).units) × (begin + length out.old < end) }
     ensures ok { result ≡ OK → out.new ≡ with_front (drop begin (take end (contents string.old).units)) out.old }
     ensures out { ¬ (result ≡ OK) → out.new ≡ out.old }
-    ensures len { (result ≡ OK) ⊎ (result ≡ ARRAY_TOO_SHORT) → begin + len.new ≡ end }
-    ensures len_kept { (result ≡ NO_MEMORY) ⊎ (result ≡ BAD_POSITION) → len.new ≡ len.old }
+    ensures len { ¬ (result ≡ BAD_POSITION) → begin + len.new ≡ end }
+    ensures len_kept { result ≡ BAD_POSITION → len.new ≡ len.old }
     ensures kept { contents string.new ≡ contents string.old }
 {
     let held = string.take(alloc);
-    let text = view(&held);
-    if end < begin || text.unit_len() < end {
+    if end < begin || unit_len(&held) < end {
         string.put_back(held);
         return BAD_POSITION;
     }
-    let needed = end - begin;
-    if out.len() < needed {
-        string.put_back(held);
-        *len = needed;
-        return ARRAY_TOO_SHORT;
-    }
-    let mut units = Vec::new(alloc);
-    let copied = append_slice(text.slice_units(begin, end), &mut units);
+    let code = write_part(&held, begin, end, out, len);
     string.put_back(held);
-    if copied.is_err() {
-        return NO_MEMORY;
-    }
-    *len = needed;
-    out[..needed].copy_from_slice(&units);
-    OK
+    code
 }
 
 /// Writes the text at the front of `out` in UTF-8, and its length in bytes to `len`, if the string holds no surrogate.
@@ -164,5 +134,54 @@ fn write_text(text: &[u8], out: &mut [u8], len: &mut usize) -> i32
         return ARRAY_TOO_SHORT;
     }
     out[..text.len()].copy_from_slice(text);
+    OK
+}
+
+/// Writes the units of the buffer's string at the front of `out` if they fit, and their number in any case.
+fn write_units(
+    held: &Option<Box<IndexedBuf<Global>, Global>>,
+    out: &mut [u16],
+    len: &mut usize,
+) -> i32
+    ensures code { (result ≡ OK) ⊎ (result ≡ ARRAY_TOO_SHORT) }
+    ensures short { result ≡ ARRAY_TOO_SHORT ↔ length out.old < length (buffer_contents held.now).units }
+    ensures ok { result ≡ OK → out.new ≡ with_front (buffer_contents held.now).units out.old }
+    ensures out { ¬ (result ≡ OK) → out.new ≡ out.old }
+    ensures len { len.new ≡ length (buffer_contents held.now).units }
+{
+    let needed = unit_len(held);
+    *len = needed;
+    if out.len() < needed {
+        return ARRAY_TOO_SHORT;
+    }
+    view(held).write_units(out);
+    OK
+}
+
+/// Writes the units from index `begin` to before `end` at the front of `out` if they fit, and their number in any case.
+fn write_part(
+    held: &Option<Box<IndexedBuf<Global>, Global>>,
+    begin: usize,
+    end: usize,
+    out: &mut [u16],
+    len: &mut usize,
+) -> i32
+    requires order { begin ≤ end }
+    requires within { end ≤ length (buffer_contents held.now).units }
+    ensures code { (result ≡ OK) ⊎ (result ≡ ARRAY_TOO_SHORT) }
+    ensures short { result ≡ ARRAY_TOO_SHORT ↔ begin + length out.old < end }
+    ensures ok { result ≡ OK → out.new ≡ with_front (drop begin (take end (buffer_contents held.now).units)) out.old }
+    ensures out { ¬ (result ≡ OK) → out.new ≡ out.old }
+    ensures len { begin + len.new ≡ end }
+{
+    let needed = end - begin;
+    *len = needed;
+    if out.len() < needed {
+        return ARRAY_TOO_SHORT;
+    }
+    match held {
+        Some(buf) => buf.copy_units(begin, end, out),
+        None => (),
+    }
     OK
 }

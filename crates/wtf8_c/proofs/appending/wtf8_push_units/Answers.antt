@@ -14,7 +14,7 @@ returns-in_default c = record {
   capacity = capacity_same c.in_default.ensures.kept;
 }
 
-code : (c : goal.After-code_of) → IsCodeOf c.push_ill_formed_utf16-pushed.result (to_z w32 (of_z w32 c.code_of.result))
+code : (c : goal.After-code_of) → IsCodeOf c.push_units-pushed.result (to_z w32 (of_z w32 c.code_of.result))
 code c = returned c.code_of.type_inv c.code_of.ensures.ok c.code_of.ensures.memory
 
 taken : (c : goal.After-code_of) → Opened (contents c.args.string.now) c.deref_mut.result.now c.args.string.now.full
@@ -25,13 +25,13 @@ pub returns-clause-code : goal.returns-clause-code
 returns-clause-code c = ok_or_no_memory _ _ (code c)
 
 pub returns-clause-ok : goal.returns-clause-ok
-returns-clause-ok c = appended _ (code c) (taken c) c.put.ensures.contents c.push_ill_formed_utf16-pushed.ensures.ok
+returns-clause-ok c = appended _ (code c) (taken c) c.put.ensures.contents c.push_units-pushed.ensures.ok
 
 pub returns-clause-kept : goal.returns-clause-kept
-returns-clause-kept c = kept (code c) (taken c) c.put.ensures.contents c.push_ill_formed_utf16-pushed.ensures.kept
+returns-clause-kept c = kept (code c) (taken c) c.put.ensures.contents c.push_units-pushed.ensures.kept
 
 pub returns-clause-room : goal.returns-clause-room
-returns-clause-room c = room _ (code c) (taken c) c.push_ill_formed_utf16-pushed.ensures.room
+returns-clause-room c = room _ (code c) (taken c) c.push_units-pushed.ensures.room
 
 pub returns-clause-capacity : goal.returns-clause-capacity
-returns-clause-capacity c = capacity_kept (taken c) c.put.ensures.contents c.push_ill_formed_utf16-pushed.ensures.capacity
+returns-clause-capacity c = capacity_kept (taken c) c.put.ensures.contents c.push_units-pushed.ensures.capacity
