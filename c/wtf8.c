@@ -66,7 +66,7 @@ __attribute__((constructor)) static void choose_build(void) {
 #define PROVED(name) builds_##name[__atomic_load_n(&build, __ATOMIC_RELAXED)]
 
 DECLARE(wtf8_result, set_units, wtf8_string *, const uint16_t *, size_t)
-DECLARE(wtf8_result, set_utf8, wtf8_string *, const uint8_t *, size_t)
+DECLARE(wtf8_result, set_utf8, wtf8_string *, const uint8_t *, size_t, size_t *)
 DECLARE(wtf8_result, set_string, wtf8_string *, wtf8_string *)
 DECLARE(void, clear, wtf8_string *)
 DECLARE(void, free, wtf8_string *)
@@ -75,10 +75,13 @@ DECLARE(wtf8_result, mark, wtf8_string *)
 DECLARE(wtf8_result, push_unit, wtf8_string *, uint16_t)
 DECLARE(wtf8_result, push_code_point, wtf8_string *, uint32_t)
 DECLARE(wtf8_result, push_units, wtf8_string *, const uint16_t *, size_t)
-DECLARE(wtf8_result, push_utf8, wtf8_string *, const uint8_t *, size_t)
+DECLARE(wtf8_result, push_utf8, wtf8_string *, const uint8_t *, size_t, size_t *)
 DECLARE(wtf8_result, push_string, wtf8_string *, wtf8_string *)
 DECLARE(size_t, unit_len, wtf8_string *)
 DECLARE(size_t, byte_len, wtf8_string *)
+DECLARE(size_t, capacity, wtf8_string *)
+DECLARE(wtf8_result, position_at, wtf8_string *, size_t, size_t *)
+DECLARE(size_t, unit_before, wtf8_string *, size_t)
 DECLARE(wtf8_result, unit_at, wtf8_string *, size_t, uint16_t *)
 DECLARE(bool, is_boundary, wtf8_string *, size_t)
 DECLARE(bool, is_utf8, wtf8_string *)
@@ -101,8 +104,9 @@ wtf8_result wtf8_set_units(wtf8_string *string, const uint16_t *units, size_t n)
     return PROVED(set_units)(string, n ? units : nothing, n);
 }
 
-wtf8_result wtf8_set_utf8(wtf8_string *string, const uint8_t *text, size_t n) {
-    return PROVED(set_utf8)(string, n ? text : (const uint8_t *)nothing, n);
+wtf8_result wtf8_set_utf8(wtf8_string *string, const uint8_t *text, size_t n, size_t *valid) {
+    size_t unused;
+    return PROVED(set_utf8)(string, n ? text : (const uint8_t *)nothing, n, valid ? valid : &unused);
 }
 
 wtf8_result wtf8_set_string(wtf8_string *string, const wtf8_string *other) {
@@ -139,8 +143,9 @@ wtf8_result wtf8_push_units(wtf8_string *string, const uint16_t *units, size_t n
     return PROVED(push_units)(string, n ? units : nothing, n);
 }
 
-wtf8_result wtf8_push_utf8(wtf8_string *string, const uint8_t *text, size_t n) {
-    return PROVED(push_utf8)(string, n ? text : (const uint8_t *)nothing, n);
+wtf8_result wtf8_push_utf8(wtf8_string *string, const uint8_t *text, size_t n, size_t *valid) {
+    size_t unused;
+    return PROVED(push_utf8)(string, n ? text : (const uint8_t *)nothing, n, valid ? valid : &unused);
 }
 
 wtf8_result wtf8_push_string(wtf8_string *string, const wtf8_string *other) {
@@ -161,6 +166,21 @@ size_t wtf8_unit_len(const wtf8_string *string) {
 size_t wtf8_byte_len(const wtf8_string *string) {
     wtf8_string copy = *string;
     return PROVED(byte_len)(&copy);
+}
+
+size_t wtf8_capacity(const wtf8_string *string) {
+    wtf8_string copy = *string;
+    return PROVED(capacity)(&copy);
+}
+
+wtf8_result wtf8_position_at(const wtf8_string *string, size_t index, size_t *position) {
+    wtf8_string copy = *string;
+    return PROVED(position_at)(&copy, index, position);
+}
+
+size_t wtf8_unit_before(const wtf8_string *string, size_t position) {
+    wtf8_string copy = *string;
+    return PROVED(unit_before)(&copy, position);
 }
 
 wtf8_result wtf8_unit_at(const wtf8_string *string, size_t index, uint16_t *unit) {

@@ -6,7 +6,8 @@
  * crates/wtf8_c/README.md, which also says what is trusted.
  *
  * What the caller owes:
- * - Each pointer is valid and aligned. It may be NULL only where the text says so: an array of length 0 may be NULL.
+ * - Each pointer is valid and aligned. It may be NULL only where the text says so: an array of length 0 may be NULL, and
+ *   `valid`.
  * - Arrays do not overlap each other, nor a string, nor a number that the call writes.
  * - A string is made by WTF8_EMPTY or by setting all its bytes to 0, and freed by wtf8_free. Its fields are not read or
  *   written. An assignment, memcpy or realloc moves it: of the old place only a new WTF8_EMPTY may be made. A second
@@ -80,15 +81,20 @@ const char *wtf8_result_text(wtf8_result code);
 /* The version of the library, as WTF8_VERSION. */
 const char *wtf8_version(void);
 
-/* ---- Making a string ---- */
+/* ---- Making a string ----
+ *
+ * A wtf8_set_ call uses the string's capacity if the new string fits it, and is not refused then; else it makes a new
+ * buffer, and keeps the old one until that is filled.
+ */
 
-/* Replaces the string by `n` units. Codes: OK, NO_MEMORY. */
+/* Replaces the string by `n` units. Never refused if 3 bytes for each fit. Codes: OK, NO_MEMORY. */
 WTF8_CODE wtf8_result wtf8_set_units(wtf8_string *string, const uint16_t *units, size_t n);
 
-/* Replaces the string by a text of `n` bytes. Codes: OK, NO_MEMORY, NOT_UTF8. */
-WTF8_CODE wtf8_result wtf8_set_utf8(wtf8_string *string, const uint8_t *text, size_t n);
+/* Replaces the string by a text of `n` bytes. With NOT_UTF8 the position of the first byte that is not UTF-8 is written
+ * to `*valid`, unless that is NULL. Never refused if the text fits. Codes: OK, NO_MEMORY, NOT_UTF8. */
+WTF8_CODE wtf8_result wtf8_set_utf8(wtf8_string *string, const uint8_t *text, size_t n, size_t *valid);
 
-/* Replaces the string by a copy of `other`. Codes: OK, NO_MEMORY. */
+/* Replaces the string by a copy of `other`. Never refused if it fits. Codes: OK, NO_MEMORY. */
 WTF8_CODE wtf8_result wtf8_set_string(wtf8_string *string, const wtf8_string *other);
 
 /* Empties the string and keeps its capacity. Constant. */
@@ -127,8 +133,8 @@ WTF8_CODE wtf8_result wtf8_push_code_point(wtf8_string *string, uint32_t value);
 /* `n` units. Never refused if they fit. Codes: OK, NO_MEMORY. */
 WTF8_CODE wtf8_result wtf8_push_units(wtf8_string *string, const uint16_t *units, size_t n);
 
-/* A text of `n` bytes. Never refused if it fits. Codes: OK, NO_MEMORY, NOT_UTF8. */
-WTF8_CODE wtf8_result wtf8_push_utf8(wtf8_string *string, const uint8_t *text, size_t n);
+/* A text of `n` bytes. `valid` is as in wtf8_set_utf8. Never refused if it fits. Codes: OK, NO_MEMORY, NOT_UTF8. */
+WTF8_CODE wtf8_result wtf8_push_utf8(wtf8_string *string, const uint8_t *text, size_t n, size_t *valid);
 
 /* Another string. Never refused if it fits, unless both are one string. Codes: OK, NO_MEMORY. */
 WTF8_CODE wtf8_result wtf8_push_string(wtf8_string *string, const wtf8_string *other);
@@ -142,6 +148,18 @@ size_t wtf8_unit_len(const wtf8_string *string);
 
 /* The length in bytes. Constant. */
 size_t wtf8_byte_len(const wtf8_string *string);
+
+/* The number of bytes that the string can have before memory is requested. Constant. */
+size_t wtf8_capacity(const wtf8_string *string);
+
+/* Writes the position in bytes of the boundary before the unit at `index`, found by the marks, to `*position`: of the end
+ * if `index` is the length, of the pair if `index` divides one. Codes: OK, BAD_POSITION (`index` is greater than the
+ * length). */
+WTF8_CODE wtf8_result wtf8_position_at(const wtf8_string *string, size_t index, size_t *position);
+
+/* The number of units before the last boundary at or before `position` in bytes, found by the marks; the length if
+ * `position` is after the end. */
+size_t wtf8_unit_before(const wtf8_string *string, size_t position);
 
 /* Writes the unit at `index`, found by the marks, to `*unit`. Codes: OK, BAD_POSITION (`index` is the length or
  * greater). */

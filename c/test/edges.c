@@ -78,15 +78,20 @@ static void utf8_after(size_t front) {
         for (size_t k = 0; k < front; k++) units[k] = letters[k];
         memcpy(units + front, texts[i].units, 2 * texts[i].n);
         memcpy(units + n, units, 2 * n);
-        must(wtf8_set_utf8(&string, len ? text : NULL, len) == WTF8_OK, "a text is set");
+        size_t valid = 77;
+        must(wtf8_set_utf8(&string, len ? text : NULL, len, &valid) == WTF8_OK && valid == 77, "a text is set");
         must_have(&string, units, n, "a text that was set");
-        must(wtf8_push_utf8(&string, len ? text : NULL, len) == WTF8_OK, "a text is pushed");
+        must(wtf8_push_utf8(&string, len ? text : NULL, len, NULL) == WTF8_OK, "a text is pushed");
         must_have(&string, units, 2 * n, "a text that was pushed");
         must(wtf8_byte_len(&string) == 2 * len && wtf8_is_utf8(&string), "a text's length");
         for (size_t k = 0; k < sizeof no_texts / sizeof no_texts[0]; k++) {
             memcpy(text + front, no_texts[k].bytes, no_texts[k].len);
-            must(wtf8_set_utf8(&string, text, front + no_texts[k].len) == WTF8_NOT_UTF8, "no text is set");
-            must(wtf8_push_utf8(&string, text, front + no_texts[k].len) == WTF8_NOT_UTF8, "no text is pushed");
+            /* Each of them is not UTF-8 from its first byte on. */
+            size_t set = 77, pushed = 77;
+            must(wtf8_set_utf8(&string, text, front + no_texts[k].len, &set) == WTF8_NOT_UTF8, "no text is set");
+            must(wtf8_push_utf8(&string, text, front + no_texts[k].len, &pushed) == WTF8_NOT_UTF8, "no text is pushed");
+            must(set == front && pushed == front, "the first byte that is not UTF-8");
+            must(wtf8_set_utf8(&string, text, front + no_texts[k].len, NULL) == WTF8_NOT_UTF8, "no text is set");
         }
         must_have(&string, units, 2 * n, "a text after bytes that are none");
     }
@@ -166,7 +171,7 @@ static void marks(void) {
             wtf8_string string = WTF8_EMPTY, letters_only = WTF8_EMPTY;
             marked_units(units, MARKED + APPENDED, shift);
             must(wtf8_set_units(&string, units, MARKED) == WTF8_OK, "a string to mark");
-            must(wtf8_set_utf8(&letters_only, letters, MARKED) == WTF8_OK, "letters to mark");
+            must(wtf8_set_utf8(&letters_only, letters, MARKED, NULL) == WTF8_OK, "letters to mark");
             long requested = requests;
             must(wtf8_mark(&letters_only) == WTF8_OK && requests == requested, "letters need no marks");
             if (is_refused) refuse_after = 0;
@@ -204,7 +209,7 @@ static void marks(void) {
 static void must_take(wtf8_string *string, size_t n, const char *what) {
     long requested = requests;
     refuse_after = 0;
-    must(wtf8_push_utf8(string, letters, n) == WTF8_OK, what);
+    must(wtf8_push_utf8(string, letters, n, NULL) == WTF8_OK, what);
     refuse_after = -1;
     must(requests == requested, what);
 }
@@ -214,7 +219,7 @@ static void reserve(void) {
     for (size_t i = 0; i < sizeof sizes / sizeof sizes[0]; i++) {
         for (size_t len = 0; len < 4; len++) {
             wtf8_string string = WTF8_EMPTY;
-            must(len == 0 || wtf8_push_utf8(&string, letters, len) == WTF8_OK, "letters before reserve");
+            must(len == 0 || wtf8_push_utf8(&string, letters, len, NULL) == WTF8_OK, "letters before reserve");
             must(wtf8_reserve_bytes(&string, sizes[i]) == WTF8_OK, "reserve");
             for (size_t k = 0; k < 4; k++)
                 must(wtf8_reserve_bytes(&string, SIZE_MAX - k * (SIZE_MAX / 8)) == WTF8_NO_MEMORY, "reserve of too much");
@@ -227,12 +232,34 @@ static void reserve(void) {
     }
 }
 
+/* A string is replaced in the room that it has, with each request refused. */
+static void replaced_in_place(void) {
+    static const uint16_t units[] = {'a', 0xE9, 0x4E2D, 0xD83D, 0xDCA9, 0xDC00};
+    wtf8_string string = WTF8_EMPTY, other = WTF8_EMPTY;
+    must(wtf8_capacity(&string) == 0, "the capacity of a string without a buffer");
+    must(wtf8_reserve_bytes(&string, 100) == WTF8_OK && wtf8_capacity(&string) >= 100, "room to replace a string");
+    must(wtf8_set_utf8(&other, letters, 100, NULL) == WTF8_OK, "another string");
+    size_t capacity = wtf8_capacity(&string);
+    long requested = requests;
+    refuse_after = 0;
+    must(wtf8_set_units(&string, units, 6) == WTF8_OK, "units in place");
+    must(wtf8_unit_len(&string) == 6 && wtf8_byte_len(&string) == 1 + 2 + 3 + 4 + 3, "the units in place");
+    must(wtf8_set_utf8(&string, letters, 100, NULL) == WTF8_OK && wtf8_equal(&string, &other), "a text in place");
+    must(wtf8_set_units(&string, units, 6) == WTF8_OK && wtf8_set_string(&string, &other) == WTF8_OK, "a string in place");
+    must(wtf8_equal(&string, &other) && wtf8_capacity(&string) == capacity, "the string in place");
+    must(wtf8_set_utf8(&string, letters, capacity + 1, NULL) == WTF8_NO_MEMORY && wtf8_equal(&string, &other), "a longer text");
+    must(requests == requested + 1, "requests in place");
+    refuse_after = -1;
+    wtf8_free(&string);
+    wtf8_free(&other);
+}
+
 /* What shortens a string keeps its capacity. */
 static void kept_capacity(void) {
     for (int way = 0; way < 5; way++) {
         wtf8_string string = WTF8_EMPTY;
         size_t left = way < 3 ? 0 : 400;
-        must(wtf8_set_utf8(&string, letters, 1000) == WTF8_OK, "letters to shorten");
+        must(wtf8_set_utf8(&string, letters, 1000, NULL) == WTF8_OK, "letters to shorten");
         refuse_after = 0;
         if (way == 0) wtf8_clear(&string);
         else must((way % 2 ? wtf8_truncate_bytes : wtf8_truncate_units)(&string, left) == WTF8_OK, "a truncation");
@@ -273,6 +300,7 @@ int main(void) {
     indexes();
     marks();
     reserve();
+    replaced_in_place();
     kept_capacity();
     growth();
     texts_of_codes();

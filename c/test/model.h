@@ -71,6 +71,29 @@ static inline int is_boundary(const struct pair *p, size_t position) {
     return len == position;
 }
 
+/* The position in bytes of the code point that has the unit at `index`, or of the end. */
+static inline size_t position_of(const struct pair *p, size_t index) {
+    uint8_t bytes[4];
+    size_t len = 0, taken = 0, i = 0;
+    for (; i < p->n; i += taken) {
+        uint32_t c = point_at(p, i, &taken);
+        if (index < i + taken) break;
+        len += encode(c, bytes);
+    }
+    return len;
+}
+
+/* The number of units before the last boundary at or before a position. */
+static inline size_t units_before(const struct pair *p, size_t position) {
+    uint8_t bytes[4];
+    size_t len = 0, taken = 0, i = 0;
+    for (; i < p->n; i += taken) {
+        len += encode(point_at(p, i, &taken), bytes);
+        if (position < len) break;
+    }
+    return i;
+}
+
 static inline int is_utf8(const struct pair *p) {
     size_t taken = 0;
     for (size_t i = 0; i < p->n; i += taken) {

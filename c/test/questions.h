@@ -6,7 +6,7 @@
 
 #include <string.h>
 
-enum { QUESTIONS = 16 };
+enum { QUESTIONS = 19 };
 
 /* What the calls must answer of one string, and of it and another. */
 struct answers {
@@ -68,6 +68,11 @@ static inline int is_right(unsigned kind, size_t number, const struct pair *p, c
             code = wtf8_copy_lossy(s, bytes, sizeof bytes, &len);
             return code == WTF8_OK && len == a->byte_len && memcmp(bytes, a->lossy, len) == 0;
         case 14: return wtf8_set_string(own, s) == WTF8_OK && has_units(own, p->units, p->n);
+        case 15: return wtf8_capacity(s) >= a->byte_len;
+        case 16:
+            code = wtf8_position_at(s, index, &len);
+            return p->n < index ? code == WTF8_BAD_POSITION : code == WTF8_OK && len == position_of(p, index);
+        case 17: return wtf8_unit_before(s, position) == units_before(p, position);
         default:
             wtf8_clear(own);
             return wtf8_push_string(own, s) == WTF8_OK && has_units(own, p->units, p->n);

@@ -62,42 +62,56 @@ static int refuse_if_units_fit(struct pair *p, const uint16_t *units, size_t n) 
     return refuse_if_fits(p, after - before);
 }
 
-static void replace(struct pair *p, const uint16_t *units, size_t n) {
+/* Whether a string of `bytes` bytes fits the capacity, so that it replaces the old one without a request. Each is refused
+ * then, half of the time. */
+static int is_set_in_place(const struct pair *p, size_t bytes) {
+    if (p->capacity == 0 || p->capacity < bytes) return 0;
+    if (below(2)) refuse_after = 0;
+    return 1;
+}
+
+static void replace(struct pair *p, const uint16_t *units, size_t n, int is_in_place) {
     p->n = 0;
-    p->capacity = 0;
-    p->is_marked = 0;
+    if (!is_in_place) p->capacity = 0;
     append(p, units, n);
 }
 
 static void step(int kind, struct pair *p, struct pair *q) {
     uint16_t units[64], unit = 0xABCD;
     uint8_t text[128];
-    size_t n = below(33), len, more = 0;
+    size_t n = below(33), len, more = 0, valid = 77;
     wtf8_result code = WTF8_OK;
     int is_bad = below(8) == 0, needs_none = 0;
     long requested = requests, refused = refusals;
     for (size_t i = 0; i < n; i++) units[i] = a_unit();
     switch (kind) {
         case 0:
+            needs_none = is_set_in_place(p, 3 * n);
             code = wtf8_set_units(&p->string, n ? units : NULL, n);
-            if (code == WTF8_OK) replace(p, units, n);
+            if (code == WTF8_OK) replace(p, units, n, needs_none);
             break;
         case 1:
             len = a_text(text, units, &n);
+            needs_none = !is_bad && is_set_in_place(p, len);
             if (is_bad) text[len++] = 0xFF;
-            code = wtf8_set_utf8(&p->string, len ? text : NULL, len);
+            if (is_bad) more = len - 1;
+            code = wtf8_set_utf8(&p->string, len ? text : NULL, len, below(4) ? &valid : NULL);
+            must(valid == 77 || (is_bad && valid == more), "set_utf8, the first bad byte");
+            more = 0;
             must((code == WTF8_NOT_UTF8) == is_bad, "set_utf8");
-            if (code == WTF8_OK) replace(p, units, n);
+            if (code == WTF8_OK) replace(p, units, n, needs_none);
             break;
         case 2:
+            needs_none = p == q || is_set_in_place(p, byte_len(q));
             code = wtf8_set_string(&p->string, &q->string);
-            if (code == WTF8_OK && p != q) replace(p, q->units, q->n);
+            if (code == WTF8_OK && p != q) replace(p, q->units, q->n, needs_none);
             break;
         case 3: wtf8_clear(&p->string); p->n = 0; break;
         case 4:
             wtf8_free(&p->string);
             if (below(2)) wtf8_free(&p->string);
-            replace(p, units, 0);
+            replace(p, units, 0, 0);
+            p->is_marked = 0;
             break;
         case 5:
             more = below(50) ? below(300) : SIZE_MAX - below(9);
@@ -130,7 +144,8 @@ static void step(int kind, struct pair *p, struct pair *q) {
             len = a_text(text, units, &n);
             needs_none = !is_bad && refuse_if_units_fit(p, units, n);
             if (is_bad) text[len++] = 0x80;
-            code = wtf8_push_utf8(&p->string, len ? text : NULL, len);
+            code = wtf8_push_utf8(&p->string, len ? text : NULL, len, &valid);
+            must(valid == (is_bad ? len - 1 : 77), "push_utf8, the first bad byte");
             must((code == WTF8_NOT_UTF8) == is_bad, "push_utf8");
             if (code == WTF8_OK) append(p, units, n);
             break;
@@ -167,7 +182,7 @@ static void step(int kind, struct pair *p, struct pair *q) {
             size_t a = below((uint32_t)p->n + 2), b = an_index(p->n);
             code = wtf8_slice_units(&q->string, &p->string, a, b);
             must((code == WTF8_BAD_POSITION) == !(a <= b && b <= p->n), "slice_units");
-            if (code == WTF8_OK) replace(q, p->units + a, b - a);
+            if (code == WTF8_OK) replace(q, p->units + a, b - a, 0);
             break;
         }
         case 20: {
@@ -245,8 +260,8 @@ static void step(int kind, struct pair *p, struct pair *q) {
     must(code <= WTF8_NOT_UTF8, "code");
     must(code != WTF8_NO_MEMORY || refused < refusals || more > PTRDIFF_MAX, "MEMORY, but no request was refused");
     must(!needs_none || code == WTF8_OK, "a call that needs no memory is not done");
-    /* An append may ask for memory for marks, and does without it. */
-    int may_ask_for_marks = p->is_marked && kind >= 6 && kind <= 10;
+    /* What adds units may ask for memory for marks, and does without it. */
+    int may_ask_for_marks = p->is_marked && (kind <= 2 || (kind >= 6 && kind <= 10));
     must(!needs_none || may_ask_for_marks || requests == requested, "a call that needs no memory requests it");
     counts[kind][code]++;
 }

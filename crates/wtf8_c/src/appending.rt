@@ -1,6 +1,7 @@
 // Calls that append.
 ghost use Rattle.std.specs.Prelude.{◌≡◌, ◌++◌, ◌∷◌, [], ◌≤◌, ◌⊎◌, ◌↔◌, IsTrue};
 ghost use Rattle.std.specs.Str.{chars, IsUtf8};
+ghost use Rattle.std.specs.Str.Lossy.{utf8_valid_len};
 ghost use Rattle.wtf8.specs.Appending.{AppendsUnits, KeepsContents, HasRoomFor};
 ghost use Rattle.wtf8.specs.Unicode.{IsCodePoint, units, units_of};
 ghost use Rattle.wtf8_c.specs.Contents.{contents};
@@ -67,19 +68,41 @@ pub extern "C" fn wtf8_push_units(alloc: Global, string: &mut Wtf8String, units:
     code_of(pushed)
 }
 
-/// Appends a text, which must be UTF-8.
+/// Appends a text, which must be UTF-8. If it is not, the length of its longest front that is UTF-8 is written to
+/// `valid`.
 #[unsafe(no_mangle)]
-pub extern "C" fn wtf8_push_utf8(alloc: Global, string: &mut Wtf8String, text: &[u8]) -> i32
+pub extern "C" fn wtf8_push_utf8(
+    alloc: Global,
+    string: &mut Wtf8String,
+    text: &[u8],
+    valid: &mut usize,
+) -> i32
     ensures code { (result ≡ OK) ⊎ ((result ≡ NO_MEMORY) ⊎ (result ≡ NOT_UTF8)) }
     ensures not_utf8 { result ≡ NOT_UTF8 ↔ ¬ (IsUtf8 text.now) }
     ensures ok { result ≡ OK → AppendsUnits (contents string.old) (units (chars text.now)) (contents string.new) }
     ensures kept { ¬ (result ≡ OK) → KeepsContents (contents string.old) (contents string.new) }
     ensures room { IsTrue string.old.full → IsUtf8 text.now → HasRoomFor (contents string.old) (units (chars text.now)) → result ≡ OK }
+    ensures valid { result ≡ NOT_UTF8 → valid.new ≡ utf8_valid_len text.now }
+    ensures valid_kept { ¬ (result ≡ NOT_UTF8) → valid.new ≡ valid.old }
     ensures capacity { (contents string.old).capacity ≤ (contents string.new).capacity }
 {
-    let Ok(text) = str::from_utf8(text) else {
-        return NOT_UTF8;
-    };
+    match str::from_utf8(text) {
+        Ok(text) => push_text(alloc, string, text),
+        Err(error) => {
+            *valid = error.valid_up_to();
+            NOT_UTF8
+        }
+    }
+}
+
+/// Appends a text.
+fn push_text(alloc: Global, string: &mut Wtf8String, text: &str) -> i32
+    ensures code { (result ≡ OK) ⊎ (result ≡ NO_MEMORY) }
+    ensures ok { result ≡ OK → AppendsUnits (contents string.old) (units (chars text.now)) (contents string.new) }
+    ensures kept { result ≡ NO_MEMORY → KeepsContents (contents string.old) (contents string.new) }
+    ensures room { IsTrue string.old.full → HasRoomFor (contents string.old) (units (chars text.now)) → result ≡ OK }
+    ensures capacity { (contents string.old).capacity ≤ (contents string.new).capacity }
+{
     let Ok(mut buf) = string.open(alloc) else {
         return NO_MEMORY;
     };

@@ -1,8 +1,10 @@
 // Calls that make a string and let it go.
-ghost use Rattle.std.specs.Prelude.{◌≡◌, [], ◌+◌, ◌≤◌, ◌⊎◌, ◌↔◌, IsTrue, IsFalse, length};
+ghost use Rattle.std.specs.Prelude.{◌≡◌, [], ◌+◌, ◌*◌, ◌≤◌, ◌⊎◌, ◌↔◌, IsTrue, IsFalse, length};
 ghost use Rattle.std.specs.Str.{chars, IsUtf8};
+ghost use Rattle.std.specs.Str.Lossy.{utf8_valid_len};
 ghost use Rattle.wtf8.specs.Appending.{KeepsContents};
 ghost use Rattle.wtf8.specs.Unicode.{units};
+ghost use Rattle.wtf8.specs.View.{view_units};
 ghost use Rattle.wtf8_c.specs.Contents.{contents, no_string};
 
 use crate::codes::{NO_MEMORY, NOT_UTF8, OK, code_of};
@@ -11,6 +13,7 @@ use crate::opening::view;
 use std::alloc::Global;
 use std::str;
 use unit_text::IndexedBuf;
+use wtf8::Wtf8;
 
 /// Replaces the units of the string.
 #[unsafe(no_mangle)]
@@ -18,28 +21,45 @@ pub extern "C" fn wtf8_set_units(alloc: Global, string: &mut Wtf8String, units: 
     ensures code { (result ≡ OK) ⊎ (result ≡ NO_MEMORY) }
     ensures ok { result ≡ OK → (contents string.new).units ≡ units.now }
     ensures kept { result ≡ NO_MEMORY → contents string.new ≡ contents string.old }
+    ensures room { IsTrue string.old.full → 3 * length units.now ≤ (contents string.old).capacity → result ≡ OK }
 {
-    match IndexedBuf::from_units(alloc, units) {
-        Ok(made) => replace(alloc, string, made),
-        Err(_) => NO_MEMORY,
+    match string.take_if_fits(alloc, 3 * units.len()) {
+        Some(mut buf) => {
+            buf.clear();
+            let pushed = buf.push_units(units);
+            string.put(buf);
+            code_of(pushed)
+        }
+        None => match IndexedBuf::from_units(alloc, units) {
+            Ok(made) => replace(alloc, string, made),
+            Err(_) => NO_MEMORY,
+        },
     }
 }
 
-/// Replaces the string by a text, which must be UTF-8.
+/// Replaces the string by a text, which must be UTF-8. If it is not, the length of its longest front that is UTF-8 is
+/// written to `valid`.
 #[unsafe(no_mangle)]
-pub extern "C" fn wtf8_set_utf8(alloc: Global, string: &mut Wtf8String, text: &[u8]) -> i32
+pub extern "C" fn wtf8_set_utf8(
+    alloc: Global,
+    string: &mut Wtf8String,
+    text: &[u8],
+    valid: &mut usize,
+) -> i32
     ensures code { (result ≡ OK) ⊎ ((result ≡ NO_MEMORY) ⊎ (result ≡ NOT_UTF8)) }
     ensures not_utf8 { result ≡ NOT_UTF8 ↔ ¬ (IsUtf8 text.now) }
     ensures ok { result ≡ OK → (contents string.new).units ≡ units (chars text.now) }
     ensures kept { ¬ (result ≡ OK) → contents string.new ≡ contents string.old }
+    ensures room { IsTrue string.old.full → IsUtf8 text.now → length text.now ≤ (contents string.old).capacity → result ≡ OK }
+    ensures valid { result ≡ NOT_UTF8 → valid.new ≡ utf8_valid_len text.now }
+    ensures valid_kept { ¬ (result ≡ NOT_UTF8) → valid.new ≡ valid.old }
 {
-    let Ok(text) = str::from_utf8(text) else {
-        return NOT_UTF8;
-    };
-    let mut made = IndexedBuf::new(alloc);
-    match made.push_str(text) {
-        Ok(()) => replace(alloc, string, made),
-        Err(_) => NO_MEMORY,
+    match str::from_utf8(text) {
+        Ok(text) => set_view(alloc, string, Wtf8::from_str(text)),
+        Err(error) => {
+            *valid = error.valid_up_to();
+            NOT_UTF8
+        }
     }
 }
 
@@ -53,15 +73,36 @@ pub extern "C" fn wtf8_set_string(
     ensures code { (result ≡ OK) ⊎ (result ≡ NO_MEMORY) }
     ensures ok { result ≡ OK → (contents string.new).units ≡ (contents other.old).units }
     ensures kept { result ≡ NO_MEMORY → contents string.new ≡ contents string.old }
+    ensures room { IsTrue string.old.full → length (contents other.old).bytes ≤ (contents string.old).capacity → result ≡ OK }
     ensures other { contents other.new ≡ contents other.old }
 {
     let held = other.take(alloc);
-    let mut made = IndexedBuf::new(alloc);
-    let copied = made.push_wtf8(view(&held));
+    let code = set_view(alloc, string, view(&held));
     other.put_back(held);
-    match copied {
-        Ok(()) => replace(alloc, string, made),
-        Err(_) => NO_MEMORY,
+    code
+}
+
+/// Replaces the string by a copy of a view, in the buffer's capacity if it fits.
+pub(crate) fn set_view(alloc: Global, string: &mut Wtf8String, view: Wtf8<'_>) -> i32
+    ensures code { (result ≡ OK) ⊎ (result ≡ NO_MEMORY) }
+    ensures ok { result ≡ OK → (contents string.new).units ≡ view_units view.entry }
+    ensures kept { result ≡ NO_MEMORY → contents string.new ≡ contents string.old }
+    ensures room { IsTrue string.old.full → length view.entry.bytes.now ≤ (contents string.old).capacity → result ≡ OK }
+{
+    match string.take_if_fits(alloc, view.len()) {
+        Some(mut buf) => {
+            buf.clear();
+            let pushed = buf.push_wtf8(view);
+            string.put(buf);
+            code_of(pushed)
+        }
+        None => {
+            let mut made = IndexedBuf::new(alloc);
+            match made.push_wtf8(view) {
+                Ok(()) => replace(alloc, string, made),
+                Err(_) => NO_MEMORY,
+            }
+        }
     }
 }
 
@@ -72,9 +113,9 @@ pub extern "C" fn wtf8_clear(alloc: Global, string: &mut Wtf8String)
     ensures capacity { (contents string.new).capacity ≡ (contents string.old).capacity }
 {
     match string.take(alloc) {
-        Some(mut buf) => {
-            buf.clear();
-            string.put(buf);
+        Some(mut emptied) => {
+            emptied.clear();
+            string.put(emptied);
         }
         None => (),
     }

@@ -1,5 +1,5 @@
 // The buffer of a string, taken out for a call and put back.
-ghost use Rattle.std.specs.Prelude.{◌≡◌, [], ◌≤◌, IsTrue, IsFalse, IsOk, IfOk, OnOk, OnErr, length};
+ghost use Rattle.std.specs.Prelude.{◌≡◌, [], ◌≤◌, IsTrue, IsFalse, IsOk, IfOk, OnOk, OnErr, IfSome, IsSome, IsNone, length};
 ghost use Rattle.wtf8.specs.View.{view_points, view_units};
 ghost use Rattle.wtf8_c.specs.Contents.{contents, buffer_contents};
 
@@ -20,6 +20,29 @@ impl Wtf8String {
         } else {
             None
         }
+    }
+
+    /// Takes the buffer out if there is one, with a capacity of at least `n` bytes.
+    pub(crate) fn take_if_fits(
+        &mut self,
+        alloc: Global,
+        n: usize,
+    ) -> Option<Box<IndexedBuf<Global>, Global>>
+        ensures contents { IfSome result (λ b. b.value ≡ contents self.old) }
+        ensures fits { IfSome result (λ b. n ≤ b.value.capacity) }
+        ensures empty { IsSome result → IsFalse self.new.full }
+        ensures kept { IsNone result → contents self.new ≡ contents self.old }
+        ensures room { IsTrue self.old.full → n ≤ (contents self.old).capacity → IsSome result }
+    {
+        if !self.is_full() {
+            return None;
+        }
+        let buf = self.take_parts(alloc).into_box();
+        if buf.capacity() < n {
+            self.put(buf);
+            return None;
+        }
+        Some(buf)
     }
 
     /// Puts back what `take` returned.
