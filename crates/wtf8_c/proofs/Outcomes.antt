@@ -1,15 +1,14 @@
--- What follows from the code that a call returns, and from the buffer or the vector that it worked on.
-use Rattle.std.proofs.Common.{◌≡◌, ℕ, ◌<◌, ◌≤◌, ◌+◌, ◌-◌, ◌⊎◌, ◌↔◌, inl, inr, ℤ, pos, negsuc, Bool, false, nat_eq, refl, sym, ap, ◌∙◌}
+-- What follows from the code that a call returns, and from the buffer that it worked on.
+use Rattle.std.proofs.Common.{◌≡◌, ℕ, ◌<◌, ◌≤◌, ◌⊎◌, ◌↔◌, inl, inr, ℤ, pos, negsuc, Bool, false, nat_eq, refl, sym, ap, ◌∙◌}
 use Rattle.std.proofs.Common.{subst}
-use Rattle.std.proofs.Common.{List, [], ◌++◌, length, take, drop, length-drop, length-take-le, Result, Ok, Err, to_z, of_z, w32, arith}
-use Rattle.std.specs.Prelude.{IsOk, IsErr, OnOk, OnErr, IsTrue, is_err}
+use Rattle.std.proofs.Common.{List, ◌++◌, Result, Ok, Err, to_z, of_z, w32, arith}
+use Rattle.std.specs.Prelude.{IsOk, IsErr, OnOk, OnErr, IsTrue}
 use Rattle.std.proofs.lemmas.Bool.Decides.{nat_tests}
 use borrow.Author.Rules.{sfits_of}
 use lib.Signed.{mag}
 use mir.Facts.{to_z-of_z}
 use Rattle.wtf8.specs.Appending.{KeepsContents, HasRoomFor}
 use Rattle.wtf8.specs.UnitString.{UnitString}
-use Rattle.wtf8_c.specs.Front.{with_front}
 
 -- a code is none of the others
 pub other_code : {A : Type 0} (m n : ℕ) → nat_eq m n ≡ false → pos m ≡ pos n → A
@@ -119,27 +118,6 @@ kept_same same = record { units = ap (λ x. x.units) same; bytes = ap (λ x. x.b
 pub capacity_same : {old s : UnitString} → s ≡ old → old.capacity ≤ s.capacity
 capacity_same same = omega (arith, ap (λ x. x.capacity) same)
 
--- the part from `b` to before `e` of a list, and a slice of `n` items for it
+-- no number is both below another and not below it
 pub outside : {A : Type 0} {a b : ℕ} → a < b → b ≤ a → A
 outside l m = absurd (omega arith)
-
-pub part_length : (u : List ℕ) (b e : ℕ) → e ≤ length u → length (drop b (take e u)) ≡ e - b
-part_length u b e m = length-drop b (take e u) ∙ ap (λ k. k - b) (length-take-le e u m)
-
-pub rest_is : {b e : ℕ} → b ≤ e → b + (e - b) ≡ e
-rest_is l = omega arith
-
-pub too_short : (b e n : ℕ) → n < e - b → b + n < e
-too_short b e n l = omega arith
-
-pub long_enough : {A : Type 0} (b e n : ℕ) → e - b ≤ n → b + n < e → A
-long_enough b e n l m = absurd (omega arith)
-
--- the items `d` of a vector that was empty, `old`, before a call appended `s`
-pub copied : {T E : Type 0} {d items old s t : List ℕ} (r : Result T E) → d ≡ items → OnOk r (items ≡ old ++ s) → old ≡ []
-    → false ≡ is_err r → s ≡ t → d ≡ t
-copied {s = s} (Ok x) de ok none e part = de ∙ ok ∙ ap (λ x. x ++ s) none ∙ part
-copied (Err x) de ok none e part = cc
-
-pub over_front : {n s : List ℕ} (k : ℕ) (out : List ℕ) → n ≡ s → length s ≡ k → n ++ drop k out ≡ with_front s out
-over_front {s = s} k out is l = ap (λ x. x ++ drop k out) is ∙ ap (λ m. s ++ drop m out) (sym l)

@@ -7,7 +7,7 @@ use crate::handle::Wtf8String;
 use crate::parts::Parts;
 use std::alloc::{AllocError, Global};
 use unit_text::IndexedBuf;
-use wtf8::{UnitSlice, Wtf8};
+use wtf8::Wtf8;
 
 impl Wtf8String {
     /// Takes the buffer out, if there is one.

@@ -1,4 +1,4 @@
-use Rattle.std.proofs.Common.{rules, refl, inl, inr, ap, ◌∙◌, ◌≡◌, length, drop, take, arith}
+use Rattle.std.proofs.Common.{rules, refl, inl, inr, ap, ◌∙◌, length, drop, take, arith}
 use Rattle.wtf8_c.proofs.Outcomes.{other_code, ok_or_no_memory_as, no_greater, if_code, unless_ok, or_third}
 use Rattle.wtf8_c.proofs.cutting.wtf8_slice_units.Goals as goal
 

@@ -1,4 +1,4 @@
-use Rattle.std.proofs.Common.{rules, ◌≡◌, ℕ, ◌*◌, ◌≤◌, List, [], ◌++◌, length, sym, ap, ◌∙◌, subst, refl, arith, IsOk, All, to_z, of_z, w32, pos}
+use Rattle.std.proofs.Common.{◌≡◌, ℕ, ◌*◌, ◌≤◌, List, [], ◌++◌, length, sym, ap, ◌∙◌, subst, refl, arith, IsOk, All, to_z, of_z, w32, pos}
 use Rattle.wtf8.specs.Appending.{HasRoomFor}
 use Rattle.wtf8.specs.Form.{IsForm}
 use Rattle.wtf8.specs.Unicode.{IsUnit}
