@@ -1,176 +1,276 @@
-/* What stands between a C program and the proved calls: it takes the build for the processor's widest vectors when the
- * library is loaded, gives an array of length 0 an address, and passes no string twice to one call. */
+/* What stands between a C program and the proved calls. It takes the build for the processor's widest vectors, hands a
+ * string that a call only asks as a copy of its struct, so that the program's is not written, gives an array of length 0
+ * an address, and passes no string twice to one call. */
 #include "wtf8.h"
 
-/* The version of x86-64 that the processor has; tests name one by WTF8_LEVEL. */
-static int level(void) {
-#ifdef WTF8_LEVEL
-    return WTF8_LEVEL;
-#else
-    __builtin_cpu_init();
-    return __builtin_cpu_supports("x86-64-v3") ? 3 : __builtin_cpu_supports("x86-64-v2") ? 2 : 1;
-#endif
+#include <cpuid.h>
+
+enum { V1, V2, V3 };
+
+/* The build that calls take. It is V1 until the constructor below has run, as in constructors of the program: a string
+ * may be used by any of the builds in turn. */
+static int build = V1;
+
+#ifndef WTF8_LEVEL
+
+/* What v2 and v3 need of the registers that cpuid writes. */
+enum {
+    LEAF_1_ECX_V2 = bit_SSE3 | bit_SSSE3 | bit_CMPXCHG16B | bit_SSE4_1 | bit_SSE4_2 | bit_POPCNT,
+    LEAF_1_ECX_V3 = bit_FMA | bit_MOVBE | bit_OSXSAVE | bit_AVX | bit_F16C,
+    LEAF_7_EBX_V3 = bit_BMI | bit_AVX2 | bit_BMI2,
+    LEAF_80000001_ECX_V2 = bit_LAHF_LM,
+    LEAF_80000001_ECX_V3 = bit_ABM
+};
+
+static int has_all(unsigned answer, unsigned bits) {
+    return (answer & bits) == bits;
 }
 
-/* Declares a proved call's three builds, and `proved_NAME`, which is one of them. */
-#define PROVED(result, name, ...)                                                                  \
+/* Whether the operating system saves the registers XMM and YMM. A processor with bit_OSXSAVE can be asked. */
+static int saves_vectors(void) {
+    unsigned low, high;
+    __asm__("xgetbv" : "=a"(low), "=d"(high) : "c"(0));
+    return has_all(low, 6);
+}
+
+/* The build for the processor. */
+static int widest_build(void) {
+    unsigned eax, ebx, ecx, edx, leaf_1, leaf_80000001;
+    if (!__get_cpuid(1, &eax, &ebx, &leaf_1, &edx) || !has_all(leaf_1, LEAF_1_ECX_V2)) return V1;
+    if (!__get_cpuid(0x80000001, &eax, &ebx, &leaf_80000001, &edx) || !has_all(leaf_80000001, LEAF_80000001_ECX_V2)) return V1;
+    if (!has_all(leaf_1, LEAF_1_ECX_V3) || !has_all(leaf_80000001, LEAF_80000001_ECX_V3) || !saves_vectors()) return V2;
+    return __get_cpuid_count(7, 0, &eax, &ebx, &ecx, &edx) && has_all(ebx, LEAF_7_EBX_V3) ? V3 : V2;
+}
+
+#else
+
+/* The build that a test names. */
+static int widest_build(void) {
+    return WTF8_LEVEL - 1;
+}
+
+#endif
+
+__attribute__((constructor)) static void choose_build(void) {
+    __atomic_store_n(&build, widest_build(), __ATOMIC_RELAXED);
+}
+
+/* Declares the three builds of a proved call, and a table of them. */
+#define DECLARE(result, name, ...)                                                                 \
     result wtf8_##name##_v1(__VA_ARGS__);                                                          \
     result wtf8_##name##_v2(__VA_ARGS__);                                                          \
     result wtf8_##name##_v3(__VA_ARGS__);                                                          \
-    typedef result kind_##name(__VA_ARGS__);                                                       \
-    static kind_##name *pick_##name(void) {                                                        \
-        int v = level();                                                                           \
-        return v == 3 ? wtf8_##name##_v3 : v == 2 ? wtf8_##name##_v2 : wtf8_##name##_v1;            \
-    }                                                                                              \
-    static result proved_##name(__VA_ARGS__) __attribute__((ifunc("pick_" #name)));
+    static result (*const builds_##name[])(__VA_ARGS__) = {wtf8_##name##_v1, wtf8_##name##_v2, wtf8_##name##_v3};
 
-PROVED(int32_t, set_units, wtf8_string *, const uint16_t *, size_t)
-PROVED(int32_t, set_utf8, wtf8_string *, const uint8_t *, size_t)
-PROVED(int32_t, set_string, wtf8_string *, wtf8_string *)
-PROVED(void, clear, wtf8_string *)
-PROVED(void, free, wtf8_string *)
-PROVED(int32_t, reserve, wtf8_string *, size_t)
-PROVED(int32_t, push_unit, wtf8_string *, uint16_t)
-PROVED(int32_t, push_code_point, wtf8_string *, uint32_t)
-PROVED(int32_t, push_units, wtf8_string *, const uint16_t *, size_t)
-PROVED(int32_t, push_utf8, wtf8_string *, const uint8_t *, size_t)
-PROVED(int32_t, push_string, wtf8_string *, wtf8_string *)
-PROVED(size_t, unit_len, wtf8_string *)
-PROVED(size_t, byte_len, wtf8_string *)
-PROVED(int32_t, unit_at, wtf8_string *, size_t, uint16_t *)
-PROVED(bool, is_boundary, wtf8_string *, size_t)
-PROVED(bool, is_utf8, wtf8_string *)
-PROVED(bool, equal, wtf8_string *, wtf8_string *)
-PROVED(int32_t, compare_units, wtf8_string *, wtf8_string *)
-PROVED(int32_t, compare_code_points, wtf8_string *, wtf8_string *)
-PROVED(uint64_t, hash, wtf8_string *)
-PROVED(int32_t, truncate, wtf8_string *, size_t)
-PROVED(int32_t, truncate_units, wtf8_string *, size_t)
-PROVED(int32_t, slice_units, wtf8_string *, size_t, size_t, wtf8_string *)
-PROVED(int32_t, copy_units, wtf8_string *, uint16_t *, size_t, size_t *)
-PROVED(int32_t, copy_slice, wtf8_string *, size_t, size_t, uint16_t *, size_t, size_t *)
-PROVED(int32_t, copy_utf8, wtf8_string *, uint8_t *, size_t, size_t *)
-PROVED(int32_t, copy_lossy, wtf8_string *, uint8_t *, size_t, size_t *)
+/* The proved call of the build that is taken. */
+#define PROVED(name) builds_##name[__atomic_load_n(&build, __ATOMIC_RELAXED)]
+
+DECLARE(wtf8_result, set_units, wtf8_string *, const uint16_t *, size_t)
+DECLARE(wtf8_result, set_utf8, wtf8_string *, const uint8_t *, size_t, size_t *)
+DECLARE(wtf8_result, set_string, wtf8_string *, wtf8_string *)
+DECLARE(void, clear, wtf8_string *)
+DECLARE(void, free, wtf8_string *)
+DECLARE(wtf8_result, reserve_bytes, wtf8_string *, size_t)
+DECLARE(wtf8_result, mark, wtf8_string *)
+DECLARE(wtf8_result, push_unit, wtf8_string *, uint16_t)
+DECLARE(wtf8_result, push_code_point, wtf8_string *, uint32_t)
+DECLARE(wtf8_result, push_units, wtf8_string *, const uint16_t *, size_t)
+DECLARE(wtf8_result, push_utf8, wtf8_string *, const uint8_t *, size_t, size_t *)
+DECLARE(wtf8_result, push_string, wtf8_string *, wtf8_string *)
+DECLARE(size_t, unit_len, wtf8_string *)
+DECLARE(size_t, byte_len, wtf8_string *)
+DECLARE(size_t, capacity, wtf8_string *)
+DECLARE(wtf8_result, position_at, wtf8_string *, size_t, size_t *)
+DECLARE(size_t, unit_before, wtf8_string *, size_t)
+DECLARE(wtf8_result, unit_at, wtf8_string *, size_t, uint16_t *)
+DECLARE(bool, is_boundary, wtf8_string *, size_t)
+DECLARE(bool, is_utf8, wtf8_string *)
+DECLARE(bool, equal, wtf8_string *, wtf8_string *)
+DECLARE(int32_t, compare_units, wtf8_string *, wtf8_string *)
+DECLARE(int32_t, compare_code_points, wtf8_string *, wtf8_string *)
+DECLARE(uint64_t, hash, wtf8_string *)
+DECLARE(wtf8_result, truncate_bytes, wtf8_string *, size_t)
+DECLARE(wtf8_result, truncate_units, wtf8_string *, size_t)
+DECLARE(wtf8_result, slice_units, wtf8_string *, wtf8_string *, size_t, size_t)
+DECLARE(wtf8_result, copy_units, wtf8_string *, uint16_t *, size_t, size_t *)
+DECLARE(wtf8_result, copy_slice, wtf8_string *, size_t, size_t, uint16_t *, size_t, size_t *)
+DECLARE(wtf8_result, copy_utf8, wtf8_string *, uint8_t *, size_t, size_t *)
+DECLARE(wtf8_result, copy_lossy, wtf8_string *, uint8_t *, size_t, size_t *)
 
 /* What an array of length 0 points to. Nothing is read or written there. */
 static uint16_t nothing[1];
 
-int32_t wtf8_set_units(wtf8_string *string, const uint16_t *units, size_t n) {
-    return proved_set_units(string, n ? units : nothing, n);
+wtf8_result wtf8_set_units(wtf8_string *string, const uint16_t *units, size_t n) {
+    return PROVED(set_units)(string, n ? units : nothing, n);
 }
 
-int32_t wtf8_set_utf8(wtf8_string *string, const uint8_t *text, size_t n) {
-    return proved_set_utf8(string, n ? text : (const uint8_t *)nothing, n);
+wtf8_result wtf8_set_utf8(wtf8_string *string, const uint8_t *text, size_t n, size_t *valid) {
+    size_t unused;
+    return PROVED(set_utf8)(string, n ? text : (const uint8_t *)nothing, n, valid ? valid : &unused);
 }
 
-int32_t wtf8_set_string(wtf8_string *string, wtf8_string *other) {
-    return string == other ? WTF8_DONE : proved_set_string(string, other);
+wtf8_result wtf8_set_string(wtf8_string *string, const wtf8_string *other) {
+    if (string == other) return WTF8_OK;
+    wtf8_string copy = *other;
+    return PROVED(set_string)(string, &copy);
 }
 
 void wtf8_clear(wtf8_string *string) {
-    proved_clear(string);
+    PROVED(clear)(string);
 }
 
 void wtf8_free(wtf8_string *string) {
-    proved_free(string);
+    PROVED(free)(string);
 }
 
-int32_t wtf8_reserve(wtf8_string *string, size_t additional) {
-    return proved_reserve(string, additional);
+wtf8_result wtf8_reserve_bytes(wtf8_string *string, size_t additional) {
+    return PROVED(reserve_bytes)(string, additional);
 }
 
-int32_t wtf8_push_unit(wtf8_string *string, uint16_t unit) {
-    return proved_push_unit(string, unit);
+wtf8_result wtf8_mark(wtf8_string *string) {
+    return PROVED(mark)(string);
 }
 
-int32_t wtf8_push_code_point(wtf8_string *string, uint32_t value) {
-    return proved_push_code_point(string, value);
+wtf8_result wtf8_push_unit(wtf8_string *string, uint16_t unit) {
+    return PROVED(push_unit)(string, unit);
 }
 
-int32_t wtf8_push_units(wtf8_string *string, const uint16_t *units, size_t n) {
-    return proved_push_units(string, n ? units : nothing, n);
+wtf8_result wtf8_push_code_point(wtf8_string *string, uint32_t value) {
+    return PROVED(push_code_point)(string, value);
 }
 
-int32_t wtf8_push_utf8(wtf8_string *string, const uint8_t *text, size_t n) {
-    return proved_push_utf8(string, n ? text : (const uint8_t *)nothing, n);
+wtf8_result wtf8_push_units(wtf8_string *string, const uint16_t *units, size_t n) {
+    return PROVED(push_units)(string, n ? units : nothing, n);
 }
 
-int32_t wtf8_push_string(wtf8_string *string, wtf8_string *other) {
-    if (string != other) return proved_push_string(string, other);
-    wtf8_string copy = WTF8_EMPTY;
-    int32_t code = proved_set_string(&copy, other);
-    if (code == WTF8_DONE) code = proved_push_string(string, &copy);
-    proved_free(&copy);
+wtf8_result wtf8_push_utf8(wtf8_string *string, const uint8_t *text, size_t n, size_t *valid) {
+    size_t unused;
+    return PROVED(push_utf8)(string, n ? text : (const uint8_t *)nothing, n, valid ? valid : &unused);
+}
+
+wtf8_result wtf8_push_string(wtf8_string *string, const wtf8_string *other) {
+    wtf8_string copy = *other;
+    if (string != other) return PROVED(push_string)(string, &copy);
+    wtf8_string second = WTF8_EMPTY;
+    wtf8_result code = PROVED(set_string)(&second, &copy);
+    if (code == WTF8_OK) code = PROVED(push_string)(string, &second);
+    PROVED(free)(&second);
     return code;
 }
 
-size_t wtf8_unit_len(wtf8_string *string) {
-    return proved_unit_len(string);
+size_t wtf8_unit_len(const wtf8_string *string) {
+    wtf8_string copy = *string;
+    return PROVED(unit_len)(&copy);
 }
 
-size_t wtf8_byte_len(wtf8_string *string) {
-    return proved_byte_len(string);
+size_t wtf8_byte_len(const wtf8_string *string) {
+    wtf8_string copy = *string;
+    return PROVED(byte_len)(&copy);
 }
 
-int32_t wtf8_unit_at(wtf8_string *string, size_t index, uint16_t *unit) {
-    return proved_unit_at(string, index, unit);
+size_t wtf8_capacity(const wtf8_string *string) {
+    wtf8_string copy = *string;
+    return PROVED(capacity)(&copy);
 }
 
-bool wtf8_is_boundary(wtf8_string *string, size_t position) {
-    return proved_is_boundary(string, position);
+wtf8_result wtf8_position_at(const wtf8_string *string, size_t index, size_t *position) {
+    wtf8_string copy = *string;
+    return PROVED(position_at)(&copy, index, position);
 }
 
-bool wtf8_is_utf8(wtf8_string *string) {
-    return proved_is_utf8(string);
+size_t wtf8_unit_before(const wtf8_string *string, size_t position) {
+    wtf8_string copy = *string;
+    return PROVED(unit_before)(&copy, position);
 }
 
-bool wtf8_equal(wtf8_string *string, wtf8_string *other) {
-    return string == other || proved_equal(string, other);
+wtf8_result wtf8_unit_at(const wtf8_string *string, size_t index, uint16_t *unit) {
+    wtf8_string copy = *string;
+    return PROVED(unit_at)(&copy, index, unit);
 }
 
-int32_t wtf8_compare_units(wtf8_string *string, wtf8_string *other) {
-    return string == other ? 0 : proved_compare_units(string, other);
+bool wtf8_is_boundary(const wtf8_string *string, size_t position) {
+    wtf8_string copy = *string;
+    return PROVED(is_boundary)(&copy, position);
 }
 
-int32_t wtf8_compare_code_points(wtf8_string *string, wtf8_string *other) {
-    return string == other ? 0 : proved_compare_code_points(string, other);
+bool wtf8_is_utf8(const wtf8_string *string) {
+    wtf8_string copy = *string;
+    return PROVED(is_utf8)(&copy);
 }
 
-uint64_t wtf8_hash(wtf8_string *string) {
-    return proved_hash(string);
+bool wtf8_equal(const wtf8_string *string, const wtf8_string *other) {
+    wtf8_string copy = *string, others = *other;
+    return string == other || PROVED(equal)(&copy, &others);
 }
 
-int32_t wtf8_truncate(wtf8_string *string, size_t position) {
-    return proved_truncate(string, position);
+int32_t wtf8_compare_units(const wtf8_string *string, const wtf8_string *other) {
+    wtf8_string copy = *string, others = *other;
+    return string == other ? 0 : PROVED(compare_units)(&copy, &others);
 }
 
-int32_t wtf8_truncate_units(wtf8_string *string, size_t n) {
-    return proved_truncate_units(string, n);
+int32_t wtf8_compare_code_points(const wtf8_string *string, const wtf8_string *other) {
+    wtf8_string copy = *string, others = *other;
+    return string == other ? 0 : PROVED(compare_code_points)(&copy, &others);
 }
 
-int32_t wtf8_slice_units(wtf8_string *string, size_t begin, size_t end, wtf8_string *into) {
-    if (string != into) return proved_slice_units(string, begin, end, into);
+uint64_t wtf8_hash(const wtf8_string *string) {
+    wtf8_string copy = *string;
+    return PROVED(hash)(&copy);
+}
+
+wtf8_result wtf8_truncate_bytes(wtf8_string *string, size_t position) {
+    return PROVED(truncate_bytes)(string, position);
+}
+
+wtf8_result wtf8_truncate_units(wtf8_string *string, size_t n) {
+    return PROVED(truncate_units)(string, n);
+}
+
+wtf8_result wtf8_slice_units(wtf8_string *into, const wtf8_string *string, size_t begin, size_t end) {
+    wtf8_string copy = *string;
+    if (string != into) return PROVED(slice_units)(into, &copy, begin, end);
     wtf8_string part = WTF8_EMPTY;
-    int32_t code = proved_slice_units(string, begin, end, &part);
-    if (code == WTF8_DONE) {
-        proved_free(into);
+    wtf8_result code = PROVED(slice_units)(&part, &copy, begin, end);
+    if (code == WTF8_OK) {
+        PROVED(free)(into);
         *into = part;
     }
     return code;
 }
 
-int32_t wtf8_copy_units(wtf8_string *string, uint16_t *out, size_t size, size_t *len) {
-    return proved_copy_units(string, size ? out : nothing, size, len);
+wtf8_result wtf8_copy_units(const wtf8_string *string, uint16_t *out, size_t size, size_t *len) {
+    wtf8_string copy = *string;
+    return PROVED(copy_units)(&copy, size ? out : nothing, size, len);
 }
 
-int32_t wtf8_copy_slice(wtf8_string *string, size_t begin, size_t end, uint16_t *out, size_t size, size_t *len) {
-    return proved_copy_slice(string, begin, end, size ? out : nothing, size, len);
+wtf8_result wtf8_copy_slice(const wtf8_string *string, size_t begin, size_t end, uint16_t *out, size_t size, size_t *len) {
+    wtf8_string copy = *string;
+    return PROVED(copy_slice)(&copy, begin, end, size ? out : nothing, size, len);
 }
 
-int32_t wtf8_copy_utf8(wtf8_string *string, uint8_t *out, size_t size, size_t *len) {
-    return proved_copy_utf8(string, size ? out : (uint8_t *)nothing, size, len);
+wtf8_result wtf8_copy_utf8(const wtf8_string *string, uint8_t *out, size_t size, size_t *len) {
+    wtf8_string copy = *string;
+    return PROVED(copy_utf8)(&copy, size ? out : (uint8_t *)nothing, size, len);
 }
 
-int32_t wtf8_copy_lossy(wtf8_string *string, uint8_t *out, size_t size, size_t *len) {
-    return proved_copy_lossy(string, size ? out : (uint8_t *)nothing, size, len);
+wtf8_result wtf8_copy_lossy(const wtf8_string *string, uint8_t *out, size_t size, size_t *len) {
+    wtf8_string copy = *string;
+    return PROVED(copy_lossy)(&copy, size ? out : (uint8_t *)nothing, size, len);
+}
+
+const char *wtf8_result_text(wtf8_result code) {
+    switch (code) {
+        case WTF8_OK: return "the call did what it says";
+        case WTF8_NO_MEMORY: return "memory was refused";
+        case WTF8_BAD_POSITION: return "an index or a position is after the end, or not a boundary";
+        case WTF8_ARRAY_TOO_SHORT: return "the array is too short";
+        case WTF8_HAS_SURROGATE: return "the string holds a surrogate";
+        case WTF8_BAD_CODE_POINT: return "the number is not a code point";
+        case WTF8_NOT_UTF8: return "the bytes are not UTF-8";
+    }
+    return "not a code of this library";
+}
+
+const char *wtf8_version(void) {
+    return WTF8_VERSION;
 }

@@ -6,18 +6,28 @@
  * crates/wtf8_c/README.md, which also says what is trusted.
  *
  * What the caller owes:
- * - Each pointer is valid and aligned. It may be NULL only where the text says so: an array of length 0 may be NULL.
+ * - Each pointer is valid and aligned. It may be NULL only where the text says so: an array of length 0 may be NULL, and
+ *   `valid`.
  * - Arrays do not overlap each other, nor a string, nor a number that the call writes.
  * - A string is made by WTF8_EMPTY or by setting all its bytes to 0, and freed by wtf8_free. Its fields are not read or
- *   written. An assignment or memcpy makes no second string: wtf8_set_string does. They, or realloc of an array of
- *   strings, may move one, if the old place is not used again.
- * - One call at a time uses a string, calls that only ask included. Other threads may use other strings meanwhile. A
- *   string may go to another thread if a lock, a thread's start or a join orders that.
+ *   written. An assignment, memcpy or realloc moves it: of the old place only a new WTF8_EMPTY may be made. A second
+ *   string is made by wtf8_set_string.
+ * - While a call changes a string, no other call uses it. Calls that take it as const only read it: any number of them
+ *   may use one string at once, in any threads. Changes are ordered before and after them by a lock, a thread's start or
+ *   a join.
  * - No call comes from a signal handler, or from the forked child of a process with threads.
  * - malloc, realloc and free of the program come from one allocator, which aligns a block to each power of two up to 16
  *   that divides its size.
  *
  * One string may be passed twice to one call, as to append it to itself.
+ *
+ * In each call the string that is changed, or else the one that is asked, comes first. If several codes apply, a call
+ * returns the first of them in this order: BAD_CODE_POINT, NOT_UTF8, BAD_POSITION, HAS_SURROGATE, ARRAY_TOO_SHORT,
+ * NO_MEMORY.
+ *
+ * Costs: a call takes time linear in the units or bytes that it is given or hands out, if its text says no other. An
+ * append to a string without room for it moves the string to a block of at least twice the capacity, so that n appends of
+ * a unit take time linear in n. A string takes two blocks, and none before its first change.
  */
 #ifndef WTF8_H
 #define WTF8_H
@@ -30,129 +40,182 @@
 extern "C" {
 #endif
 
-/* A string. It owns its memory; the caller owns the struct. */
+/* The version of this header. wtf8_version() is that of the library. */
+#define WTF8_VERSION "0.1.0"
+
+/* A compiler that knows the attribute warns of a call whose code is not used. */
+#ifdef __GNUC__
+#define WTF8_CODE __attribute__((warn_unused_result))
+#else
+#define WTF8_CODE
+#endif
+
+/* A string. It owns its memory; the caller owns the struct, whose size is part of the binary interface, as are the
+ * numbers of the codes: libwtf8.so.0 keeps them. */
 typedef struct {
     void *at;
     bool full;
 } wtf8_string;
 
 /* The empty string: `wtf8_string name = WTF8_EMPTY;`. */
-#define WTF8_EMPTY {0, 0}
+#ifdef __cplusplus
+#define WTF8_EMPTY {}
+#else
+#define WTF8_EMPTY {0}
+#endif
 
-/* The codes that calls return. Any code but WTF8_DONE says that no string and no array was changed. */
-enum {
-    WTF8_DONE = 0,           /* the call did what it says */
-    WTF8_MEMORY = 1,         /* memory was refused */
-    WTF8_POSITION = 2,       /* an index or a position is after the end, or not a boundary */
-    WTF8_TOO_SHORT = 3,      /* the array is too short; *len says how long it must be */
-    WTF8_SURROGATE = 4,      /* the string holds a surrogate, so it is not a text in UTF-8 */
-    WTF8_NO_CODE_POINT = 5,  /* the number is greater than 10FFFF */
-    WTF8_NO_UTF8 = 6         /* the bytes are not UTF-8 */
-};
+/* What calls return. Any code but WTF8_OK says that no string and no array was changed. */
+typedef enum wtf8_result {
+    WTF8_OK = 0,              /* the call did what it says */
+    WTF8_NO_MEMORY = 1,       /* memory was refused */
+    WTF8_BAD_POSITION = 2,    /* an index or a position is after the end, or not a boundary */
+    WTF8_ARRAY_TOO_SHORT = 3, /* the array is too short; *len says how long it must be */
+    WTF8_HAS_SURROGATE = 4,   /* the string holds a surrogate, so it is not a text in UTF-8 */
+    WTF8_BAD_CODE_POINT = 5,  /* the number is greater than 10FFFF */
+    WTF8_NOT_UTF8 = 6         /* the bytes are not UTF-8 */
+} wtf8_result;
 
-/* ---- Making a string ---- */
+/* The code in words, for a message. The text is static. */
+const char *wtf8_result_text(wtf8_result code);
 
-/* Replaces the string by `n` units. Codes: DONE, MEMORY. */
-int32_t wtf8_set_units(wtf8_string *string, const uint16_t *units, size_t n);
+/* The version of the library, as WTF8_VERSION. */
+const char *wtf8_version(void);
 
-/* Replaces the string by a text of `n` bytes. Codes: DONE, MEMORY, NO_UTF8. */
-int32_t wtf8_set_utf8(wtf8_string *string, const uint8_t *text, size_t n);
+/* ---- Making a string ----
+ *
+ * A wtf8_set_ call uses the string's capacity if the new string fits it, and is not refused then; else it makes a new
+ * buffer, and keeps the old one until that is filled.
+ */
 
-/* Replaces the string by a copy of `other`. Codes: DONE, MEMORY. */
-int32_t wtf8_set_string(wtf8_string *string, wtf8_string *other);
+/* Replaces the string by `n` units. Never refused if 3 bytes for each fit. Codes: OK, NO_MEMORY. */
+WTF8_CODE wtf8_result wtf8_set_units(wtf8_string *string, const uint16_t *units, size_t n);
 
-/* Empties the string and keeps its capacity. */
+/* Replaces the string by a text of `n` bytes. With NOT_UTF8 the position of the first byte that is not UTF-8 is written
+ * to `*valid`, unless that is NULL. Never refused if the text fits. Codes: OK, NO_MEMORY, NOT_UTF8. */
+WTF8_CODE wtf8_result wtf8_set_utf8(wtf8_string *string, const uint8_t *text, size_t n, size_t *valid);
+
+/* Replaces the string by a copy of `other`. Never refused if it fits. Codes: OK, NO_MEMORY. */
+WTF8_CODE wtf8_result wtf8_set_string(wtf8_string *string, const wtf8_string *other);
+
+/* Empties the string and keeps its capacity. Constant. */
 void wtf8_clear(wtf8_string *string);
 
 /* Frees what the string owns, which is the empty string then. Freeing it again does nothing. */
 void wtf8_free(wtf8_string *string);
 
-/* Reserves capacity for at least `additional` more bytes: a unit takes at most 3. Never refused if they
- * fit, except that 0 bytes for a string without a buffer may be. Codes: DONE, MEMORY. */
-int32_t wtf8_reserve(wtf8_string *string, size_t additional);
+/* Reserves capacity for at least `additional` more bytes: a unit takes at most 3. Never refused if they fit, except that
+ * 0 bytes for a string without a buffer may be. Codes: OK, NO_MEMORY. */
+WTF8_CODE wtf8_result wtf8_reserve_bytes(wtf8_string *string, size_t additional);
+
+/* ---- Marks ----
+ *
+ * Calls that find a unit by its index take constant time in a string of ASCII. Else they count the units before it, from
+ * the start, or at most 129 of them from a mark if the string has marks.
+ */
+
+/* Makes a mark for each 128 units of the string, if it is not ASCII. Appends and truncations keep the marks; a
+ * wtf8_set_ call and wtf8_slice_units lose those of the string that they replace. A mark for which memory is refused is
+ * left out, as those after it, until an append finds memory for them. Only a string without a buffer is refused memory.
+ * Linear in the length. Codes: OK, NO_MEMORY. */
+WTF8_CODE wtf8_result wtf8_mark(wtf8_string *string);
 
 /* ---- Appending ---- */
 
 /* Each appends to the string. A trail after a lead completes the pair. A call whose bytes fit the capacity is never
  * refused, except that to append nothing to a string without a buffer may be. */
 
-/* One unit. Never refused if it fits. Codes: DONE, MEMORY. */
-int32_t wtf8_push_unit(wtf8_string *string, uint16_t unit);
+/* One unit. Never refused if it fits. Codes: OK, NO_MEMORY. */
+WTF8_CODE wtf8_result wtf8_push_unit(wtf8_string *string, uint16_t unit);
 
-/* One code point, a surrogate too. Never refused if it fits. Codes: DONE, MEMORY, NO_CODE_POINT. */
-int32_t wtf8_push_code_point(wtf8_string *string, uint32_t value);
+/* One code point, a surrogate too. Never refused if it fits. Codes: OK, NO_MEMORY, BAD_CODE_POINT. */
+WTF8_CODE wtf8_result wtf8_push_code_point(wtf8_string *string, uint32_t value);
 
-/* `n` units. Never refused if they fit. Codes: DONE, MEMORY. */
-int32_t wtf8_push_units(wtf8_string *string, const uint16_t *units, size_t n);
+/* `n` units. Never refused if they fit. Codes: OK, NO_MEMORY. */
+WTF8_CODE wtf8_result wtf8_push_units(wtf8_string *string, const uint16_t *units, size_t n);
 
-/* A text of `n` bytes. Never refused if it fits. Codes: DONE, MEMORY, NO_UTF8. */
-int32_t wtf8_push_utf8(wtf8_string *string, const uint8_t *text, size_t n);
+/* A text of `n` bytes. `valid` is as in wtf8_set_utf8. Never refused if it fits. Codes: OK, NO_MEMORY, NOT_UTF8. */
+WTF8_CODE wtf8_result wtf8_push_utf8(wtf8_string *string, const uint8_t *text, size_t n, size_t *valid);
 
-/* Another string. Never refused if it fits, unless both are one string. Codes: DONE, MEMORY. */
-int32_t wtf8_push_string(wtf8_string *string, wtf8_string *other);
+/* Another string. Never refused if it fits, unless both are one string. Codes: OK, NO_MEMORY. */
+WTF8_CODE wtf8_result wtf8_push_string(wtf8_string *string, const wtf8_string *other);
 
 /* ---- Asking ---- */
 
-/* These change no string. */
+/* These only read their strings. */
 
-/* The number of units. It counts them, in time proportional to the length. */
-size_t wtf8_unit_len(wtf8_string *string);
+/* The number of units. Constant. */
+size_t wtf8_unit_len(const wtf8_string *string);
 
-/* The length in bytes. */
-size_t wtf8_byte_len(wtf8_string *string);
+/* The length in bytes. Constant. */
+size_t wtf8_byte_len(const wtf8_string *string);
 
-/* Writes the unit at `index` to `*unit`. It counts the units before it, so a loop over all of them is quadratic: copy the
- * units out. Codes: DONE, POSITION (`index` is the length or greater). */
-int32_t wtf8_unit_at(wtf8_string *string, size_t index, uint16_t *unit);
+/* The number of bytes that the string can have before memory is requested. Constant. */
+size_t wtf8_capacity(const wtf8_string *string);
 
-/* Whether a position in bytes is a code point boundary: 0 and the length are, a position after the end is not. */
-bool wtf8_is_boundary(wtf8_string *string, size_t position);
+/* Writes the position in bytes of the boundary before the unit at `index`, found by the marks, to `*position`: of the end
+ * if `index` is the length, of the pair if `index` divides one. Codes: OK, BAD_POSITION (`index` is greater than the
+ * length). */
+WTF8_CODE wtf8_result wtf8_position_at(const wtf8_string *string, size_t index, size_t *position);
 
-/* Whether the string holds no surrogate, so that wtf8_copy_utf8 gives its text. */
-bool wtf8_is_utf8(wtf8_string *string);
+/* The number of units before the last boundary at or before `position` in bytes, found by the marks; the length if
+ * `position` is after the end. */
+size_t wtf8_unit_before(const wtf8_string *string, size_t position);
 
-/* Whether two strings have the same units. */
-bool wtf8_equal(wtf8_string *string, wtf8_string *other);
+/* Writes the unit at `index`, found by the marks, to `*unit`. Codes: OK, BAD_POSITION (`index` is the length or
+ * greater). */
+WTF8_CODE wtf8_result wtf8_unit_at(const wtf8_string *string, size_t index, uint16_t *unit);
+
+/* Whether a position in bytes is a code point boundary: 0 and the length are, a position after the end is not. Constant. */
+bool wtf8_is_boundary(const wtf8_string *string, size_t position);
+
+/* Whether the string holds no surrogate, so that wtf8_copy_utf8 gives its text. Linear in the length. */
+bool wtf8_is_utf8(const wtf8_string *string);
+
+/* Whether two strings have the same units. Linear in the shorter length, constant if the lengths in bytes differ. */
+bool wtf8_equal(const wtf8_string *string, const wtf8_string *other);
 
 /* Compare two strings, by their units as JavaScript does, or by their code points as their bytes in UTF-8 would: -1 if
- * the first comes before the second, 0 if they are equal, 1 if it comes after. */
-int32_t wtf8_compare_units(wtf8_string *string, wtf8_string *other);
-int32_t wtf8_compare_code_points(wtf8_string *string, wtf8_string *other);
+ * the first comes before the second, 0 if they are equal, 1 if it comes after. Linear in what the two begin with alike. */
+int32_t wtf8_compare_units(const wtf8_string *string, const wtf8_string *other);
+int32_t wtf8_compare_code_points(const wtf8_string *string, const wtf8_string *other);
 
 /* A hash for tables: SipHash-1-3 under the key 0, which everybody knows, so it does not hold off strings that were
- * chosen to collide. Equal strings have equal hashes. */
-uint64_t wtf8_hash(wtf8_string *string);
+ * chosen to collide. Equal strings have equal hashes. Linear in the length. */
+uint64_t wtf8_hash(const wtf8_string *string);
 
 /* ---- Cutting ---- */
 
-/* Shortens the string to `n` units. A pair that this divides leaves its lead. Codes: DONE, POSITION. */
-int32_t wtf8_truncate_units(wtf8_string *string, size_t n);
+/* Shortens the string to `n` units, found by the marks. A pair that this divides leaves its lead, and units are counted
+ * from the start then. Codes: OK, BAD_POSITION. */
+WTF8_CODE wtf8_result wtf8_truncate_units(wtf8_string *string, size_t n);
 
-/* Shortens the string to `position` bytes, a boundary. Codes: DONE, POSITION. */
-int32_t wtf8_truncate(wtf8_string *string, size_t position);
+/* Shortens the string to `position` bytes, a boundary. It counts the units before it from a mark, or from the start.
+ * Codes: OK, BAD_POSITION. */
+WTF8_CODE wtf8_result wtf8_truncate_bytes(wtf8_string *string, size_t position);
 
-/* Replaces `into` by the units of `string` from `begin` to before `end`. Codes: DONE, MEMORY, POSITION (`begin` is greater
- * than `end`, or `end` than the length). */
-int32_t wtf8_slice_units(wtf8_string *string, size_t begin, size_t end, wtf8_string *into);
+/* Replaces `into` by the units of `string` from `begin`, found by the marks, to before `end`. Codes: OK, NO_MEMORY,
+ * BAD_POSITION (`begin` is greater than `end`, or `end` than the length). */
+WTF8_CODE wtf8_result wtf8_slice_units(wtf8_string *into, const wtf8_string *string, size_t begin, size_t end);
 
 /* ---- Copying out ----
  *
- * A short array is reported before memory is requested, so an array of size 0 asks for the length. `*len` is written
- * with DONE and TOO_SHORT alone.
+ * An array of size 0 asks for the length. An array of wtf8_byte_len elements always suffices. `*len` is written with OK
+ * and ARRAY_TOO_SHORT alone.
  */
 
 /* Writes all units at the front of `out`, which has room for `size`, and their number to `*len`. If the array is too
- * short, only the number is written. Codes: DONE, MEMORY, TOO_SHORT. */
-int32_t wtf8_copy_units(wtf8_string *string, uint16_t *out, size_t size, size_t *len);
+ * short, only the number is written. Codes: OK, ARRAY_TOO_SHORT. */
+WTF8_CODE wtf8_result wtf8_copy_units(const wtf8_string *string, uint16_t *out, size_t size, size_t *len);
 
-/* The same of the units from `begin` to before `end`. Codes: DONE, MEMORY, POSITION, TOO_SHORT. */
-int32_t wtf8_copy_slice(wtf8_string *string, size_t begin, size_t end, uint16_t *out, size_t size, size_t *len);
+/* The same of the units from `begin`, found by the marks, to before `end`. Codes: OK, BAD_POSITION, ARRAY_TOO_SHORT. */
+WTF8_CODE wtf8_result wtf8_copy_slice(const wtf8_string *string, size_t begin, size_t end, uint16_t *out, size_t size, size_t *len);
 
-/* The same of the text in UTF-8, `*len` in bytes, if there is no surrogate. Codes: DONE, SURROGATE, TOO_SHORT. */
-int32_t wtf8_copy_utf8(wtf8_string *string, uint8_t *out, size_t size, size_t *len);
+/* The same of the text in UTF-8, `*len` in bytes, if there is no surrogate. Codes: OK, HAS_SURROGATE, ARRAY_TOO_SHORT. */
+WTF8_CODE wtf8_result wtf8_copy_utf8(const wtf8_string *string, uint8_t *out, size_t size, size_t *len);
 
-/* The same of the text with U+FFFD in place of each surrogate. Codes: DONE, MEMORY (only if there is one), TOO_SHORT. */
-int32_t wtf8_copy_lossy(wtf8_string *string, uint8_t *out, size_t size, size_t *len);
+/* The same of the text with U+FFFD in place of each surrogate. Codes: OK, NO_MEMORY (only if there is one),
+ * ARRAY_TOO_SHORT. */
+WTF8_CODE wtf8_result wtf8_copy_lossy(const wtf8_string *string, uint8_t *out, size_t size, size_t *len);
 
 #ifdef __cplusplus
 }

@@ -1,6 +1,6 @@
 import ctypes
 
-lib = ctypes.CDLL("libwtf8.so.0")
+lib = ctypes.PyDLL("libwtf8.so.0")
 lib.wtf8_byte_len.restype = ctypes.c_size_t
 
 class String(ctypes.Structure):

@@ -1,4 +1,5 @@
-/* The edges: of code points, of UTF-8, of indexes, of capacities. The hash of four strings. Linked as requests.h says. */
+/* The edges: of code points, of UTF-8, of indexes, of capacities. The hash of four strings, the text of each code, how
+ * often a string that grows asks for memory. Linked as requests.h says. */
 #include "../wtf8.h"
 #include "requests.h"
 
@@ -9,7 +10,7 @@ static uint8_t letters[LETTERS];
 static void must_have(wtf8_string *string, const uint16_t *units, size_t n, const char *what) {
     uint16_t *out = an_array(2 * n);
     size_t len = 0;
-    must(wtf8_copy_units(string, n ? out : NULL, n, &len) == WTF8_DONE, what);
+    must(wtf8_copy_units(string, n ? out : NULL, n, &len) == WTF8_OK, what);
     must(len == n && wtf8_unit_len(string) == n, what);
     must_begin(out, 2 * n, units, 2 * n, what);
 }
@@ -30,12 +31,12 @@ static const uint32_t no_points[] = {0x110000, 0x110001, 0x200000, 0x80000000, 0
 static void code_points(void) {
     for (size_t i = 0; i < sizeof points / sizeof points[0]; i++) {
         wtf8_string string = WTF8_EMPTY, by_units = WTF8_EMPTY;
-        must(wtf8_push_code_point(&string, points[i].value) == WTF8_DONE, "a code point");
+        must(wtf8_push_code_point(&string, points[i].value) == WTF8_OK, "a code point");
         for (size_t k = 0; k < sizeof no_points / sizeof no_points[0]; k++)
-            must(wtf8_push_code_point(&string, no_points[k]) == WTF8_NO_CODE_POINT, "no code point");
+            must(wtf8_push_code_point(&string, no_points[k]) == WTF8_BAD_CODE_POINT, "no code point");
         must(wtf8_byte_len(&string) == points[i].byte_len, "a code point's length");
         must_have(&string, points[i].units, points[i].n, "a code point's units");
-        for (size_t k = 0; k < points[i].n; k++) must(wtf8_push_unit(&by_units, points[i].units[k]) == WTF8_DONE, "a unit");
+        for (size_t k = 0; k < points[i].n; k++) must(wtf8_push_unit(&by_units, points[i].units[k]) == WTF8_OK, "a unit");
         must_have(&by_units, points[i].units, points[i].n, "the units pushed");
         must(wtf8_equal(&string, &by_units), "a code point and its units");
         wtf8_free(&string);
@@ -77,15 +78,20 @@ static void utf8_after(size_t front) {
         for (size_t k = 0; k < front; k++) units[k] = letters[k];
         memcpy(units + front, texts[i].units, 2 * texts[i].n);
         memcpy(units + n, units, 2 * n);
-        must(wtf8_set_utf8(&string, len ? text : NULL, len) == WTF8_DONE, "a text is set");
+        size_t valid = 77;
+        must(wtf8_set_utf8(&string, len ? text : NULL, len, &valid) == WTF8_OK && valid == 77, "a text is set");
         must_have(&string, units, n, "a text that was set");
-        must(wtf8_push_utf8(&string, len ? text : NULL, len) == WTF8_DONE, "a text is pushed");
+        must(wtf8_push_utf8(&string, len ? text : NULL, len, NULL) == WTF8_OK, "a text is pushed");
         must_have(&string, units, 2 * n, "a text that was pushed");
         must(wtf8_byte_len(&string) == 2 * len && wtf8_is_utf8(&string), "a text's length");
         for (size_t k = 0; k < sizeof no_texts / sizeof no_texts[0]; k++) {
             memcpy(text + front, no_texts[k].bytes, no_texts[k].len);
-            must(wtf8_set_utf8(&string, text, front + no_texts[k].len) == WTF8_NO_UTF8, "no text is set");
-            must(wtf8_push_utf8(&string, text, front + no_texts[k].len) == WTF8_NO_UTF8, "no text is pushed");
+            /* Each of them is not UTF-8 from its first byte on. */
+            size_t set = 77, pushed = 77;
+            must(wtf8_set_utf8(&string, text, front + no_texts[k].len, &set) == WTF8_NOT_UTF8, "no text is set");
+            must(wtf8_push_utf8(&string, text, front + no_texts[k].len, &pushed) == WTF8_NOT_UTF8, "no text is pushed");
+            must(set == front && pushed == front, "the first byte that is not UTF-8");
+            must(wtf8_set_utf8(&string, text, front + no_texts[k].len, NULL) == WTF8_NOT_UTF8, "no text is set");
         }
         must_have(&string, units, 2 * n, "a text after bytes that are none");
     }
@@ -107,7 +113,7 @@ static const struct {
 static void hash(void) {
     for (size_t i = 0; i < sizeof hashes / sizeof hashes[0]; i++) {
         wtf8_string string = WTF8_EMPTY;
-        must(wtf8_set_units(&string, hashes[i].units, hashes[i].n) == WTF8_DONE, "a string to hash");
+        must(wtf8_set_units(&string, hashes[i].units, hashes[i].n) == WTF8_OK, "a string to hash");
         must(wtf8_hash(&string) == hashes[i].hash, "a hash");
         wtf8_free(&string);
     }
@@ -119,24 +125,91 @@ static void indexes(void) {
     wtf8_string string = WTF8_EMPTY, part = WTF8_EMPTY;
     uint16_t unit = 0;
     for (size_t i = 0; i < LETTERS; i++) units[i] = (uint16_t)(i * 7 + i / 65536);
-    must(wtf8_set_units(&string, units, LETTERS) == WTF8_DONE, "a long string");
+    must(wtf8_set_units(&string, units, LETTERS) == WTF8_OK, "a long string");
     must_have(&string, units, LETTERS, "a long string's units");
     for (size_t i = 0; i < LETTERS; i += i < 65530 || 65540 < i ? 877 : 1)
-        must(wtf8_unit_at(&string, i, &unit) == WTF8_DONE && unit == units[i], "a unit of a long string");
-    must(wtf8_unit_at(&string, LETTERS, &unit) == WTF8_POSITION, "a unit after a long string");
-    must(wtf8_slice_units(&string, 65530, 65545, &part) == WTF8_DONE, "a slice of a long string");
+        must(wtf8_unit_at(&string, i, &unit) == WTF8_OK && unit == units[i], "a unit of a long string");
+    must(wtf8_unit_at(&string, LETTERS, &unit) == WTF8_BAD_POSITION, "a unit after a long string");
+    must(wtf8_slice_units(&part, &string, 65530, 65545) == WTF8_OK, "a slice of a long string");
     must_have(&part, units + 65530, 15, "a slice's units");
-    must(wtf8_truncate_units(&string, 65537) == WTF8_DONE, "a long string's truncation");
+    must(wtf8_truncate_units(&string, 65537) == WTF8_OK, "a long string's truncation");
     must_have(&string, units, 65537, "a long string's front");
     wtf8_free(&part);
     wtf8_free(&string);
+}
+
+enum { MARKED = 700, APPENDED = 300, SPACING = 128 };
+
+/* CJK letters with a surrogate pair around each multiple of the marks' spacing, less `shift`. */
+static void marked_units(uint16_t *units, size_t n, size_t shift) {
+    for (size_t i = 0; i < n; i++) {
+        size_t at = (i + shift) % SPACING;
+        units[i] = (uint16_t)(at == SPACING - 1 ? 0xD83D : at == 0 && i > 0 ? 0xDC00 + i % 0x400 : 0x4E00 + i);
+    }
+}
+
+/* Each unit and slices of a string with marks are those of the units. */
+static void must_find(const wtf8_string *string, const uint16_t *units, size_t n, const char *what) {
+    uint16_t unit = 0;
+    must(wtf8_unit_len(string) == n, what);
+    for (size_t i = 0; i < n; i++)
+        must(wtf8_unit_at(string, i, &unit) == WTF8_OK && unit == units[i], what);
+    must(wtf8_unit_at(string, n, &unit) == WTF8_BAD_POSITION, what);
+    for (size_t i = 0; i + 70 <= n; i += 23) {
+        uint16_t *out = an_array(140);
+        size_t len = 0;
+        must(wtf8_copy_slice(string, i, i + 70, out, 70, &len) == WTF8_OK && len == 70, what);
+        must_begin(out, 140, units + i, 140, what);
+    }
+}
+
+/* Marks, with each request for one granted or refused, while the string grows and is cut. */
+static void marks(void) {
+    static uint16_t units[MARKED + APPENDED + 1];
+    for (size_t shift = 0; shift < 3; shift++) {
+        for (int is_refused = 0; is_refused < 2; is_refused++) {
+            wtf8_string string = WTF8_EMPTY, letters_only = WTF8_EMPTY;
+            marked_units(units, MARKED + APPENDED, shift);
+            must(wtf8_set_units(&string, units, MARKED) == WTF8_OK, "a string to mark");
+            must(wtf8_set_utf8(&letters_only, letters, MARKED, NULL) == WTF8_OK, "letters to mark");
+            long requested = requests;
+            must(wtf8_mark(&letters_only) == WTF8_OK && requests == requested, "letters need no marks");
+            if (is_refused) refuse_after = 0;
+            must(wtf8_mark(&string) == WTF8_OK && requests > requested, "marks are requested");
+            refuse_after = -1;
+            must_find(&string, units, MARKED, "a marked string");
+            must(wtf8_push_units(&string, units + MARKED, APPENDED) == WTF8_OK, "units after marks");
+            must_find(&string, units, MARKED + APPENDED, "a marked string that grew");
+            for (size_t n = MARKED + APPENDED; n > 100; n -= 1 + n % 7) {
+                uint16_t trail = 0xDC00;
+                must(wtf8_truncate_units(&string, n) == WTF8_OK, "a cut of a marked string");
+                must(wtf8_push_unit(&string, trail) == WTF8_OK, "a trail after a cut");
+                uint16_t after = units[n];
+                units[n] = trail;
+                if (n % 3 == 0) must_find(&string, units, n + 1, "a marked string that was cut");
+                units[n] = after;
+                must(wtf8_truncate_units(&string, n) == WTF8_OK, "the trail cut off");
+            }
+            wtf8_free(&string);
+            wtf8_free(&letters_only);
+        }
+    }
+    wtf8_string none = WTF8_EMPTY;
+    refuse_after = 0;
+    must(wtf8_mark(&none) == WTF8_NO_MEMORY, "marks of a string without a buffer");
+    refuse_after = -1;
+    must(wtf8_mark(&none) == WTF8_OK, "marks of an empty string");
+    marked_units(units, MARKED, 0);
+    for (size_t i = 0; i < MARKED; i++) must(wtf8_push_unit(&none, units[i]) == WTF8_OK, "a unit of a marked string");
+    must_find(&none, units, MARKED, "a string that was marked when it was empty");
+    wtf8_free(&none);
 }
 
 /* Appends `n` letters with each request refused: they must fit. */
 static void must_take(wtf8_string *string, size_t n, const char *what) {
     long requested = requests;
     refuse_after = 0;
-    must(wtf8_push_utf8(string, letters, n) == WTF8_DONE, what);
+    must(wtf8_push_utf8(string, letters, n, NULL) == WTF8_OK, what);
     refuse_after = -1;
     must(requests == requested, what);
 }
@@ -146,12 +219,12 @@ static void reserve(void) {
     for (size_t i = 0; i < sizeof sizes / sizeof sizes[0]; i++) {
         for (size_t len = 0; len < 4; len++) {
             wtf8_string string = WTF8_EMPTY;
-            must(len == 0 || wtf8_push_utf8(&string, letters, len) == WTF8_DONE, "letters before reserve");
-            must(wtf8_reserve(&string, sizes[i]) == WTF8_DONE, "reserve");
+            must(len == 0 || wtf8_push_utf8(&string, letters, len, NULL) == WTF8_OK, "letters before reserve");
+            must(wtf8_reserve_bytes(&string, sizes[i]) == WTF8_OK, "reserve");
             for (size_t k = 0; k < 4; k++)
-                must(wtf8_reserve(&string, SIZE_MAX - k * (SIZE_MAX / 8)) == WTF8_MEMORY, "reserve of too much");
+                must(wtf8_reserve_bytes(&string, SIZE_MAX - k * (SIZE_MAX / 8)) == WTF8_NO_MEMORY, "reserve of too much");
             refuse_after = 0;
-            must(wtf8_reserve(&string, sizes[i]) == WTF8_DONE, "reserve of what fits");
+            must(wtf8_reserve_bytes(&string, sizes[i]) == WTF8_OK, "reserve of what fits");
             must_take(&string, sizes[i], "what was reserved");
             must(wtf8_byte_len(&string) == len + sizes[i], "the length after reserve");
             wtf8_free(&string);
@@ -159,15 +232,37 @@ static void reserve(void) {
     }
 }
 
+/* A string is replaced in the room that it has, with each request refused. */
+static void replaced_in_place(void) {
+    static const uint16_t units[] = {'a', 0xE9, 0x4E2D, 0xD83D, 0xDCA9, 0xDC00};
+    wtf8_string string = WTF8_EMPTY, other = WTF8_EMPTY;
+    must(wtf8_capacity(&string) == 0, "the capacity of a string without a buffer");
+    must(wtf8_reserve_bytes(&string, 100) == WTF8_OK && wtf8_capacity(&string) >= 100, "room to replace a string");
+    must(wtf8_set_utf8(&other, letters, 100, NULL) == WTF8_OK, "another string");
+    size_t capacity = wtf8_capacity(&string);
+    long requested = requests;
+    refuse_after = 0;
+    must(wtf8_set_units(&string, units, 6) == WTF8_OK, "units in place");
+    must(wtf8_unit_len(&string) == 6 && wtf8_byte_len(&string) == 1 + 2 + 3 + 4 + 3, "the units in place");
+    must(wtf8_set_utf8(&string, letters, 100, NULL) == WTF8_OK && wtf8_equal(&string, &other), "a text in place");
+    must(wtf8_set_units(&string, units, 6) == WTF8_OK && wtf8_set_string(&string, &other) == WTF8_OK, "a string in place");
+    must(wtf8_equal(&string, &other) && wtf8_capacity(&string) == capacity, "the string in place");
+    must(wtf8_set_utf8(&string, letters, capacity + 1, NULL) == WTF8_NO_MEMORY && wtf8_equal(&string, &other), "a longer text");
+    must(requests == requested + 1, "requests in place");
+    refuse_after = -1;
+    wtf8_free(&string);
+    wtf8_free(&other);
+}
+
 /* What shortens a string keeps its capacity. */
 static void kept_capacity(void) {
     for (int way = 0; way < 5; way++) {
         wtf8_string string = WTF8_EMPTY;
         size_t left = way < 3 ? 0 : 400;
-        must(wtf8_set_utf8(&string, letters, 1000) == WTF8_DONE, "letters to shorten");
+        must(wtf8_set_utf8(&string, letters, 1000, NULL) == WTF8_OK, "letters to shorten");
         refuse_after = 0;
         if (way == 0) wtf8_clear(&string);
-        else must((way % 2 ? wtf8_truncate : wtf8_truncate_units)(&string, left) == WTF8_DONE, "a truncation");
+        else must((way % 2 ? wtf8_truncate_bytes : wtf8_truncate_units)(&string, left) == WTF8_OK, "a truncation");
         must(wtf8_byte_len(&string) == left, "the length after a truncation");
         must_take(&string, 1000 - left, "the capacity that is kept");
         wtf8_free(&string);
@@ -176,14 +271,39 @@ static void kept_capacity(void) {
     }
 }
 
+/* A string that grows unit by unit asks for memory at most once for each doubling, beside its struct. */
+static void growth(void) {
+    wtf8_string string = WTF8_EMPTY;
+    long before = requests;
+    for (size_t i = 1; i <= LETTERS; i++) {
+        must(wtf8_push_unit(&string, 0x4E2D) == WTF8_OK, "a push that grows");
+        size_t doublings = 0;
+        for (size_t n = i; n > 0; n /= 2) doublings++;
+        must(requests - before <= 2 + (long)doublings, "the requests of a string that grows");
+    }
+    wtf8_free(&string);
+}
+
+/* Each code has a text of its own, and so has what is no code. */
+static void texts_of_codes(void) {
+    for (int i = WTF8_OK; i <= WTF8_NOT_UTF8 + 1; i++)
+        for (int k = WTF8_OK; k < i; k++)
+            must(strcmp(wtf8_result_text((wtf8_result)i), wtf8_result_text((wtf8_result)k)) != 0, "the text of a code");
+    must(strcmp(wtf8_version(), WTF8_VERSION) == 0, "the version");
+}
+
 int main(void) {
     memset(letters, 'a', LETTERS);
     code_points();
     for (size_t front = 0; front < 48; front++) utf8_after(front);
     hash();
     indexes();
+    marks();
     reserve();
+    replaced_in_place();
     kept_capacity();
+    growth();
+    texts_of_codes();
     printf("edges: %ld requests, no difference\n", requests);
     return 0;
 }

@@ -1,111 +1,22 @@
-/* Random calls against arrays of units, with an encoder of its own, and each request for memory refused in turn.
+/* Random calls against arrays of units, and each request for memory refused in turn.
  * Arguments: a seed and the number of steps. Linked as requests.h says. */
 #include "../wtf8.h"
+#include "model.h"
 #include "requests.h"
 
-enum { STRINGS = 4, MOST = 400, KINDS = 26 };
-
-/* A string, the units that it must have, and a number of bytes that it must have the capacity for. */
-struct pair {
-    wtf8_string string;
-    uint16_t units[4 * MOST];
-    size_t n, capacity;
-};
+enum { STRINGS = 4, KINDS = 27 };
 
 static struct pair pairs[STRINGS];
-static uint64_t state;
 static long counts[40][7];
-
-static uint32_t below(uint32_t limit) {
-    state = state * 6364136223846793005u + 1442695040888963407u;
-    return (uint32_t)((state >> 33) % limit);
-}
-
-static uint16_t a_unit(void) {
-    switch (below(6)) {
-        case 0: return (uint16_t)(0xD800 + below(0x400));
-        case 1: return (uint16_t)(0xDC00 + below(0x400));
-        case 2: return (uint16_t)below(0x10000);
-        case 3: return (uint16_t)below(0x800);
-        default: return (uint16_t)below(0x80);
-    }
-}
-
-static int is_lead(uint16_t u) { return u >= 0xD800 && u < 0xDC00; }
-static int is_trail(uint16_t u) { return u >= 0xDC00 && u < 0xE000; }
-
-/* The code point at index `i`, and in `*taken` the number of its units. */
-static uint32_t point_at(const struct pair *p, size_t i, size_t *taken) {
-    uint16_t u = p->units[i];
-    if (is_lead(u) && i + 1 < p->n && is_trail(p->units[i + 1])) {
-        *taken = 2;
-        return 0x10000 + ((uint32_t)(u - 0xD800) << 10) + (uint32_t)(p->units[i + 1] - 0xDC00);
-    }
-    *taken = 1;
-    return u;
-}
-
-static size_t encode(uint32_t c, uint8_t *to) {
-    if (c < 0x80) { to[0] = (uint8_t)c; return 1; }
-    if (c < 0x800) { to[0] = (uint8_t)(0xC0 | c >> 6); to[1] = (uint8_t)(0x80 | (c & 63)); return 2; }
-    if (c < 0x10000) { to[0] = (uint8_t)(0xE0 | c >> 12); to[1] = (uint8_t)(0x80 | (c >> 6 & 63)); to[2] = (uint8_t)(0x80 | (c & 63)); return 3; }
-    to[0] = (uint8_t)(0xF0 | c >> 18); to[1] = (uint8_t)(0x80 | (c >> 12 & 63)); to[2] = (uint8_t)(0x80 | (c >> 6 & 63)); to[3] = (uint8_t)(0x80 | (c & 63));
-    return 4;
-}
-
-static size_t byte_len(const struct pair *p) {
-    uint8_t bytes[4];
-    size_t len = 0, taken = 0;
-    for (size_t i = 0; i < p->n; i += taken) len += encode(point_at(p, i, &taken), bytes);
-    return len;
-}
-
-static int is_boundary(const struct pair *p, size_t position) {
-    uint8_t bytes[4];
-    size_t len = 0, taken = 0;
-    for (size_t i = 0; i < p->n && len < position; i += taken) len += encode(point_at(p, i, &taken), bytes);
-    return len == position;
-}
-
-static int is_utf8(const struct pair *p) {
-    size_t taken = 0;
-    for (size_t i = 0; i < p->n; i += taken) {
-        uint32_t c = point_at(p, i, &taken);
-        if (c >= 0xD800 && c < 0xE000) return 0;
-    }
-    return 1;
-}
-
-static int compare_units(const struct pair *p, const struct pair *q) {
-    for (size_t i = 0; i < p->n && i < q->n; i++)
-        if (p->units[i] != q->units[i]) return p->units[i] < q->units[i] ? -1 : 1;
-    return p->n == q->n ? 0 : p->n < q->n ? -1 : 1;
-}
-
-static int compare_points(const struct pair *p, const struct pair *q) {
-    size_t i = 0, j = 0, one = 0, two = 0;
-    for (; i < p->n && j < q->n; i += one, j += two) {
-        uint32_t c = point_at(p, i, &one), d = point_at(q, j, &two);
-        if (c != d) return c < d ? -1 : 1;
-    }
-    return i < p->n ? 1 : j < q->n ? -1 : 0;
-}
 
 static void check(struct pair *p) {
     uint8_t *out = an_array(2 * p->n);
     size_t len = 77, bytes = byte_len(p);
-    must(wtf8_copy_units(&p->string, p->n ? (uint16_t *)out : NULL, p->n, &len) == WTF8_DONE, "copy");
+    must(wtf8_copy_units(&p->string, p->n ? (uint16_t *)out : NULL, p->n, &len) == WTF8_OK, "copy");
     must(len == p->n, "length");
     must_begin(out, 2 * p->n, p->units, 2 * p->n, "units");
     must(wtf8_byte_len(&p->string) == bytes, "bytes");
     if (p->capacity < bytes) p->capacity = bytes;
-}
-
-/* Writes the units of a code point, and returns their number. */
-static size_t units_of(uint32_t c, uint16_t *units) {
-    units[0] = (uint16_t)(c < 0x10000 ? c : 0xD800 + ((c - 0x10000) >> 10));
-    units[1] = (uint16_t)(0xDC00 + (c & 0x3FF));
-    return c < 0x10000 ? 1 : 2;
 }
 
 /* A text in UTF-8 of scalar values at `text`, and its units at `units`. */
@@ -151,87 +62,103 @@ static int refuse_if_units_fit(struct pair *p, const uint16_t *units, size_t n) 
     return refuse_if_fits(p, after - before);
 }
 
-static void replace(struct pair *p, const uint16_t *units, size_t n) {
+/* Whether a string of `bytes` bytes fits the capacity, so that it replaces the old one without a request. Each is refused
+ * then, half of the time. */
+static int is_set_in_place(const struct pair *p, size_t bytes) {
+    if (p->capacity == 0 || p->capacity < bytes) return 0;
+    if (below(2)) refuse_after = 0;
+    return 1;
+}
+
+static void replace(struct pair *p, const uint16_t *units, size_t n, int is_in_place) {
     p->n = 0;
-    p->capacity = 0;
+    if (!is_in_place) p->capacity = 0;
     append(p, units, n);
 }
 
 static void step(int kind, struct pair *p, struct pair *q) {
     uint16_t units[64], unit = 0xABCD;
     uint8_t text[128];
-    size_t n = below(33), len, more = 0;
-    int32_t code = WTF8_DONE;
+    size_t n = below(33), len, more = 0, valid = 77;
+    wtf8_result code = WTF8_OK;
     int is_bad = below(8) == 0, needs_none = 0;
     long requested = requests, refused = refusals;
     for (size_t i = 0; i < n; i++) units[i] = a_unit();
     switch (kind) {
         case 0:
+            needs_none = is_set_in_place(p, 3 * n);
             code = wtf8_set_units(&p->string, n ? units : NULL, n);
-            if (code == WTF8_DONE) replace(p, units, n);
+            if (code == WTF8_OK) replace(p, units, n, needs_none);
             break;
         case 1:
             len = a_text(text, units, &n);
+            needs_none = !is_bad && is_set_in_place(p, len);
             if (is_bad) text[len++] = 0xFF;
-            code = wtf8_set_utf8(&p->string, len ? text : NULL, len);
-            must((code == WTF8_NO_UTF8) == is_bad, "set_utf8");
-            if (code == WTF8_DONE) replace(p, units, n);
+            if (is_bad) more = len - 1;
+            code = wtf8_set_utf8(&p->string, len ? text : NULL, len, below(4) ? &valid : NULL);
+            must(valid == 77 || (is_bad && valid == more), "set_utf8, the first bad byte");
+            more = 0;
+            must((code == WTF8_NOT_UTF8) == is_bad, "set_utf8");
+            if (code == WTF8_OK) replace(p, units, n, needs_none);
             break;
         case 2:
+            needs_none = p == q || is_set_in_place(p, byte_len(q));
             code = wtf8_set_string(&p->string, &q->string);
-            if (code == WTF8_DONE && p != q) replace(p, q->units, q->n);
+            if (code == WTF8_OK && p != q) replace(p, q->units, q->n, needs_none);
             break;
         case 3: wtf8_clear(&p->string); p->n = 0; break;
         case 4:
             wtf8_free(&p->string);
             if (below(2)) wtf8_free(&p->string);
-            replace(p, units, 0);
+            replace(p, units, 0, 0);
+            p->is_marked = 0;
             break;
         case 5:
             more = below(50) ? below(300) : SIZE_MAX - below(9);
             needs_none = refuse_if_fits(p, more);
-            code = wtf8_reserve(&p->string, more);
-            must(code == WTF8_MEMORY || more <= PTRDIFF_MAX, "reserve of more than a block can have");
-            if (code == WTF8_DONE && p->capacity < byte_len(p) + more) p->capacity = byte_len(p) + more;
+            code = wtf8_reserve_bytes(&p->string, more);
+            must(code == WTF8_NO_MEMORY || more <= PTRDIFF_MAX, "reserve of more than a block can have");
+            if (code == WTF8_OK && p->capacity < byte_len(p) + more) p->capacity = byte_len(p) + more;
             break;
         case 6:
             unit = a_unit();
             needs_none = refuse_if_units_fit(p, &unit, 1);
             code = wtf8_push_unit(&p->string, unit);
-            if (code == WTF8_DONE) append(p, &unit, 1);
+            if (code == WTF8_OK) append(p, &unit, 1);
             break;
         case 7: {
             uint32_t c = below(4) ? below(0x120000) : a_unit();
             n = units_of(c, units);
             needs_none = c <= 0x10FFFF && refuse_if_units_fit(p, units, n);
             code = wtf8_push_code_point(&p->string, c);
-            must((code == WTF8_NO_CODE_POINT) == (c > 0x10FFFF), "push_code_point");
-            if (code == WTF8_DONE) append(p, units, n);
+            must((code == WTF8_BAD_CODE_POINT) == (c > 0x10FFFF), "push_code_point");
+            if (code == WTF8_OK) append(p, units, n);
             break;
         }
         case 8:
             needs_none = refuse_if_units_fit(p, units, n);
             code = wtf8_push_units(&p->string, n ? units : NULL, n);
-            if (code == WTF8_DONE) append(p, units, n);
+            if (code == WTF8_OK) append(p, units, n);
             break;
         case 9:
             len = a_text(text, units, &n);
             needs_none = !is_bad && refuse_if_units_fit(p, units, n);
             if (is_bad) text[len++] = 0x80;
-            code = wtf8_push_utf8(&p->string, len ? text : NULL, len);
-            must((code == WTF8_NO_UTF8) == is_bad, "push_utf8");
-            if (code == WTF8_DONE) append(p, units, n);
+            code = wtf8_push_utf8(&p->string, len ? text : NULL, len, &valid);
+            must(valid == (is_bad ? len - 1 : 77), "push_utf8, the first bad byte");
+            must((code == WTF8_NOT_UTF8) == is_bad, "push_utf8");
+            if (code == WTF8_OK) append(p, units, n);
             break;
         case 10:
             needs_none = p != q && refuse_if_units_fit(p, q->units, q->n);
             code = wtf8_push_string(&p->string, &q->string);
-            if (code == WTF8_DONE) append(p, q->units, q->n);
+            if (code == WTF8_OK) append(p, q->units, q->n);
             break;
         case 11: must(wtf8_unit_len(&p->string) == p->n, "unit_len"); break;
         case 12: {
             size_t i = an_index(p->n);
             code = wtf8_unit_at(&p->string, i, &unit);
-            must(code == (i < p->n ? WTF8_DONE : WTF8_POSITION), "unit_at");
+            must(code == (i < p->n ? WTF8_OK : WTF8_BAD_POSITION), "unit_at");
             must(unit == (i < p->n ? p->units[i] : 0xABCD), "the unit");
             break;
         }
@@ -247,23 +174,23 @@ static void step(int kind, struct pair *p, struct pair *q) {
         case 18: {
             size_t i = an_index(p->n);
             code = wtf8_truncate_units(&p->string, i);
-            must(code == (i <= p->n ? WTF8_DONE : WTF8_POSITION), "truncate_units");
-            if (code == WTF8_DONE) p->n = i;
+            must(code == (i <= p->n ? WTF8_OK : WTF8_BAD_POSITION), "truncate_units");
+            if (code == WTF8_OK) p->n = i;
             break;
         }
         case 19: {
             size_t a = below((uint32_t)p->n + 2), b = an_index(p->n);
-            code = wtf8_slice_units(&p->string, a, b, &q->string);
-            must((code == WTF8_POSITION) == !(a <= b && b <= p->n), "slice_units");
-            if (code == WTF8_DONE) replace(q, p->units + a, b - a);
+            code = wtf8_slice_units(&q->string, &p->string, a, b);
+            must((code == WTF8_BAD_POSITION) == !(a <= b && b <= p->n), "slice_units");
+            if (code == WTF8_OK) replace(q, p->units + a, b - a, 0);
             break;
         }
         case 20: {
             size_t i = an_index(byte_len(p));
             int at_boundary = is_boundary(p, i);
-            code = wtf8_truncate(&p->string, i);
-            must(code == (at_boundary ? WTF8_DONE : WTF8_POSITION), "truncate");
-            if (code == WTF8_DONE) {
+            code = wtf8_truncate_bytes(&p->string, i);
+            must(code == (at_boundary ? WTF8_OK : WTF8_BAD_POSITION), "truncate");
+            if (code == WTF8_OK) {
                 uint8_t bytes[4];
                 size_t len_now = 0, taken = 0, k = 0;
                 for (; len_now < i; k += taken) len_now += encode(point_at(p, k, &taken), bytes);
@@ -281,11 +208,13 @@ static void step(int kind, struct pair *p, struct pair *q) {
             int in_range = a <= b && b <= p->n;
             uint16_t *out = an_array(2 * size);
             len = 77;
+            needs_none = in_range && b - a <= size;
+            if (below(2)) refuse_after = 0;
             code = wtf8_copy_slice(&p->string, a, b, size ? out : NULL, size, &len);
-            must((code == WTF8_POSITION) == !in_range, "copy_slice, position");
-            must((code == WTF8_TOO_SHORT) == (in_range && size < b - a), "copy_slice, short");
-            must(code == WTF8_MEMORY || code == WTF8_POSITION ? len == 77 : len == b - a, "copy_slice, length");
-            must_begin(out, 2 * size, p->units + (in_range ? a : 0), code == WTF8_DONE ? 2 * len : 0, "copy_slice, array");
+            must((code == WTF8_BAD_POSITION) == !in_range, "copy_slice, position");
+            must((code == WTF8_ARRAY_TOO_SHORT) == (in_range && size < b - a), "copy_slice, short");
+            must(code == WTF8_BAD_POSITION ? len == 77 : len == b - a, "copy_slice, length");
+            must_begin(out, 2 * size, p->units + (in_range ? a : 0), code == WTF8_OK ? 2 * len : 0, "copy_slice, array");
             break;
         }
         case 23:
@@ -303,27 +232,37 @@ static void step(int kind, struct pair *p, struct pair *q) {
             needs_none = !has_surrogate && size >= needed;
             if (needs_none && below(2)) refuse_after = 0;
             code = (lossy ? wtf8_copy_lossy : wtf8_copy_utf8)(&p->string, size ? out : NULL, size, &len);
-            if (!lossy) must((code == WTF8_SURROGATE) == has_surrogate, "copy_utf8, surrogate");
-            if (code != WTF8_SURROGATE && code != WTF8_MEMORY) must((code == WTF8_TOO_SHORT) == (size < needed), "copy_text, short");
-            must(code == WTF8_SURROGATE || code == WTF8_MEMORY ? len == 77 : len == needed, "copy_text, length");
-            must_begin(out, size, bytes, code == WTF8_DONE ? needed : 0, "copy_text, array");
+            if (!lossy) must((code == WTF8_HAS_SURROGATE) == has_surrogate, "copy_utf8, surrogate");
+            if (code != WTF8_HAS_SURROGATE && code != WTF8_NO_MEMORY) must((code == WTF8_ARRAY_TOO_SHORT) == (size < needed), "copy_text, short");
+            must(code == WTF8_HAS_SURROGATE || code == WTF8_NO_MEMORY ? len == 77 : len == needed, "copy_text, length");
+            must_begin(out, size, bytes, code == WTF8_OK ? needed : 0, "copy_text, array");
             break;
         }
-        default: {
+        case 25: {
             size_t size = below((uint32_t)p->n + 3);
             uint16_t *out = an_array(2 * size);
             len = 77;
+            needs_none = p->n <= size;
+            if (below(2)) refuse_after = 0;
             code = wtf8_copy_units(&p->string, size ? out : NULL, size, &len);
-            must((code == WTF8_TOO_SHORT) == (size < p->n), "copy_units");
-            must(code == WTF8_MEMORY ? len == 77 : len == p->n, "copy_units, length");
-            must_begin(out, 2 * size, p->units, code == WTF8_DONE ? 2 * p->n : 0, "copy_units, array");
+            must((code == WTF8_ARRAY_TOO_SHORT) == (size < p->n), "copy_units");
+            must(len == p->n, "copy_units, length");
+            must_begin(out, 2 * size, p->units, code == WTF8_OK ? 2 * p->n : 0, "copy_units, array");
             break;
         }
+        default:
+            if (below(2)) refuse_after = 0;
+            code = wtf8_mark(&p->string);
+            must(code == WTF8_OK || p->capacity == 0, "mark of a string with a buffer");
+            if (code == WTF8_OK) p->is_marked = 1;
+            break;
     }
-    must(code >= 0 && code < 7, "code");
-    must(code != WTF8_MEMORY || refused < refusals || more > PTRDIFF_MAX, "MEMORY, but no request was refused");
-    must(!needs_none || code == WTF8_DONE, "a call that needs no memory is not done");
-    must(!needs_none || requests == requested, "a call that needs no memory requests it");
+    must(code <= WTF8_NOT_UTF8, "code");
+    must(code != WTF8_NO_MEMORY || refused < refusals || more > PTRDIFF_MAX, "MEMORY, but no request was refused");
+    must(!needs_none || code == WTF8_OK, "a call that needs no memory is not done");
+    /* What adds units may ask for memory for marks, and does without it. */
+    int may_ask_for_marks = p->is_marked && (kind <= 2 || (kind >= 6 && kind <= 10));
+    must(!needs_none || may_ask_for_marks || requests == requested, "a call that needs no memory requests it");
     counts[kind][code]++;
 }
 
@@ -344,12 +283,12 @@ int main(int count, char **words) {
     for (int i = 0; i < STRINGS; i++) wtf8_free(&pairs[i].string);
     must(blocks == 0, "a block is not given back");
     static const int reached[][2] = {
-        {0, WTF8_MEMORY}, {1, WTF8_MEMORY}, {1, WTF8_NO_UTF8}, {2, WTF8_MEMORY}, {5, WTF8_MEMORY}, {6, WTF8_MEMORY},
-        {7, WTF8_MEMORY}, {7, WTF8_NO_CODE_POINT}, {8, WTF8_MEMORY}, {9, WTF8_MEMORY}, {9, WTF8_NO_UTF8},
-        {10, WTF8_MEMORY}, {12, WTF8_POSITION}, {18, WTF8_POSITION}, {19, WTF8_MEMORY}, {19, WTF8_POSITION},
-        {20, WTF8_POSITION}, {22, WTF8_MEMORY}, {22, WTF8_POSITION}, {22, WTF8_TOO_SHORT}, {23, WTF8_SURROGATE}, {23, WTF8_TOO_SHORT},
-        {24, WTF8_MEMORY}, {24, WTF8_TOO_SHORT}, {25, WTF8_MEMORY}, {25, WTF8_TOO_SHORT}};
-    for (int kind = 0; kind < KINDS; kind++) must(counts[kind][WTF8_DONE] > 0 || steps < 25000, "a call is never done");
+        {0, WTF8_NO_MEMORY}, {1, WTF8_NO_MEMORY}, {1, WTF8_NOT_UTF8}, {2, WTF8_NO_MEMORY}, {5, WTF8_NO_MEMORY}, {6, WTF8_NO_MEMORY},
+        {7, WTF8_NO_MEMORY}, {7, WTF8_BAD_CODE_POINT}, {8, WTF8_NO_MEMORY}, {9, WTF8_NO_MEMORY}, {9, WTF8_NOT_UTF8},
+        {10, WTF8_NO_MEMORY}, {12, WTF8_BAD_POSITION}, {18, WTF8_BAD_POSITION}, {19, WTF8_NO_MEMORY}, {19, WTF8_BAD_POSITION},
+        {20, WTF8_BAD_POSITION}, {22, WTF8_BAD_POSITION}, {22, WTF8_ARRAY_TOO_SHORT}, {23, WTF8_HAS_SURROGATE}, {23, WTF8_ARRAY_TOO_SHORT},
+        {24, WTF8_NO_MEMORY}, {24, WTF8_ARRAY_TOO_SHORT}, {25, WTF8_ARRAY_TOO_SHORT}, {26, WTF8_NO_MEMORY}};
+    for (int kind = 0; kind < KINDS; kind++) must(counts[kind][WTF8_OK] > 0 || steps < 25000, "a call is never done");
     for (size_t i = 0; i < sizeof reached / sizeof reached[0]; i++)
         must(counts[reached[i][0]][reached[i][1]] > 0 || steps < 25000, "a code is never reached");
     printf("random: %ld steps, %ld requests, no difference\n", steps, requests);

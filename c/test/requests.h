@@ -3,8 +3,9 @@
 #ifndef REQUESTS_H
 #define REQUESTS_H
 
+#include "must.h"
+
 #include <stdint.h>
-#include <stdio.h>
 #include <stdlib.h>
 #include <string.h>
 
@@ -48,12 +49,6 @@ void *__wrap_realloc(void *at, size_t size) {
 void __wrap_free(void *at) {
     if (at != NULL) blocks--;
     __real_free(at);
-}
-
-static void must(int holds, const char *what) {
-    if (holds) return;
-    fprintf(stderr, "difference: %s\n", what);
-    exit(1);
 }
 
 /* An array of `size` bytes, each 5A, that no test counts as a request. */

@@ -5,7 +5,7 @@ use Rattle.std.proofs.BoxSteps.Form.{Bx}
 use Rattle.std.specs.contracts.alloc.Global as heap
 use Rattle.std.specs.contracts.impls.GlobalAllocator.TheImpl.{ghosts, dict}
 use Rattle.std.proofs.alloc.Global.TheLaws as heap_laws
-use Rattle.wtf8.proofs.strings.buf.Wtf8Buf.TheLaws as buf_laws
+use Rattle.unit_text.proofs.indexed.IndexedBuf.TheLaws as buf_laws
 use Rattle.wtf8_c.specs.Ownership.{Held}
 
 abbrev pub E : Bx

@@ -1,15 +1,14 @@
--- What follows from the code that a call returns, and from the buffer or the vector that it worked on.
-use Rattle.std.proofs.Common.{◌≡◌, ℕ, ◌<◌, ◌≤◌, ◌+◌, ◌-◌, ◌⊎◌, ◌↔◌, inl, inr, ℤ, pos, negsuc, Bool, false, nat_eq, refl, sym, ap, ◌∙◌}
+-- What follows from the code that a call returns, and from the buffer that it worked on.
+use Rattle.std.proofs.Common.{◌≡◌, ℕ, ◌<◌, ◌≤◌, ◌⊎◌, ◌↔◌, inl, inr, ℤ, pos, negsuc, Bool, false, nat_eq, refl, sym, ap, ◌∙◌}
 use Rattle.std.proofs.Common.{subst}
-use Rattle.std.proofs.Common.{List, [], ◌++◌, length, take, drop, length-drop, length-take-le, Result, Ok, Err, to_z, of_z, w32, arith}
-use Rattle.std.specs.Prelude.{IsOk, IsErr, OnOk, OnErr, IsTrue, is_err}
+use Rattle.std.proofs.Common.{List, ◌++◌, Result, Ok, Err, to_z, of_z, w32, arith}
+use Rattle.std.specs.Prelude.{IsOk, IsErr, OnOk, OnErr, IsTrue}
 use Rattle.std.proofs.lemmas.Bool.Decides.{nat_tests}
 use borrow.Author.Rules.{sfits_of}
 use lib.Signed.{mag}
 use mir.Facts.{to_z-of_z}
 use Rattle.wtf8.specs.Appending.{KeepsContents, HasRoomFor}
 use Rattle.wtf8.specs.UnitString.{UnitString}
-use Rattle.wtf8_c.specs.Front.{with_front}
 
 -- a code is none of the others
 pub other_code : {A : Type 0} (m n : ℕ) → nat_eq m n ≡ false → pos m ≡ pos n → A
@@ -28,7 +27,7 @@ either f g h = elim h [ inl a ↦ f a | inr b ↦ g b ]
 pub or_third : {A B C : Type 0} → A ⊎ B → A ⊎ (B ⊎ C)
 or_third = either inl (λ b. inr (inl b))
 
--- a code that is DONE or MEMORY is no greater one
+-- a code that is OK or NO_MEMORY is no greater one
 pub no_greater : {A : Type 0} {k : ℤ} (m : ℕ) → 1 < m → (k ≡ pos 0) ⊎ (k ≡ pos 1) → k ≡ pos m → A
 no_greater m l h e = elim h [
   | inl d ↦ other_code 0 m (grind (arith, nat_tests)) (sym d ∙ e)
@@ -44,36 +43,36 @@ on_err : {T E P : Type 0} (r : Result T E) → OnErr r P → IsErr r → P
 on_err (Ok x) p e = cc
 on_err (Err x) p e = p
 
--- the code that a call passes on as it got it: DONE or MEMORY
+-- the code that a call passes on as it got it: OK or NO_MEMORY
 same_code : {k z : ℤ} → mag k < 2147483648 → k ≡ z → to_z w32 (of_z w32 k) ≡ z
 same_code {k} fits e = to_z-of_z (sfits_of {w = w32} {z = k} fits) ∙ e
 
 pub if_code : {A : Type 0} {k z : ℤ} → mag k < 2147483648 → (k ≡ z → A) → to_z w32 (of_z w32 k) ≡ z → A
 if_code fits f e = f (sym (same_code fits refl) ∙ e)
 
-pub done_or_memory_as : {k : ℤ} → mag k < 2147483648 → (k ≡ pos 0) ⊎ (k ≡ pos 1)
+pub ok_or_no_memory_as : {k : ℤ} → mag k < 2147483648 → (k ≡ pos 0) ⊎ (k ≡ pos 1)
     → (to_z w32 (of_z w32 k) ≡ pos 0) ⊎ (to_z w32 (of_z w32 k) ≡ pos 1)
-done_or_memory_as fits = either (λ e. inl (same_code fits e)) (λ e. inr (same_code fits e))
+ok_or_no_memory_as fits = either (λ e. inl (same_code fits e)) (λ e. inr (same_code fits e))
 
-pub unless_done : {A : Type 0} {k : ℤ} → mag k < 2147483648 → (k ≡ pos 0) ⊎ (k ≡ pos 1) → (k ≡ pos 1 → A)
+pub unless_ok : {A : Type 0} {k : ℤ} → mag k < 2147483648 → (k ≡ pos 0) ⊎ (k ≡ pos 1) → (k ≡ pos 1 → A)
     → ¬ (to_z w32 (of_z w32 k) ≡ pos 0) → A
-unless_done fits h f not = elim h [ inl d ↦ absurd (not (same_code fits d)) | inr d ↦ f d ]
+unless_ok fits h f not = elim h [ inl d ↦ absurd (not (same_code fits d)) | inr d ↦ f d ]
 
--- the code for the outcome `r` of an append: DONE or MEMORY
+-- the code for the outcome `r` of an append: OK or NO_MEMORY
 pub record IsCodeOf {T E : Type 0} (r : Result T E) (code : ℤ) : Type 0 where
-  pub done : code ≡ pos 0 ↔ IsOk r
+  pub ok : code ≡ pos 0 ↔ IsOk r
   pub memory : code ≡ pos 1 ↔ IsErr r
 
 pub returned : {T E : Type 0} {r : Result T E} {k : ℤ} → mag k < 2147483648 → (k ≡ pos 0 ↔ IsOk r) → (k ≡ pos 1 ↔ IsErr r)
     → IsCodeOf r (to_z w32 (of_z w32 k))
-returned {r = r} fits done memory = subst (IsCodeOf r) (sym (same_code fits refl)) (record { done = done; memory = memory })
+returned {r = r} fits ok memory = subst (IsCodeOf r) (sym (same_code fits refl)) (record { ok = ok; memory = memory })
 
-pub done_or_memory : {T E : Type 0} (r : Result T E) (k : ℤ) → IsCodeOf r k → (k ≡ pos 0) ⊎ (k ≡ pos 1)
-done_or_memory (Ok x) k h = inl (h.done.1 refl)
-done_or_memory (Err x) k h = inr (h.memory.1 refl)
+pub ok_or_no_memory : {T E : Type 0} (r : Result T E) (k : ℤ) → IsCodeOf r k → (k ≡ pos 0) ⊎ (k ≡ pos 1)
+ok_or_no_memory (Ok x) k h = inl (h.ok.1 refl)
+ok_or_no_memory (Err x) k h = inr (h.memory.1 refl)
 
-pub once_done : {T E P : Type 0} {r : Result T E} {k : ℤ} → IsCodeOf r k → OnOk r P → k ≡ pos 0 → P
-once_done {r = r} h p e = on_ok r p (h.done.0 e)
+pub once_ok : {T E P : Type 0} {r : Result T E} {k : ℤ} → IsCodeOf r k → OnOk r P → k ≡ pos 0 → P
+once_ok {r = r} h p e = on_ok r p (h.ok.0 e)
 
 -- the buffer `d` that was taken out of the string `old`, or made for it, and, changed to `n`, put back: the string is `s` then
 pub record Opened (old d : UnitString) (full : Bool) : Type 0 where
@@ -89,7 +88,7 @@ opened {old} {full = full} is u w m h =
 
 pub appended : {T E : Type 0} {r : Result T E} {k : ℤ} {old d n s : UnitString} {full : Bool} (us : List ℕ) → IsCodeOf r k
     → Opened old d full → s ≡ n → OnOk r (n.units ≡ d.units ++ us) → k ≡ pos 0 → s.units ≡ old.units ++ us
-appended us h o put ok e = ap (λ x. x.units) put ∙ once_done h ok e ∙ ap (λ x. x ++ us) o.units
+appended us h o put ok e = ap (λ x. x.units) put ∙ once_ok h ok e ∙ ap (λ x. x ++ us) o.units
 
 pub kept : {T E : Type 0} {r : Result T E} {k : ℤ} {old d n s : UnitString} {full : Bool} → IsCodeOf r k → Opened old d full
     → s ≡ n → OnErr r (KeepsContents d n) → k ≡ pos 1 → KeepsContents old s
@@ -97,16 +96,16 @@ kept {r = r} h o put err e =
     let same = on_err r err (h.memory.0 e) in
     record { units = ap (λ x. x.units) put ∙ same.units ∙ o.units; bytes = ap (λ x. x.bytes) put ∙ same.bytes ∙ o.bytes }
 
-pub kept_unless_done : {T E : Type 0} {r : Result T E} {k : ℤ} {old d n s : UnitString} {full : Bool} → IsCodeOf r k → Opened old d full
+pub kept_unless_ok : {T E : Type 0} {r : Result T E} {k : ℤ} {old d n s : UnitString} {full : Bool} → IsCodeOf r k → Opened old d full
     → s ≡ n → OnErr r (KeepsContents d n) → ¬ (k ≡ pos 0) → KeepsContents old s
-kept_unless_done {r = r} {k} h o put err not = elim (done_or_memory r k h) [
+kept_unless_ok {r = r} {k} h o put err not = elim (ok_or_no_memory r k h) [
   | inl e ↦ absurd (not e)
   | inr e ↦ kept h o put err e
 ]
 
 pub room : {T E : Type 0} {r : Result T E} {k : ℤ} {old d : UnitString} {full : Bool} (us : List ℕ) → IsCodeOf r k → Opened old d full
     → (HasRoomFor d us → IsOk r) → IsTrue full → HasRoomFor old us → k ≡ pos 0
-room us h o ok is fit = h.done.1 (ok (subst (λ x. HasRoomFor x us) (sym (o.held is)) fit))
+room us h o ok is fit = h.ok.1 (ok (subst (λ x. HasRoomFor x us) (sym (o.held is)) fit))
 
 pub capacity_kept : {old d n s : UnitString} {full : Bool} → Opened old d full → s ≡ n → d.capacity ≤ n.capacity
     → old.capacity ≤ s.capacity
@@ -119,27 +118,6 @@ kept_same same = record { units = ap (λ x. x.units) same; bytes = ap (λ x. x.b
 pub capacity_same : {old s : UnitString} → s ≡ old → old.capacity ≤ s.capacity
 capacity_same same = omega (arith, ap (λ x. x.capacity) same)
 
--- the part from `b` to before `e` of a list, and a slice of `n` items for it
+-- no number is both below another and not below it
 pub outside : {A : Type 0} {a b : ℕ} → a < b → b ≤ a → A
 outside l m = absurd (omega arith)
-
-pub part_length : (u : List ℕ) (b e : ℕ) → e ≤ length u → length (drop b (take e u)) ≡ e - b
-part_length u b e m = length-drop b (take e u) ∙ ap (λ k. k - b) (length-take-le e u m)
-
-pub rest_is : {b e : ℕ} → b ≤ e → b + (e - b) ≡ e
-rest_is l = omega arith
-
-pub too_short : (b e n : ℕ) → n < e - b → b + n < e
-too_short b e n l = omega arith
-
-pub long_enough : {A : Type 0} (b e n : ℕ) → e - b ≤ n → b + n < e → A
-long_enough b e n l m = absurd (omega arith)
-
--- the items `d` of a vector that was empty, `old`, before a call appended `s`
-pub copied : {T E : Type 0} {d items old s t : List ℕ} (r : Result T E) → d ≡ items → OnOk r (items ≡ old ++ s) → old ≡ []
-    → false ≡ is_err r → s ≡ t → d ≡ t
-copied {s = s} (Ok x) de ok none e part = de ∙ ok ∙ ap (λ x. x ++ s) none ∙ part
-copied (Err x) de ok none e part = cc
-
-pub over_front : {n s : List ℕ} (k : ℕ) (out : List ℕ) → n ≡ s → length s ≡ k → n ++ drop k out ≡ with_front s out
-over_front {s = s} k out is l = ap (λ x. x ++ drop k out) is ∙ ap (λ m. s ++ drop m out) (sym l)

@@ -7,13 +7,13 @@ use denote.RawPtr.{Ptr}
 use Rattle.std.specs.Box.Ownership.{box_owns}
 use Rattle.std.specs.contracts.alloc.Global as heap
 use Rattle.std.specs.contracts.impls.GlobalAllocator.TheImpl.{ghosts}
-use Rattle.wtf8.specs.contracts.strings.buf.Wtf8Buf as buf
+use Rattle.unit_text.specs.contracts.indexed.IndexedBuf as buf
 
 -- The type of the buffers that full strings own.
 abbrev pub Held : RattleType
 Held = buf.the_row heap.the_row ghosts
 
--- A full string owns what a `Box<Wtf8Buf<Global>>` at its pointer owns, an empty one nothing.
+-- A full string owns what a `Box<IndexedBuf<Global>>` at its pointer owns, an empty one nothing.
 abbrev pub string_owns : Bool → Ptr → Held.Denot → Fml
 string_owns full at s = elim full [
   | true ↦ box_owns (ghosts.dealloc_token (record { memory = record { seal = tt } })) Held at s

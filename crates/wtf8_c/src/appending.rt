@@ -1,11 +1,12 @@
 // Calls that append.
 ghost use Rattle.std.specs.Prelude.{◌≡◌, ◌++◌, ◌∷◌, [], ◌≤◌, ◌⊎◌, ◌↔◌, IsTrue};
 ghost use Rattle.std.specs.Str.{chars, IsUtf8};
+ghost use Rattle.std.specs.Str.Lossy.{utf8_valid_len};
 ghost use Rattle.wtf8.specs.Appending.{AppendsUnits, KeepsContents, HasRoomFor};
 ghost use Rattle.wtf8.specs.Unicode.{IsCodePoint, units, units_of};
 ghost use Rattle.wtf8_c.specs.Contents.{contents};
 
-use crate::codes::{DONE, MEMORY, NO_CODE_POINT, NO_UTF8, code_of};
+use crate::codes::{BAD_CODE_POINT, NO_MEMORY, NOT_UTF8, OK, code_of};
 use crate::handle::Wtf8String;
 use crate::opening::view;
 use std::alloc::Global;
@@ -15,14 +16,14 @@ use wtf8::CodePoint;
 /// Appends a unit. A trail after a lead completes the pair.
 #[unsafe(no_mangle)]
 pub extern "C" fn wtf8_push_unit(alloc: Global, string: &mut Wtf8String, unit: u16) -> i32
-    ensures code { (result ≡ DONE) ⊎ (result ≡ MEMORY) }
-    ensures done { result ≡ DONE → AppendsUnits (contents string.old) (unit ∷ []) (contents string.new) }
-    ensures kept { result ≡ MEMORY → KeepsContents (contents string.old) (contents string.new) }
-    ensures room { IsTrue string.old.full → HasRoomFor (contents string.old) (units_of unit) → result ≡ DONE }
+    ensures code { (result ≡ OK) ⊎ (result ≡ NO_MEMORY) }
+    ensures ok { result ≡ OK → AppendsUnits (contents string.old) (unit ∷ []) (contents string.new) }
+    ensures kept { result ≡ NO_MEMORY → KeepsContents (contents string.old) (contents string.new) }
+    ensures room { IsTrue string.old.full → HasRoomFor (contents string.old) (units_of unit) → result ≡ OK }
     ensures capacity { (contents string.old).capacity ≤ (contents string.new).capacity }
 {
     let Ok(mut buf) = string.open(alloc) else {
-        return MEMORY;
+        return NO_MEMORY;
     };
     let pushed = buf.push_unit(unit);
     string.put(buf);
@@ -32,18 +33,18 @@ pub extern "C" fn wtf8_push_unit(alloc: Global, string: &mut Wtf8String, unit: u
 /// Appends a code point.
 #[unsafe(no_mangle)]
 pub extern "C" fn wtf8_push_code_point(alloc: Global, string: &mut Wtf8String, value: u32) -> i32
-    ensures code { (result ≡ DONE) ⊎ ((result ≡ MEMORY) ⊎ (result ≡ NO_CODE_POINT)) }
-    ensures no_code_point { result ≡ NO_CODE_POINT ↔ ¬ (IsCodePoint value) }
-    ensures done { result ≡ DONE → AppendsUnits (contents string.old) (units_of value) (contents string.new) }
-    ensures kept { ¬ (result ≡ DONE) → KeepsContents (contents string.old) (contents string.new) }
-    ensures room { IsTrue string.old.full → IsCodePoint value → HasRoomFor (contents string.old) (units_of value) → result ≡ DONE }
+    ensures code { (result ≡ OK) ⊎ ((result ≡ NO_MEMORY) ⊎ (result ≡ BAD_CODE_POINT)) }
+    ensures bad_code_point { result ≡ BAD_CODE_POINT ↔ ¬ (IsCodePoint value) }
+    ensures ok { result ≡ OK → AppendsUnits (contents string.old) (units_of value) (contents string.new) }
+    ensures kept { ¬ (result ≡ OK) → KeepsContents (contents string.old) (contents string.new) }
+    ensures room { IsTrue string.old.full → IsCodePoint value → HasRoomFor (contents string.old) (units_of value) → result ≡ OK }
     ensures capacity { (contents string.old).capacity ≤ (contents string.new).capacity }
 {
     let Some(point) = CodePoint::from_u32(value) else {
-        return NO_CODE_POINT;
+        return BAD_CODE_POINT;
     };
     let Ok(mut buf) = string.open(alloc) else {
-        return MEMORY;
+        return NO_MEMORY;
     };
     let pushed = buf.push(point);
     string.put(buf);
@@ -53,35 +54,57 @@ pub extern "C" fn wtf8_push_code_point(alloc: Global, string: &mut Wtf8String, v
 /// Appends units.
 #[unsafe(no_mangle)]
 pub extern "C" fn wtf8_push_units(alloc: Global, string: &mut Wtf8String, units: &[u16]) -> i32
-    ensures code { (result ≡ DONE) ⊎ (result ≡ MEMORY) }
-    ensures done { result ≡ DONE → AppendsUnits (contents string.old) units.now (contents string.new) }
-    ensures kept { result ≡ MEMORY → KeepsContents (contents string.old) (contents string.new) }
-    ensures room { IsTrue string.old.full → HasRoomFor (contents string.old) units.now → result ≡ DONE }
+    ensures code { (result ≡ OK) ⊎ (result ≡ NO_MEMORY) }
+    ensures ok { result ≡ OK → AppendsUnits (contents string.old) units.now (contents string.new) }
+    ensures kept { result ≡ NO_MEMORY → KeepsContents (contents string.old) (contents string.new) }
+    ensures room { IsTrue string.old.full → HasRoomFor (contents string.old) units.now → result ≡ OK }
     ensures capacity { (contents string.old).capacity ≤ (contents string.new).capacity }
 {
     let Ok(mut buf) = string.open(alloc) else {
-        return MEMORY;
+        return NO_MEMORY;
     };
-    let pushed = buf.push_ill_formed_utf16(units);
+    let pushed = buf.push_units(units);
     string.put(buf);
     code_of(pushed)
 }
 
-/// Appends a text, which must be UTF-8.
+/// Appends a text, which must be UTF-8. If it is not, the length of its longest front that is UTF-8 is written to
+/// `valid`.
 #[unsafe(no_mangle)]
-pub extern "C" fn wtf8_push_utf8(alloc: Global, string: &mut Wtf8String, text: &[u8]) -> i32
-    ensures code { (result ≡ DONE) ⊎ ((result ≡ MEMORY) ⊎ (result ≡ NO_UTF8)) }
-    ensures no_utf8 { result ≡ NO_UTF8 ↔ ¬ (IsUtf8 text.now) }
-    ensures done { result ≡ DONE → AppendsUnits (contents string.old) (units (chars text.now)) (contents string.new) }
-    ensures kept { ¬ (result ≡ DONE) → KeepsContents (contents string.old) (contents string.new) }
-    ensures room { IsTrue string.old.full → IsUtf8 text.now → HasRoomFor (contents string.old) (units (chars text.now)) → result ≡ DONE }
+pub extern "C" fn wtf8_push_utf8(
+    alloc: Global,
+    string: &mut Wtf8String,
+    text: &[u8],
+    valid: &mut usize,
+) -> i32
+    ensures code { (result ≡ OK) ⊎ ((result ≡ NO_MEMORY) ⊎ (result ≡ NOT_UTF8)) }
+    ensures not_utf8 { result ≡ NOT_UTF8 ↔ ¬ (IsUtf8 text.now) }
+    ensures ok { result ≡ OK → AppendsUnits (contents string.old) (units (chars text.now)) (contents string.new) }
+    ensures kept { ¬ (result ≡ OK) → KeepsContents (contents string.old) (contents string.new) }
+    ensures room { IsTrue string.old.full → IsUtf8 text.now → HasRoomFor (contents string.old) (units (chars text.now)) → result ≡ OK }
+    ensures valid { result ≡ NOT_UTF8 → valid.new ≡ utf8_valid_len text.now }
+    ensures valid_kept { ¬ (result ≡ NOT_UTF8) → valid.new ≡ valid.old }
     ensures capacity { (contents string.old).capacity ≤ (contents string.new).capacity }
 {
-    let Ok(text) = str::from_utf8(text) else {
-        return NO_UTF8;
-    };
+    match str::from_utf8(text) {
+        Ok(text) => push_text(alloc, string, text),
+        Err(error) => {
+            *valid = error.valid_up_to();
+            NOT_UTF8
+        }
+    }
+}
+
+/// Appends a text.
+fn push_text(alloc: Global, string: &mut Wtf8String, text: &str) -> i32
+    ensures code { (result ≡ OK) ⊎ (result ≡ NO_MEMORY) }
+    ensures ok { result ≡ OK → AppendsUnits (contents string.old) (units (chars text.now)) (contents string.new) }
+    ensures kept { result ≡ NO_MEMORY → KeepsContents (contents string.old) (contents string.new) }
+    ensures room { IsTrue string.old.full → HasRoomFor (contents string.old) (units (chars text.now)) → result ≡ OK }
+    ensures capacity { (contents string.old).capacity ≤ (contents string.new).capacity }
+{
     let Ok(mut buf) = string.open(alloc) else {
-        return MEMORY;
+        return NO_MEMORY;
     };
     let pushed = buf.push_str(text);
     string.put(buf);
@@ -95,15 +118,15 @@ pub extern "C" fn wtf8_push_string(
     string: &mut Wtf8String,
     other: &mut Wtf8String,
 ) -> i32
-    ensures code { (result ≡ DONE) ⊎ (result ≡ MEMORY) }
-    ensures done { result ≡ DONE → AppendsUnits (contents string.old) (contents other.old).units (contents string.new) }
-    ensures kept { result ≡ MEMORY → KeepsContents (contents string.old) (contents string.new) }
+    ensures code { (result ≡ OK) ⊎ (result ≡ NO_MEMORY) }
+    ensures ok { result ≡ OK → AppendsUnits (contents string.old) (contents other.old).units (contents string.new) }
+    ensures kept { result ≡ NO_MEMORY → KeepsContents (contents string.old) (contents string.new) }
     ensures other { contents other.new ≡ contents other.old }
-    ensures room { IsTrue string.old.full → HasRoomFor (contents string.old) (contents other.old).units → result ≡ DONE }
+    ensures room { IsTrue string.old.full → HasRoomFor (contents string.old) (contents other.old).units → result ≡ OK }
     ensures capacity { (contents string.old).capacity ≤ (contents string.new).capacity }
 {
     let Ok(mut buf) = string.open(alloc) else {
-        return MEMORY;
+        return NO_MEMORY;
     };
     let held = other.take(alloc);
     let pushed = buf.push_wtf8(view(&held));

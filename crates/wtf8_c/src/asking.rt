@@ -1,19 +1,22 @@
 // Calls that change nothing.
-ghost use Rattle.std.specs.Prelude.{◌≡◌, ◌⊎◌, ◌≤◌, ◌↔◌, List, ℕ, IsTrue, Some, length};
+ghost use Rattle.std.specs.Prelude.{◌≡◌, ◌⊎◌, ◌-◌, ◌<◌, ◌≤◌, ◌↔◌, List, ℕ, IsTrue, Some, length, take};
 ghost use Rattle.std.specs.List.{slice_get};
 ghost use Rattle.wtf8.specs.Form.{Reads};
 ghost use Rattle.wtf8.specs.Order.{Before};
-ghost use Rattle.wtf8.specs.Position.{IsBoundary};
+ghost use Rattle.wtf8.specs.Position.{IsBoundary, IsFront};
 ghost use Rattle.wtf8.specs.Surrogates.{AreScalar};
-ghost use Rattle.wtf8_c.specs.Contents.{contents};
+ghost use Rattle.wtf8.specs.UnitPosition.{DividesPair};
+ghost use Rattle.unit_text.specs.Positions.{AreUnitsBefore};
+ghost use Rattle.wtf8_c.specs.Contents.{contents, buffer_contents};
 ghost use Rattle.wtf8_c.specs.Hashing.{hash_of};
 
-use crate::codes::{AFTER, BEFORE, DONE, POSITION, SAME};
+use crate::codes::{AFTER, BAD_POSITION, BEFORE, OK, SAME};
 use crate::handle::Wtf8String;
-use crate::opening::view;
+use crate::opening::{unit_len, view};
 use std::alloc::Global;
 use std::cmp::Ordering;
 use std::hash::{DefaultHasher, Hash, Hasher};
+use unit_text::IndexedBuf;
 
 /// The number of units.
 #[unsafe(no_mangle)]
@@ -22,7 +25,7 @@ pub extern "C" fn wtf8_unit_len(alloc: Global, string: &mut Wtf8String) -> usize
     ensures kept { contents string.new ≡ contents string.old }
 {
     let held = string.take(alloc);
-    let len = view(&held).unit_len();
+    let len = unit_len(&held);
     string.put_back(held);
     len
 }
@@ -39,6 +42,96 @@ pub extern "C" fn wtf8_byte_len(alloc: Global, string: &mut Wtf8String) -> usize
     len
 }
 
+/// The number of bytes that the string can have without a request for memory.
+#[unsafe(no_mangle)]
+pub extern "C" fn wtf8_capacity(alloc: Global, string: &mut Wtf8String) -> usize
+    ensures capacity { result ≡ (contents string.old).capacity }
+    ensures kept { contents string.new ≡ contents string.old }
+{
+    let held = string.take(alloc);
+    let capacity = capacity(&held);
+    string.put_back(held);
+    capacity
+}
+
+/// The capacity of the buffer, if there is one.
+fn capacity(held: &Option<Box<IndexedBuf<Global>, Global>>) -> usize
+    ensures { result ≡ (buffer_contents held.now).capacity }
+{
+    match held {
+        Some(buf) => buf.capacity(),
+        None => 0,
+    }
+}
+
+/// Writes the byte position of the boundary before the unit at `index` to `position`: of the pair, if that divides one.
+#[unsafe(no_mangle)]
+pub extern "C" fn wtf8_position_at(
+    alloc: Global,
+    string: &mut Wtf8String,
+    index: usize,
+    position: &mut usize,
+) -> i32
+    ensures code { (result ≡ OK) ⊎ (result ≡ BAD_POSITION) }
+    ensures position { result ≡ BAD_POSITION ↔ length (contents string.old).units < index }
+    ensures whole { result ≡ OK → ¬ (DividesPair (contents string.old).units index) → IsFront (contents string.old).units position.new (take index (contents string.old).units) }
+    ensures divided { result ≡ OK → DividesPair (contents string.old).units index → IsFront (contents string.old).units position.new (take (index - 1) (contents string.old).units) }
+    ensures position_kept { result ≡ BAD_POSITION → position.new ≡ position.old }
+    ensures kept { contents string.new ≡ contents string.old }
+{
+    let held = string.take(alloc);
+    if unit_len(&held) < index {
+        string.put_back(held);
+        return BAD_POSITION;
+    }
+    let found = find_position(alloc, &held, index);
+    string.put_back(held);
+    *position = found;
+    OK
+}
+
+/// The byte position of the boundary before the unit at `index` of the buffer's string.
+fn find_position(
+    alloc: Global,
+    held: &Option<Box<IndexedBuf<Global>, Global>>,
+    index: usize,
+) -> usize
+    requires { index ≤ length (buffer_contents held.now).units }
+    ensures whole { ¬ (DividesPair (buffer_contents held.now).units index) → IsFront (buffer_contents held.now).units result (take index (buffer_contents held.now).units) }
+    ensures divided { DividesPair (buffer_contents held.now).units index → IsFront (buffer_contents held.now).units result (take (index - 1) (buffer_contents held.now).units) }
+{
+    match held {
+        Some(buf) => buf.position_at(index),
+        None => IndexedBuf::new(alloc).position_at(index),
+    }
+}
+
+/// The number of units before the last boundary at or before a position in bytes; all units if it is after the end.
+#[unsafe(no_mangle)]
+pub extern "C" fn wtf8_unit_before(alloc: Global, string: &mut Wtf8String, position: usize) -> usize
+    ensures before { AreUnitsBefore (contents string.old).units position result }
+    ensures kept { contents string.new ≡ contents string.old }
+{
+    let held = string.take(alloc);
+    let index = count_before(alloc, &held, position);
+    string.put_back(held);
+    index
+}
+
+/// The number of units of the buffer's string before the last boundary at or before a position.
+fn count_before(
+    alloc: Global,
+    held: &Option<Box<IndexedBuf<Global>, Global>>,
+    position: usize,
+) -> usize
+    ensures { AreUnitsBefore (buffer_contents held.now).units position result }
+{
+    match held {
+        Some(buf) => buf.unit_before(position),
+        None => IndexedBuf::new(alloc).unit_before(position),
+    }
+}
+
 /// Writes the unit at an index to `unit`.
 #[unsafe(no_mangle)]
 pub extern "C" fn wtf8_unit_at(
@@ -47,21 +140,31 @@ pub extern "C" fn wtf8_unit_at(
     index: usize,
     unit: &mut u16,
 ) -> i32
-    ensures code { (result ≡ DONE) ⊎ (result ≡ POSITION) }
-    ensures position { result ≡ POSITION ↔ length (contents string.old).units ≤ index }
-    ensures done { result ≡ DONE → slice_get (contents string.old).units index ≡ Some unit.new }
-    ensures unit { result ≡ POSITION → unit.new ≡ unit.old }
+    ensures code { (result ≡ OK) ⊎ (result ≡ BAD_POSITION) }
+    ensures position { result ≡ BAD_POSITION ↔ length (contents string.old).units ≤ index }
+    ensures ok { result ≡ OK → slice_get (contents string.old).units index ≡ Some unit.new }
+    ensures unit { result ≡ BAD_POSITION → unit.new ≡ unit.old }
     ensures kept { contents string.new ≡ contents string.old }
 {
     let held = string.take(alloc);
-    let found = view(&held).unit_at(index);
+    let found = find_unit(&held, index);
     string.put_back(held);
     match found {
         Some(value) => {
             *unit = value;
-            DONE
+            OK
         }
-        None => POSITION,
+        None => BAD_POSITION,
+    }
+}
+
+/// The unit of the buffer's string at an index, if there is one.
+fn find_unit(held: &Option<Box<IndexedBuf<Global>, Global>>, index: usize) -> Option<u16>
+    ensures { result ≡ slice_get (buffer_contents held.now).units index }
+{
+    match held {
+        Some(buf) => buf.unit_at(index),
+        None => None,
     }
 }
 

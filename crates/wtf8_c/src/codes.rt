@@ -4,25 +4,25 @@ ghost use Rattle.std.specs.Prelude.{◌≡◌, IsOk, IsErr, ◌↔◌};
 use std::alloc::AllocError;
 
 /// The call did what it says.
-pub(crate) const DONE: i32 = 0;
+pub(crate) const OK: i32 = 0;
 
 /// A request for memory was refused.
-pub(crate) const MEMORY: i32 = 1;
+pub(crate) const NO_MEMORY: i32 = 1;
 
 /// The position is after the end or not a boundary, or the index is after the end.
-pub(crate) const POSITION: i32 = 2;
+pub(crate) const BAD_POSITION: i32 = 2;
 
 /// The array is too short.
-pub(crate) const TOO_SHORT: i32 = 3;
+pub(crate) const ARRAY_TOO_SHORT: i32 = 3;
 
 /// The string holds a surrogate.
-pub(crate) const SURROGATE: i32 = 4;
+pub(crate) const HAS_SURROGATE: i32 = 4;
 
 /// The number is not a code point.
-pub(crate) const NO_CODE_POINT: i32 = 5;
+pub(crate) const BAD_CODE_POINT: i32 = 5;
 
 /// The bytes are not UTF-8.
-pub(crate) const NO_UTF8: i32 = 6;
+pub(crate) const NOT_UTF8: i32 = 6;
 
 /// The first of two strings comes before the second.
 pub(crate) const BEFORE: i32 = -1;
@@ -35,11 +35,11 @@ pub(crate) const AFTER: i32 = 1;
 
 /// The code of a call that fails only if memory is refused.
 pub(crate) fn code_of(asked: Result<(), AllocError>) -> i32
-    ensures done { result ≡ DONE ↔ IsOk asked }
-    ensures memory { result ≡ MEMORY ↔ IsErr asked }
+    ensures ok { result ≡ OK ↔ IsOk asked }
+    ensures memory { result ≡ NO_MEMORY ↔ IsErr asked }
 {
     match asked {
-        Ok(()) => DONE,
-        Err(_) => MEMORY,
+        Ok(()) => OK,
+        Err(_) => NO_MEMORY,
     }
 }

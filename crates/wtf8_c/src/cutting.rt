@@ -1,29 +1,29 @@
 // Calls that shorten a string, and that copy a part of one.
-ghost use Rattle.std.specs.Prelude.{◌≡◌, [], ◌++◌, ◌⊎◌, ◌<◌, ◌≤◌, ◌↔◌, IfOk, OnOk, length, take, drop};
-ghost use Rattle.std.specs.Option.{option_to_list};
+ghost use Rattle.std.specs.Prelude.{◌≡◌, [], ◌⊎◌, ◌<◌, ◌≤◌, ◌↔◌, IfOk, length, take, drop};
 ghost use Rattle.wtf8.specs.Position.{IsBoundary, IsFront};
 ghost use Rattle.wtf8.specs.UnitPosition.{units_of_slice};
 ghost use Rattle.wtf8_c.specs.Contents.{contents, buffer_contents};
 
-use crate::codes::{DONE, MEMORY, POSITION};
+use crate::codes::{BAD_POSITION, NO_MEMORY, OK};
 use crate::handle::Wtf8String;
 use crate::making::replace;
-use crate::opening::view;
+use crate::opening::{unit_len, view};
 use std::alloc::{AllocError, Global};
-use wtf8::{UnitSlice, Wtf8Buf};
+use unit_text::IndexedBuf;
+use wtf8::{UnitSlice, Wtf8, Wtf8Buf};
 
 /// Shortens the string to `n` units.
 #[unsafe(no_mangle)]
 pub extern "C" fn wtf8_truncate_units(alloc: Global, string: &mut Wtf8String, n: usize) -> i32
-    ensures code { (result ≡ DONE) ⊎ (result ≡ POSITION) }
-    ensures position { result ≡ POSITION ↔ length (contents string.old).units < n }
-    ensures done { result ≡ DONE → (contents string.new).units ≡ take n (contents string.old).units }
-    ensures kept { result ≡ POSITION → contents string.new ≡ contents string.old }
+    ensures code { (result ≡ OK) ⊎ (result ≡ BAD_POSITION) }
+    ensures position { result ≡ BAD_POSITION ↔ length (contents string.old).units < n }
+    ensures ok { result ≡ OK → (contents string.new).units ≡ take n (contents string.old).units }
+    ensures kept { result ≡ BAD_POSITION → contents string.new ≡ contents string.old }
 {
     let held = string.take(alloc);
-    if view(&held).unit_len() < n {
+    if unit_len(&held) < n {
         string.put_back(held);
-        return POSITION;
+        return BAD_POSITION;
     }
     match held {
         Some(mut buf) => {
@@ -32,31 +32,35 @@ pub extern "C" fn wtf8_truncate_units(alloc: Global, string: &mut Wtf8String, n:
         }
         None => (),
     }
-    DONE
+    OK
 }
 
 /// Shortens the string to `position` bytes.
 #[unsafe(no_mangle)]
-pub extern "C" fn wtf8_truncate(alloc: Global, string: &mut Wtf8String, position: usize) -> i32
-    ensures code { (result ≡ DONE) ⊎ (result ≡ POSITION) }
-    ensures position { result ≡ POSITION ↔ ¬ (IsBoundary (contents string.old).units position) }
-    ensures done { result ≡ DONE → IsFront (contents string.old).units position (contents string.new).units }
-    ensures kept { result ≡ POSITION → contents string.new ≡ contents string.old }
+pub extern "C" fn wtf8_truncate_bytes(
+    alloc: Global,
+    string: &mut Wtf8String,
+    position: usize,
+) -> i32
+    ensures code { (result ≡ OK) ⊎ (result ≡ BAD_POSITION) }
+    ensures position { result ≡ BAD_POSITION ↔ ¬ (IsBoundary (contents string.old).units position) }
+    ensures ok { result ≡ OK → IsFront (contents string.old).units position (contents string.new).units }
+    ensures kept { result ≡ BAD_POSITION → contents string.new ≡ contents string.old }
 {
     let held = string.take(alloc);
     if !view(&held).is_code_point_boundary(position) {
         string.put_back(held);
-        return POSITION;
+        return BAD_POSITION;
     }
     string.put_back(truncated(held, position));
-    DONE
+    OK
 }
 
 /// Shortens the buffer's string to `position` bytes, if there is a buffer.
 fn truncated(
-    held: Option<Box<Wtf8Buf<Global>, Global>>,
+    held: Option<Box<IndexedBuf<Global>, Global>>,
     position: usize,
-) -> Option<Box<Wtf8Buf<Global>, Global>>
+) -> Option<Box<IndexedBuf<Global>, Global>>
     requires { IsBoundary (buffer_contents held).units position }
     ensures { IsFront (buffer_contents held).units position (buffer_contents result).units }
 {
@@ -73,58 +77,51 @@ fn truncated(
 #[unsafe(no_mangle)]
 pub extern "C" fn wtf8_slice_units(
     alloc: Global,
+    into: &mut Wtf8String,
     string: &mut Wtf8String,
     begin: usize,
     end: usize,
-    into: &mut Wtf8String,
 ) -> i32
-    ensures code { (result ≡ DONE) ⊎ ((result ≡ MEMORY) ⊎ (result ≡ POSITION)) }
-    ensures position { result ≡ POSITION ↔ ¬ ((begin ≤ end) × (end ≤ length (contents string.old).units)) }
-    ensures done { result ≡ DONE → (contents into.new).units ≡ drop begin (take end (contents string.old).units) }
-    ensures kept { ¬ (result ≡ DONE) → contents into.new ≡ contents into.old }
+    ensures code { (result ≡ OK) ⊎ ((result ≡ NO_MEMORY) ⊎ (result ≡ BAD_POSITION)) }
+    ensures position { result ≡ BAD_POSITION ↔ ¬ ((begin ≤ end) × (end ≤ length (contents string.old).units)) }
+    ensures ok { result ≡ OK → (contents into.new).units ≡ drop begin (take end (contents string.old).units) }
+    ensures kept { ¬ (result ≡ OK) → contents into.new ≡ contents into.old }
     ensures string { contents string.new ≡ contents string.old }
 {
     let held = string.take(alloc);
-    let text = view(&held);
-    if end < begin || text.unit_len() < end {
+    if end < begin || unit_len(&held) < end {
         string.put_back(held);
-        return POSITION;
+        return BAD_POSITION;
     }
-    let copied = copy_of_slice(alloc, text.slice_units(begin, end));
+    let copied = copy_of_slice(alloc, slice_of(&held, begin, end));
     string.put_back(held);
     match copied {
         Ok(made) => replace(alloc, into, made),
-        Err(_) => MEMORY,
+        Err(_) => NO_MEMORY,
+    }
+}
+
+/// The part of the buffer's string from unit `begin` to before unit `end`.
+fn slice_of(
+    held: &Option<Box<IndexedBuf<Global>, Global>>,
+    begin: usize,
+    end: usize,
+) -> UnitSlice<'_>
+    requires order { begin ≤ end }
+    requires within { end ≤ length (buffer_contents held.now).units }
+    ensures { units_of_slice result ≡ drop begin (take end (buffer_contents held.now).units) }
+{
+    match held {
+        Some(buf) => buf.slice_units(begin, end),
+        None => Wtf8::from_str("").slice_units(begin, end),
     }
 }
 
 /// A copy of a slice.
-fn copy_of_slice(alloc: Global, slice: UnitSlice<'_>) -> Result<Wtf8Buf<Global>, AllocError>
+fn copy_of_slice(alloc: Global, slice: UnitSlice<'_>) -> Result<IndexedBuf<Global>, AllocError>
     ensures { IfOk result (λ b. b.units ≡ units_of_slice slice.entry) }
 {
-    let mut units = Vec::new(alloc);
-    append_slice(slice, &mut units)?;
-    Wtf8Buf::from_ill_formed_utf16(alloc, &units)
-}
-
-/// Appends the units of a slice.
-pub(crate) fn append_slice(
-    slice: UnitSlice<'_>,
-    units: &mut Vec<u16, Global>,
-) -> Result<(), AllocError>
-    ensures { OnOk result (units.new.items ≡ units.old.items ++ units_of_slice slice.entry) }
-{
-    append_half(slice.trail, units)?;
-    slice.whole.append_units(units)?;
-    append_half(slice.lead, units)
-}
-
-/// Appends half of a surrogate pair, if there is one.
-fn append_half(half: Option<u16>, units: &mut Vec<u16, Global>) -> Result<(), AllocError>
-    ensures { OnOk result (units.new.items ≡ units.old.items ++ option_to_list half) }
-{
-    match half {
-        Some(unit) => Ok(units.push(unit)?),
-        None => Ok(()),
-    }
+    let mut made = Wtf8Buf::new(alloc);
+    made.push_unit_slice(slice)?;
+    Ok(IndexedBuf::from_buf(made))
 }

@@ -6,7 +6,7 @@ ghost use Rattle.wtf8_c.specs.Ownership.{held_coded};
 use crate::parts::Parts;
 use std::alloc::Global;
 use std::marker::Model;
-use wtf8::Wtf8Buf;
+use unit_text::IndexedBuf;
 
 /// A string of a C program: a buffer on the heap, or none if it has been empty since it was made. All bytes 0 are a
 /// string without a buffer.
@@ -33,20 +33,20 @@ impl Wtf8String {
     }
 
     /// Takes the pointer to the buffer out. The string has no buffer then.
-    pub(crate) fn take_parts(&mut self, alloc: Global) -> Parts<Wtf8Buf<Global>, Global>
+    pub(crate) fn take_parts(&mut self, alloc: Global) -> Parts<IndexedBuf<Global>, Global>
         requires { IsTrue self.old.full }
         ensures value { result.value ≡ self.old.string }
         ensures empty { IsFalse self.new.full }
     {
         self.full = false;
         Parts {
-            ptr: self.at as *mut Wtf8Buf<Global>,
+            ptr: self.at as *mut IndexedBuf<Global>,
             alloc,
         }
     }
 
     /// Puts the pointer to a buffer into a string that has none.
-    pub(crate) fn put_parts(&mut self, parts: Parts<Wtf8Buf<Global>, Global>)
+    pub(crate) fn put_parts(&mut self, parts: Parts<IndexedBuf<Global>, Global>)
         requires { IsFalse self.old.full }
         ensures full { IsTrue self.new.full }
         ensures value { self.new.string ≡ parts.value }

@@ -1,44 +1,65 @@
 // Calls that make a string and let it go.
-ghost use Rattle.std.specs.Prelude.{◌≡◌, [], ◌+◌, ◌≤◌, ◌⊎◌, ◌↔◌, IsTrue, IsFalse, length};
+ghost use Rattle.std.specs.Prelude.{◌≡◌, [], ◌+◌, ◌*◌, ◌≤◌, ◌⊎◌, ◌↔◌, IsTrue, IsFalse, length};
 ghost use Rattle.std.specs.Str.{chars, IsUtf8};
+ghost use Rattle.std.specs.Str.Lossy.{utf8_valid_len};
 ghost use Rattle.wtf8.specs.Appending.{KeepsContents};
 ghost use Rattle.wtf8.specs.Unicode.{units};
+ghost use Rattle.wtf8.specs.View.{view_units};
 ghost use Rattle.wtf8_c.specs.Contents.{contents, no_string};
 
-use crate::codes::{DONE, MEMORY, NO_UTF8, code_of};
+use crate::codes::{NO_MEMORY, NOT_UTF8, OK, code_of};
 use crate::handle::Wtf8String;
 use crate::opening::view;
 use std::alloc::Global;
 use std::str;
-use wtf8::Wtf8Buf;
+use unit_text::IndexedBuf;
+use wtf8::Wtf8;
 
 /// Replaces the units of the string.
 #[unsafe(no_mangle)]
 pub extern "C" fn wtf8_set_units(alloc: Global, string: &mut Wtf8String, units: &[u16]) -> i32
-    ensures code { (result ≡ DONE) ⊎ (result ≡ MEMORY) }
-    ensures done { result ≡ DONE → (contents string.new).units ≡ units.now }
-    ensures kept { result ≡ MEMORY → contents string.new ≡ contents string.old }
+    ensures code { (result ≡ OK) ⊎ (result ≡ NO_MEMORY) }
+    ensures ok { result ≡ OK → (contents string.new).units ≡ units.now }
+    ensures kept { result ≡ NO_MEMORY → contents string.new ≡ contents string.old }
+    ensures room { IsTrue string.old.full → 3 * length units.now ≤ (contents string.old).capacity → result ≡ OK }
 {
-    match Wtf8Buf::from_ill_formed_utf16(alloc, units) {
-        Ok(made) => replace(alloc, string, made),
-        Err(_) => MEMORY,
+    match string.take_if_fits(alloc, 3 * units.len()) {
+        Some(mut buf) => {
+            buf.clear();
+            let pushed = buf.push_units(units);
+            string.put(buf);
+            code_of(pushed)
+        }
+        None => match IndexedBuf::from_units(alloc, units) {
+            Ok(made) => replace(alloc, string, made),
+            Err(_) => NO_MEMORY,
+        },
     }
 }
 
-/// Replaces the string by a text, which must be UTF-8.
+/// Replaces the string by a text, which must be UTF-8. If it is not, the length of its longest front that is UTF-8 is
+/// written to `valid`.
 #[unsafe(no_mangle)]
-pub extern "C" fn wtf8_set_utf8(alloc: Global, string: &mut Wtf8String, text: &[u8]) -> i32
-    ensures code { (result ≡ DONE) ⊎ ((result ≡ MEMORY) ⊎ (result ≡ NO_UTF8)) }
-    ensures no_utf8 { result ≡ NO_UTF8 ↔ ¬ (IsUtf8 text.now) }
-    ensures done { result ≡ DONE → (contents string.new).units ≡ units (chars text.now) }
-    ensures kept { ¬ (result ≡ DONE) → contents string.new ≡ contents string.old }
+pub extern "C" fn wtf8_set_utf8(
+    alloc: Global,
+    string: &mut Wtf8String,
+    text: &[u8],
+    valid: &mut usize,
+) -> i32
+    ensures code { (result ≡ OK) ⊎ ((result ≡ NO_MEMORY) ⊎ (result ≡ NOT_UTF8)) }
+    ensures not_utf8 { result ≡ NOT_UTF8 ↔ ¬ (IsUtf8 text.now) }
+    ensures ok { result ≡ OK → (contents string.new).units ≡ units (chars text.now) }
+    ensures kept { ¬ (result ≡ OK) → contents string.new ≡ contents string.old }
+    ensures room { IsTrue string.old.full → IsUtf8 text.now → length text.now ≤ (contents string.old).capacity → result ≡ OK }
+    ensures valid { result ≡ NOT_UTF8 → valid.new ≡ utf8_valid_len text.now }
+    ensures valid_kept { ¬ (result ≡ NOT_UTF8) → valid.new ≡ valid.old }
 {
-    let Ok(text) = str::from_utf8(text) else {
-        return NO_UTF8;
-    };
-    match Wtf8Buf::from_str(alloc, text) {
-        Ok(made) => replace(alloc, string, made),
-        Err(_) => MEMORY,
+    match str::from_utf8(text) {
+        Ok(text) => set_view(alloc, string, Wtf8::from_str(text)),
+        Err(error) => {
+            *valid = error.valid_up_to();
+            NOT_UTF8
+        }
     }
 }
 
@@ -49,18 +70,39 @@ pub extern "C" fn wtf8_set_string(
     string: &mut Wtf8String,
     other: &mut Wtf8String,
 ) -> i32
-    ensures code { (result ≡ DONE) ⊎ (result ≡ MEMORY) }
-    ensures done { result ≡ DONE → (contents string.new).units ≡ (contents other.old).units }
-    ensures kept { result ≡ MEMORY → contents string.new ≡ contents string.old }
+    ensures code { (result ≡ OK) ⊎ (result ≡ NO_MEMORY) }
+    ensures ok { result ≡ OK → (contents string.new).units ≡ (contents other.old).units }
+    ensures kept { result ≡ NO_MEMORY → contents string.new ≡ contents string.old }
+    ensures room { IsTrue string.old.full → length (contents other.old).bytes ≤ (contents string.old).capacity → result ≡ OK }
     ensures other { contents other.new ≡ contents other.old }
 {
     let held = other.take(alloc);
-    let mut made = Wtf8Buf::new(alloc);
-    let copied = made.push_wtf8(view(&held));
+    let code = set_view(alloc, string, view(&held));
     other.put_back(held);
-    match copied {
-        Ok(()) => replace(alloc, string, made),
-        Err(_) => MEMORY,
+    code
+}
+
+/// Replaces the string by a copy of a view, in the buffer's capacity if it fits.
+pub(crate) fn set_view(alloc: Global, string: &mut Wtf8String, view: Wtf8<'_>) -> i32
+    ensures code { (result ≡ OK) ⊎ (result ≡ NO_MEMORY) }
+    ensures ok { result ≡ OK → (contents string.new).units ≡ view_units view.entry }
+    ensures kept { result ≡ NO_MEMORY → contents string.new ≡ contents string.old }
+    ensures room { IsTrue string.old.full → length view.entry.bytes.now ≤ (contents string.old).capacity → result ≡ OK }
+{
+    match string.take_if_fits(alloc, view.len()) {
+        Some(mut buf) => {
+            buf.clear();
+            let pushed = buf.push_wtf8(view);
+            string.put(buf);
+            code_of(pushed)
+        }
+        None => {
+            let mut made = IndexedBuf::new(alloc);
+            match made.push_wtf8(view) {
+                Ok(()) => replace(alloc, string, made),
+                Err(_) => NO_MEMORY,
+            }
+        }
     }
 }
 
@@ -71,9 +113,9 @@ pub extern "C" fn wtf8_clear(alloc: Global, string: &mut Wtf8String)
     ensures capacity { (contents string.new).capacity ≡ (contents string.old).capacity }
 {
     match string.take(alloc) {
-        Some(mut buf) => {
-            buf.clear();
-            string.put(buf);
+        Some(mut emptied) => {
+            emptied.clear();
+            string.put(emptied);
         }
         None => (),
     }
@@ -90,32 +132,52 @@ pub extern "C" fn wtf8_free(alloc: Global, string: &mut Wtf8String)
 
 /// Reserves capacity for at least `additional` more bytes.
 #[unsafe(no_mangle)]
-pub extern "C" fn wtf8_reserve(alloc: Global, string: &mut Wtf8String, additional: usize) -> i32
-    ensures code { (result ≡ DONE) ⊎ (result ≡ MEMORY) }
-    ensures done { result ≡ DONE → length (contents string.new).bytes + additional ≤ (contents string.new).capacity }
+pub extern "C" fn wtf8_reserve_bytes(
+    alloc: Global,
+    string: &mut Wtf8String,
+    additional: usize,
+) -> i32
+    ensures code { (result ≡ OK) ⊎ (result ≡ NO_MEMORY) }
+    ensures ok { result ≡ OK → length (contents string.new).bytes + additional ≤ (contents string.new).capacity }
     ensures kept { KeepsContents (contents string.old) (contents string.new) }
-    ensures room { IsTrue string.old.full → length (contents string.old).bytes + additional ≤ (contents string.old).capacity → result ≡ DONE }
+    ensures room { IsTrue string.old.full → length (contents string.old).bytes + additional ≤ (contents string.old).capacity → result ≡ OK }
     ensures capacity { (contents string.old).capacity ≤ (contents string.new).capacity }
 {
     let Ok(mut buf) = string.open(alloc) else {
-        return MEMORY;
+        return NO_MEMORY;
     };
     let reserved = buf.reserve(additional);
     string.put(buf);
     code_of(reserved)
 }
 
+/// Keeps marks of the string, from which its units are found. A mark without memory is left out.
+#[unsafe(no_mangle)]
+pub extern "C" fn wtf8_mark(alloc: Global, string: &mut Wtf8String) -> i32
+    ensures code { (result ≡ OK) ⊎ (result ≡ NO_MEMORY) }
+    ensures kept { KeepsContents (contents string.old) (contents string.new) }
+    ensures full { IsTrue string.old.full → result ≡ OK }
+    ensures capacity { (contents string.old).capacity ≤ (contents string.new).capacity }
+{
+    let Ok(mut marked) = string.open(alloc) else {
+        return NO_MEMORY;
+    };
+    marked.mark_units(alloc);
+    string.put(marked);
+    OK
+}
+
 /// Replaces the string's buffer.
-pub(crate) fn replace(alloc: Global, string: &mut Wtf8String, made: Wtf8Buf<Global>) -> i32
-    ensures code { (result ≡ DONE) ⊎ (result ≡ MEMORY) }
-    ensures done { result ≡ DONE → contents string.new ≡ made }
-    ensures kept { result ≡ MEMORY → contents string.new ≡ contents string.old }
+pub(crate) fn replace(alloc: Global, string: &mut Wtf8String, made: IndexedBuf<Global>) -> i32
+    ensures code { (result ≡ OK) ⊎ (result ≡ NO_MEMORY) }
+    ensures ok { result ≡ OK → contents string.new ≡ made }
+    ensures kept { result ≡ NO_MEMORY → contents string.new ≡ contents string.old }
 {
     let Ok(buf) = Box::new(alloc, made) else {
-        return MEMORY;
+        return NO_MEMORY;
     };
     let replaced = string.take(alloc);
     drop(replaced);
     string.put(buf);
-    DONE
+    OK
 }

@@ -1,16 +1,17 @@
 // The buffer of a string, taken out for a call and put back.
-ghost use Rattle.std.specs.Prelude.{◌≡◌, [], ◌≤◌, IsTrue, IsFalse, IsOk, IfOk, OnOk, OnErr};
+ghost use Rattle.std.specs.Prelude.{◌≡◌, [], ◌≤◌, IsTrue, IsFalse, IsOk, IfOk, OnOk, OnErr, IfSome, IsSome, IsNone, length};
 ghost use Rattle.wtf8.specs.View.{view_points, view_units};
 ghost use Rattle.wtf8_c.specs.Contents.{contents, buffer_contents};
 
 use crate::handle::Wtf8String;
 use crate::parts::Parts;
 use std::alloc::{AllocError, Global};
-use wtf8::{Wtf8, Wtf8Buf};
+use unit_text::IndexedBuf;
+use wtf8::Wtf8;
 
 impl Wtf8String {
     /// Takes the buffer out, if there is one.
-    pub(crate) fn take(&mut self, alloc: Global) -> Option<Box<Wtf8Buf<Global>, Global>>
+    pub(crate) fn take(&mut self, alloc: Global) -> Option<Box<IndexedBuf<Global>, Global>>
         ensures contents { buffer_contents result ≡ contents self.old }
         ensures empty { IsFalse self.new.full }
     {
@@ -21,8 +22,31 @@ impl Wtf8String {
         }
     }
 
+    /// Takes the buffer out if there is one, with a capacity of at least `n` bytes.
+    pub(crate) fn take_if_fits(
+        &mut self,
+        alloc: Global,
+        n: usize,
+    ) -> Option<Box<IndexedBuf<Global>, Global>>
+        ensures contents { IfSome result (λ b. b.value ≡ contents self.old) }
+        ensures fits { IfSome result (λ b. n ≤ b.value.capacity) }
+        ensures empty { IsSome result → IsFalse self.new.full }
+        ensures kept { IsNone result → contents self.new ≡ contents self.old }
+        ensures room { IsTrue self.old.full → n ≤ (contents self.old).capacity → IsSome result }
+    {
+        if !self.is_full() {
+            return None;
+        }
+        let buf = self.take_parts(alloc).into_box();
+        if buf.capacity() < n {
+            self.put(buf);
+            return None;
+        }
+        Some(buf)
+    }
+
     /// Puts back what `take` returned.
-    pub(crate) fn put_back(&mut self, held: Option<Box<Wtf8Buf<Global>, Global>>)
+    pub(crate) fn put_back(&mut self, held: Option<Box<IndexedBuf<Global>, Global>>)
         requires { IsFalse self.old.full }
         ensures { contents self.new ≡ buffer_contents held }
     {
@@ -33,7 +57,10 @@ impl Wtf8String {
     }
 
     /// Takes the buffer out, or makes one if there is none.
-    pub(crate) fn open(&mut self, alloc: Global) -> Result<Box<Wtf8Buf<Global>, Global>, AllocError>
+    pub(crate) fn open(
+        &mut self,
+        alloc: Global,
+    ) -> Result<Box<IndexedBuf<Global>, Global>, AllocError>
         ensures units { IfOk result (λ b. b.value.units ≡ (contents self.old).units) }
         ensures bytes { IfOk result (λ b. b.value.bytes ≡ (contents self.old).bytes) }
         ensures capacity { IfOk result (λ b. (contents self.old).capacity ≤ b.value.capacity) }
@@ -45,11 +72,11 @@ impl Wtf8String {
         if self.is_full() {
             return Ok(self.take_parts(alloc).into_box());
         }
-        Ok(Box::new(alloc, Wtf8Buf::new(alloc))?)
+        Ok(Box::new(alloc, IndexedBuf::new(alloc))?)
     }
 
     /// Puts a buffer into a string that has none.
-    pub(crate) fn put(&mut self, buf: Box<Wtf8Buf<Global>, Global>)
+    pub(crate) fn put(&mut self, buf: Box<IndexedBuf<Global>, Global>)
         requires { IsFalse self.old.full }
         ensures contents { contents self.new ≡ buf.value }
         ensures full { IsTrue self.new.full }
@@ -59,7 +86,7 @@ impl Wtf8String {
 }
 
 /// A view of the buffer's string, or of the empty one if there is no buffer.
-pub(crate) fn view(held: &Option<Box<Wtf8Buf<Global>, Global>>) -> Wtf8<'_>
+pub(crate) fn view(held: &Option<Box<IndexedBuf<Global>, Global>>) -> Wtf8<'_>
     ensures units { view_units result ≡ (buffer_contents held.now).units }
     ensures points { view_points result ≡ (buffer_contents held.now).form.points }
     ensures bytes { result.bytes.now ≡ (buffer_contents held.now).bytes }
@@ -67,5 +94,15 @@ pub(crate) fn view(held: &Option<Box<Wtf8Buf<Global>, Global>>) -> Wtf8<'_>
     match held {
         Some(buf) => buf.as_wtf8(),
         None => Wtf8::from_str(""),
+    }
+}
+
+/// The number of units of the buffer's string, or 0 if there is no buffer. Constant.
+pub(crate) fn unit_len(held: &Option<Box<IndexedBuf<Global>, Global>>) -> usize
+    ensures { result ≡ length (buffer_contents held.now).units }
+{
+    match held {
+        Some(buf) => buf.unit_len(),
+        None => 0,
     }
 }

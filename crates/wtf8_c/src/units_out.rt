@@ -2,15 +2,14 @@
 ghost use Rattle.std.specs.Prelude.{◌≡◌, ◌⊎◌, ◌+◌, ◌<◌, ◌≤◌, ◌↔◌, length, take, drop};
 ghost use Rattle.wtf8.specs.Form.{bytes};
 ghost use Rattle.wtf8.specs.Surrogates.{AreScalar, lossy_points};
-ghost use Rattle.wtf8_c.specs.Contents.{contents};
+ghost use Rattle.wtf8_c.specs.Contents.{contents, buffer_contents};
 ghost use Rattle.wtf8_c.specs.Front.{with_front};
 
-use crate::codes::{DONE, MEMORY, POSITION, SURROGATE, TOO_SHORT};
-use crate::cutting::append_slice;
+use crate::codes::{ARRAY_TOO_SHORT, BAD_POSITION, HAS_SURROGATE, NO_MEMORY, OK};
 use crate::handle::Wtf8String;
-use crate::opening::view;
+use crate::opening::{unit_len, view};
 use std::alloc::Global;
-use wtf8::laws;
+use unit_text::IndexedBuf;
 
 /// Writes all units at the front of `out`, and their number to `len`.
 #[unsafe(no_mangle)]
@@ -20,33 +19,17 @@ pub extern "C" fn wtf8_copy_units(
     out: &mut [u16],
     len: &mut usize,
 ) -> i32
-    ensures code { (result ≡ DONE) ⊎ ((result ≡ MEMORY) ⊎ (result ≡ TOO_SHORT)) }
-    ensures short { result ≡ TOO_SHORT ↔ length out.old < length (contents string.old).units }
-    ensures done { result ≡ DONE → out.new ≡ with_front (contents string.old).units out.old }
-    ensures out { ¬ (result ≡ DONE) → out.new ≡ out.old }
-    ensures len { ¬ (result ≡ MEMORY) → len.new ≡ length (contents string.old).units }
-    ensures len_kept { result ≡ MEMORY → len.new ≡ len.old }
+    ensures code { (result ≡ OK) ⊎ (result ≡ ARRAY_TOO_SHORT) }
+    ensures short { result ≡ ARRAY_TOO_SHORT ↔ length out.old < length (contents string.old).units }
+    ensures ok { result ≡ OK → out.new ≡ with_front (contents string.old).units out.old }
+    ensures out { ¬ (result ≡ OK) → out.new ≡ out.old }
+    ensures len { len.new ≡ length (contents string.old).units }
     ensures kept { contents string.new ≡ contents string.old }
 {
     let held = string.take(alloc);
-    let text = view(&held);
-    laws::law_view_lengths(text);
-    // There are no more units than bytes: an array of as many units as bytes is long enough, and nothing is counted.
-    if out.len() < text.len() && out.len() < text.unit_len() {
-        let needed = text.unit_len();
-        string.put_back(held);
-        *len = needed;
-        return TOO_SHORT;
-    }
-    let mut units = Vec::new(alloc);
-    let copied = text.append_units(&mut units);
+    let code = write_units(&held, out, len);
     string.put_back(held);
-    if copied.is_err() {
-        return MEMORY;
-    }
-    *len = units.len();
-    out[..units.len()].copy_from_slice(&units);
-    DONE
+    code
 }
 
 /// Writes the units from index `begin` to before `end` at the front of `out`, and their number to `len`.
@@ -59,36 +42,23 @@ pub extern "C" fn wtf8_copy_slice(
     out: &mut [u16],
     len: &mut usize,
 ) -> i32
-    ensures code { (result ≡ DONE) ⊎ ((result ≡ MEMORY) ⊎ ((result ≡ POSITION) ⊎ (result ≡ TOO_SHORT))) }
-    ensures position { result ≡ POSITION ↔ ¬ ((begin ≤ end) × (end ≤ length (contents string.old).units)) }
-    ensures short { result ≡ TOO_SHORT ↔ (begin ≤ end) × (end ≤ length (contents string.old).units) × (begin + length out.old < end) }
-    ensures done { result ≡ DONE → out.new ≡ with_front (drop begin (take end (contents string.old).units)) out.old }
-    ensures out { ¬ (result ≡ DONE) → out.new ≡ out.old }
-    ensures len { (result ≡ DONE) ⊎ (result ≡ TOO_SHORT) → begin + len.new ≡ end }
-    ensures len_kept { (result ≡ MEMORY) ⊎ (result ≡ POSITION) → len.new ≡ len.old }
+    ensures code { (result ≡ OK) ⊎ ((result ≡ BAD_POSITION) ⊎ (result ≡ ARRAY_TOO_SHORT)) }
+    ensures position { result ≡ BAD_POSITION ↔ ¬ ((begin ≤ end) × (end ≤ length (contents string.old).units)) }
+    ensures short { result ≡ ARRAY_TOO_SHORT ↔ (begin ≤ end) × (end ≤ length (contents string.old).units) × (begin + length out.old < end) }
+    ensures ok { result ≡ OK → out.new ≡ with_front (drop begin (take end (contents string.old).units)) out.old }
+    ensures out { ¬ (result ≡ OK) → out.new ≡ out.old }
+    ensures len { ¬ (result ≡ BAD_POSITION) → begin + len.new ≡ end }
+    ensures len_kept { result ≡ BAD_POSITION → len.new ≡ len.old }
     ensures kept { contents string.new ≡ contents string.old }
 {
     let held = string.take(alloc);
-    let text = view(&held);
-    if end < begin || text.unit_len() < end {
+    if end < begin || unit_len(&held) < end {
         string.put_back(held);
-        return POSITION;
+        return BAD_POSITION;
     }
-    let needed = end - begin;
-    if out.len() < needed {
-        string.put_back(held);
-        *len = needed;
-        return TOO_SHORT;
-    }
-    let mut units = Vec::new(alloc);
-    let copied = append_slice(text.slice_units(begin, end), &mut units);
+    let code = write_part(&held, begin, end, out, len);
     string.put_back(held);
-    if copied.is_err() {
-        return MEMORY;
-    }
-    *len = needed;
-    out[..needed].copy_from_slice(&units);
-    DONE
+    code
 }
 
 /// Writes the text at the front of `out` in UTF-8, and its length in bytes to `len`, if the string holds no surrogate.
@@ -99,19 +69,19 @@ pub extern "C" fn wtf8_copy_utf8(
     out: &mut [u8],
     len: &mut usize,
 ) -> i32
-    ensures code { (result ≡ DONE) ⊎ ((result ≡ SURROGATE) ⊎ (result ≡ TOO_SHORT)) }
-    ensures surrogate { result ≡ SURROGATE ↔ ¬ (AreScalar (contents string.old).form.points) }
-    ensures short { result ≡ TOO_SHORT ↔ AreScalar (contents string.old).form.points × (length out.old < length (contents string.old).bytes) }
-    ensures done { result ≡ DONE → out.new ≡ with_front (contents string.old).bytes out.old }
-    ensures out { ¬ (result ≡ DONE) → out.new ≡ out.old }
-    ensures len { ¬ (result ≡ SURROGATE) → len.new ≡ length (contents string.old).bytes }
-    ensures len_kept { result ≡ SURROGATE → len.new ≡ len.old }
+    ensures code { (result ≡ OK) ⊎ ((result ≡ HAS_SURROGATE) ⊎ (result ≡ ARRAY_TOO_SHORT)) }
+    ensures surrogate { result ≡ HAS_SURROGATE ↔ ¬ (AreScalar (contents string.old).form.points) }
+    ensures short { result ≡ ARRAY_TOO_SHORT ↔ AreScalar (contents string.old).form.points × (length out.old < length (contents string.old).bytes) }
+    ensures ok { result ≡ OK → out.new ≡ with_front (contents string.old).bytes out.old }
+    ensures out { ¬ (result ≡ OK) → out.new ≡ out.old }
+    ensures len { ¬ (result ≡ HAS_SURROGATE) → len.new ≡ length (contents string.old).bytes }
+    ensures len_kept { result ≡ HAS_SURROGATE → len.new ≡ len.old }
     ensures kept { contents string.new ≡ contents string.old }
 {
     let held = string.take(alloc);
     let code = match view(&held).as_str() {
         Some(text) => write_text(text.as_bytes(), out, len),
-        None => SURROGATE,
+        None => HAS_SURROGATE,
     };
     string.put_back(held);
     code
@@ -125,13 +95,13 @@ pub extern "C" fn wtf8_copy_lossy(
     out: &mut [u8],
     len: &mut usize,
 ) -> i32
-    ensures code { (result ≡ DONE) ⊎ ((result ≡ MEMORY) ⊎ (result ≡ TOO_SHORT)) }
-    ensures granted { AreScalar (contents string.old).form.points → ¬ (result ≡ MEMORY) }
-    ensures short { result ≡ TOO_SHORT ↔ length out.old < length (contents string.old).bytes }
-    ensures done { result ≡ DONE → out.new ≡ with_front (bytes (lossy_points (contents string.old).form.points)) out.old }
-    ensures out { ¬ (result ≡ DONE) → out.new ≡ out.old }
-    ensures len { ¬ (result ≡ MEMORY) → len.new ≡ length (contents string.old).bytes }
-    ensures len_kept { result ≡ MEMORY → len.new ≡ len.old }
+    ensures code { (result ≡ OK) ⊎ ((result ≡ NO_MEMORY) ⊎ (result ≡ ARRAY_TOO_SHORT)) }
+    ensures granted { AreScalar (contents string.old).form.points → ¬ (result ≡ NO_MEMORY) }
+    ensures short { result ≡ ARRAY_TOO_SHORT ↔ length out.old < length (contents string.old).bytes }
+    ensures ok { result ≡ OK → out.new ≡ with_front (bytes (lossy_points (contents string.old).form.points)) out.old }
+    ensures out { ¬ (result ≡ OK) → out.new ≡ out.old }
+    ensures len { ¬ (result ≡ NO_MEMORY) → len.new ≡ length (contents string.old).bytes }
+    ensures len_kept { result ≡ NO_MEMORY → len.new ≡ len.old }
     ensures kept { contents string.new ≡ contents string.old }
 {
     let held = string.take(alloc);
@@ -141,11 +111,11 @@ pub extern "C" fn wtf8_copy_lossy(
     if out.len() < needed {
         string.put_back(held);
         *len = needed;
-        return TOO_SHORT;
+        return ARRAY_TOO_SHORT;
     }
     let code = match text.to_string_lossy(alloc) {
         Ok(lossy) => write_text(lossy.as_str().as_bytes(), out, len),
-        Err(_) => MEMORY,
+        Err(_) => NO_MEMORY,
     };
     string.put_back(held);
     code
@@ -153,16 +123,65 @@ pub extern "C" fn wtf8_copy_lossy(
 
 /// Writes a text at the front of `out` if it fits, and its length in any case.
 fn write_text(text: &[u8], out: &mut [u8], len: &mut usize) -> i32
-    ensures code { (result ≡ DONE) ⊎ (result ≡ TOO_SHORT) }
-    ensures short { result ≡ TOO_SHORT ↔ length out.old < length text.now }
-    ensures done { result ≡ DONE → out.new ≡ with_front text.now out.old }
-    ensures out { result ≡ TOO_SHORT → out.new ≡ out.old }
+    ensures code { (result ≡ OK) ⊎ (result ≡ ARRAY_TOO_SHORT) }
+    ensures short { result ≡ ARRAY_TOO_SHORT ↔ length out.old < length text.now }
+    ensures ok { result ≡ OK → out.new ≡ with_front text.now out.old }
+    ensures out { result ≡ ARRAY_TOO_SHORT → out.new ≡ out.old }
     ensures len { len.new ≡ length text.now }
 {
     *len = text.len();
     if out.len() < text.len() {
-        return TOO_SHORT;
+        return ARRAY_TOO_SHORT;
     }
     out[..text.len()].copy_from_slice(text);
-    DONE
+    OK
+}
+
+/// Writes the units of the buffer's string at the front of `out` if they fit, and their number in any case.
+fn write_units(
+    held: &Option<Box<IndexedBuf<Global>, Global>>,
+    out: &mut [u16],
+    len: &mut usize,
+) -> i32
+    ensures code { (result ≡ OK) ⊎ (result ≡ ARRAY_TOO_SHORT) }
+    ensures short { result ≡ ARRAY_TOO_SHORT ↔ length out.old < length (buffer_contents held.now).units }
+    ensures ok { result ≡ OK → out.new ≡ with_front (buffer_contents held.now).units out.old }
+    ensures out { ¬ (result ≡ OK) → out.new ≡ out.old }
+    ensures len { len.new ≡ length (buffer_contents held.now).units }
+{
+    let needed = unit_len(held);
+    *len = needed;
+    if out.len() < needed {
+        return ARRAY_TOO_SHORT;
+    }
+    view(held).write_units(out);
+    OK
+}
+
+/// Writes the units from index `begin` to before `end` at the front of `out` if they fit, and their number in any case.
+fn write_part(
+    held: &Option<Box<IndexedBuf<Global>, Global>>,
+    begin: usize,
+    end: usize,
+    out: &mut [u16],
+    len: &mut usize,
+) -> i32
+    requires order { begin ≤ end }
+    requires within { end ≤ length (buffer_contents held.now).units }
+    ensures code { (result ≡ OK) ⊎ (result ≡ ARRAY_TOO_SHORT) }
+    ensures short { result ≡ ARRAY_TOO_SHORT ↔ begin + length out.old < end }
+    ensures ok { result ≡ OK → out.new ≡ with_front (drop begin (take end (buffer_contents held.now).units)) out.old }
+    ensures out { ¬ (result ≡ OK) → out.new ≡ out.old }
+    ensures len { begin + len.new ≡ end }
+{
+    let needed = end - begin;
+    *len = needed;
+    if out.len() < needed {
+        return ARRAY_TOO_SHORT;
+    }
+    match held {
+        Some(buf) => buf.copy_units(begin, end, out),
+        None => (),
+    }
+    OK
 }

@@ -1,16 +1,16 @@
 use Rattle.std.proofs.Common.{refl, inl, inr, arith, le_refl, to_z, of_z, w32}
 use Rattle.std.proofs.lemmas.Bool.{false≢true}
 use Rattle.wtf8_c.specs.Contents.{contents}
-use Rattle.wtf8_c.proofs.Outcomes.{other_code, IsCodeOf, returned, done_or_memory, no_greater, or_third, Opened, opened, appended}
-use Rattle.wtf8_c.proofs.Outcomes.{kept_unless_done}
+use Rattle.wtf8_c.proofs.Outcomes.{other_code, IsCodeOf, returned, ok_or_no_memory, no_greater, or_third, Opened, opened, appended}
+use Rattle.wtf8_c.proofs.Outcomes.{kept_unless_ok}
 use Rattle.wtf8_c.proofs.Outcomes.{kept_same, room, capacity_kept, capacity_same}
 use Rattle.wtf8_c.proofs.appending.wtf8_push_code_point.Goals as goal
 
 pub returns-in_default : goal.returns-in_default
 returns-in_default c = record {
   code = inr (inr refl);
-  no_code_point = (λ _ is. false≢true (c.in_default.ensures.some.1 is), λ _. refl);
-  done = other_code _ _ refl;
+  bad_code_point = (λ _ is. false≢true (c.in_default.ensures.some.1 is), λ _. refl);
+  ok = other_code _ _ refl;
   kept = λ _. kept_same refl;
   room = λ _ is _. absurd (false≢true (c.in_default.ensures.some.1 is));
   capacity = le_refl _;
@@ -19,33 +19,33 @@ returns-in_default c = record {
 pub returns-in_default-open : goal.returns-in_default-open
 returns-in_default-open c = record {
   code = inr (inl refl);
-  no_code_point = (other_code _ _ refl, λ not. absurd (not (c.in-Some.ensures.some.0 refl)));
-  done = other_code _ _ refl;
+  bad_code_point = (other_code _ _ refl, λ not. absurd (not (c.in-Some.ensures.some.0 refl)));
+  ok = other_code _ _ refl;
   kept = λ _. kept_same c.in_default-open.ensures.kept;
   room = λ full _ _. absurd (false≢true (c.in_default-open.ensures.full full));
   capacity = capacity_same c.in_default-open.ensures.kept;
 }
 
 code : (c : goal.After-code_of) → IsCodeOf c.push-pushed.result (to_z w32 (of_z w32 c.code_of.result))
-code c = returned c.code_of.type_inv c.code_of.ensures.done c.code_of.ensures.memory
+code c = returned c.code_of.type_inv c.code_of.ensures.ok c.code_of.ensures.memory
 
 taken : (c : goal.After-code_of) → Opened (contents c.args.string.now) c.deref_mut.result.now c.args.string.now.full
 taken c =
     opened c.deref_mut.ensures.value c.in-Ok.ensures.units c.in-Ok.ensures.bytes c.in-Ok.ensures.capacity c.in-Ok.ensures.held
 
 pub returns-clause-code : goal.returns-clause-code
-returns-clause-code c = or_third (done_or_memory _ _ (code c))
+returns-clause-code c = or_third (ok_or_no_memory _ _ (code c))
 
-pub returns-clause-no_code_point : goal.returns-clause-no_code_point
-returns-clause-no_code_point c =
-    (no_greater 5 (omega arith) (done_or_memory _ _ (code c)), λ not. absurd (not (c.in-Some.ensures.some.0 refl)))
+pub returns-clause-bad_code_point : goal.returns-clause-bad_code_point
+returns-clause-bad_code_point c =
+    (no_greater 5 (omega arith) (ok_or_no_memory _ _ (code c)), λ not. absurd (not (c.in-Some.ensures.some.0 refl)))
 
-pub returns-clause-done : goal.returns-clause-done
-returns-clause-done c =
+pub returns-clause-ok : goal.returns-clause-ok
+returns-clause-ok c =
     appended _ (code c) (taken c) c.put.ensures.contents (rw (← c.in-Some.ensures.number) c.push-pushed.ensures.ok)
 
 pub returns-clause-kept : goal.returns-clause-kept
-returns-clause-kept c = kept_unless_done (code c) (taken c) c.put.ensures.contents c.push-pushed.ensures.kept
+returns-clause-kept c = kept_unless_ok (code c) (taken c) c.put.ensures.contents c.push-pushed.ensures.kept
 
 pub returns-clause-room : goal.returns-clause-room
 returns-clause-room c full _ =

@@ -10,13 +10,13 @@ returns-in-Some-clause-code c = inl refl
 
 pub returns-in-Some-clause-position : goal.returns-in-Some-clause-position
 returns-in-Some-clause-position c =
-    let units = c.view.ensures.units ∙ ap (λ x. x.units) c.take-held.ensures.contents in
+    let units = ap (λ x. x.units) c.take-held.ensures.contents in
     let found = sym (c.in-Some.ensures ∙ ap (λ x. slice_get x c.args.index) units) in
     (other_code _ _ refl, λ past. outside (slice_get_within _ _ _ found) past)
 
-pub returns-in-Some-clause-done : goal.returns-in-Some-clause-done
-returns-in-Some-clause-done c _ =
-    let units = c.view.ensures.units ∙ ap (λ x. x.units) c.take-held.ensures.contents in
+pub returns-in-Some-clause-ok : goal.returns-in-Some-clause-ok
+returns-in-Some-clause-ok c _ =
+    let units = ap (λ x. x.units) c.take-held.ensures.contents in
     sym (c.in-Some.ensures ∙ ap (λ x. slice_get x c.args.index) units)
 
 pub returns-in-Some-clause-unit : goal.returns-in-Some-clause-unit
@@ -34,12 +34,12 @@ none_past u i e = elim (cases_lt i (length u)) [
 
 pub returns-in-None : goal.returns-in-None
 returns-in-None c =
-    let units = c.view.ensures.units ∙ ap (λ x. x.units) c.take-held.ensures.contents in
+    let units = ap (λ x. x.units) c.take-held.ensures.contents in
     let none = sym (c.in-None.ensures ∙ ap (λ x. slice_get x c.args.index) units) in
     record {
       code = inr refl;
       position = (λ _. none_past _ _ none, λ _. refl);
-      done = other_code _ _ refl;
+      ok = other_code _ _ refl;
       unit = λ _. refl;
       kept = c.put_back.ensures ∙ c.take-held.ensures.contents;
     }

@@ -9,7 +9,7 @@ returns-then-out-needed c =
       code = inr (inr refl);
       granted = λ _. other_code 3 1 refl;
       short = (λ _. rw is at c.if-out-needed.true, λ _. refl);
-      done = other_code _ _ refl;
+      ok = other_code _ _ refl;
       out = λ _. refl;
       len = λ _. is;
       len_kept = other_code _ _ refl;
@@ -22,8 +22,8 @@ returns-clause-granted c = search rules
 pub returns-clause-short : goal.returns-clause-short
 returns-clause-short c = search rules
 
-pub returns-clause-done : goal.returns-clause-done
-returns-clause-done c = search rules
+pub returns-clause-ok : goal.returns-clause-ok
+returns-clause-ok c = search rules
 
 pub returns-clause-len : goal.returns-clause-len
 returns-clause-len c = search rules

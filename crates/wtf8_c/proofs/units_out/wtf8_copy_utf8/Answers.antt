@@ -4,8 +4,8 @@ use Rattle.wtf8_c.proofs.units_out.wtf8_copy_utf8.Goals as goal
 pub returns-clause-short : goal.returns-clause-short
 returns-clause-short c = search rules
 
-pub returns-clause-done : goal.returns-clause-done
-returns-clause-done c = search rules
+pub returns-clause-ok : goal.returns-clause-ok
+returns-clause-ok c = search rules
 
 pub returns-clause-len : goal.returns-clause-len
 returns-clause-len c = search rules

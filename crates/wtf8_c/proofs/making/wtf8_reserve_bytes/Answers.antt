@@ -1,32 +1,32 @@
 use Rattle.std.proofs.Common.{refl, inr, sym, ap, subst, ◌∙◌, ◌+◌, ◌≤◌, length, to_z, of_z, w32}
 use Rattle.std.proofs.lemmas.Bool.{false≢true}
 use Rattle.wtf8_c.specs.Contents.{contents}
-use Rattle.wtf8_c.proofs.Outcomes.{other_code, IsCodeOf, returned, done_or_memory, Opened, opened, once_done, kept_same, capacity_kept}
+use Rattle.wtf8_c.proofs.Outcomes.{other_code, IsCodeOf, returned, ok_or_no_memory, Opened, opened, once_ok, kept_same, capacity_kept}
 use Rattle.wtf8_c.proofs.Outcomes.{capacity_same}
-use Rattle.wtf8_c.proofs.making.wtf8_reserve.Goals as goal
+use Rattle.wtf8_c.proofs.making.wtf8_reserve_bytes.Goals as goal
 
 pub returns-in_default : goal.returns-in_default
 returns-in_default c = record {
   code = inr refl;
-  done = other_code _ _ refl;
+  ok = other_code _ _ refl;
   kept = kept_same c.in_default.ensures.kept;
   room = λ full _. absurd (false≢true (c.in_default.ensures.full full));
   capacity = capacity_same c.in_default.ensures.kept;
 }
 
 code : (c : goal.After-code_of) → IsCodeOf c.reserve-reserved.result (to_z w32 (of_z w32 c.code_of.result))
-code c = returned c.code_of.type_inv c.code_of.ensures.done c.code_of.ensures.memory
+code c = returned c.code_of.type_inv c.code_of.ensures.ok c.code_of.ensures.memory
 
 taken : (c : goal.After-code_of) → Opened (contents c.args.string.now) c.deref_mut.result.now c.args.string.now.full
 taken c =
     opened c.deref_mut.ensures.value c.in-Ok.ensures.units c.in-Ok.ensures.bytes c.in-Ok.ensures.capacity c.in-Ok.ensures.held
 
 pub returns-clause-code : goal.returns-clause-code
-returns-clause-code c = done_or_memory _ _ (code c)
+returns-clause-code c = ok_or_no_memory _ _ (code c)
 
-pub returns-clause-done : goal.returns-clause-done
-returns-clause-done c e =
-    let fits = once_done (code c) c.reserve-reserved.ensures.ok e in
+pub returns-clause-ok : goal.returns-clause-ok
+returns-clause-ok c e =
+    let fits = once_ok (code c) c.reserve-reserved.ensures.ok e in
     subst (λ x. length x.bytes + c.args.additional ≤ x.capacity) (sym c.put.ensures.contents) fits
 
 pub returns-clause-kept : goal.returns-clause-kept
@@ -37,7 +37,7 @@ returns-clause-kept c = record {
 
 pub returns-clause-room : goal.returns-clause-room
 returns-clause-room c full fits =
-    (code c).done.1 (c.reserve-reserved.ensures.room (subst (λ x. length x.bytes + c.args.additional ≤ x.capacity) (sym ((taken c).held full)) fits))
+    (code c).ok.1 (c.reserve-reserved.ensures.room (subst (λ x. length x.bytes + c.args.additional ≤ x.capacity) (sym ((taken c).held full)) fits))
 
 pub returns-clause-capacity : goal.returns-clause-capacity
 returns-clause-capacity c = capacity_kept (taken c) c.put.ensures.contents c.reserve-reserved.ensures.capacity

@@ -1,0 +1,82 @@
+/* Each call that only reads a string, asked with what it must answer. */
+#ifndef QUESTIONS_H
+#define QUESTIONS_H
+
+#include "model.h"
+
+#include <string.h>
+
+enum { QUESTIONS = 19 };
+
+/* What the calls must answer of one string, and of it and another. */
+struct answers {
+    size_t byte_len;
+    int is_utf8, order, point_order;
+    uint64_t hash;
+    uint8_t lossy[3 * MOST]; /* the text with U+FFFD in place of each surrogate */
+};
+
+/* The answers by the model; the hash is asked. */
+static inline struct answers answers_of(const struct pair *p, const struct pair *q) {
+    struct answers a = {byte_len(p), is_utf8(p), compare_units(p, q), compare_points(p, q), wtf8_hash(&p->string), {0}};
+    size_t len = 0, taken = 0;
+    for (size_t i = 0; i < p->n; i += taken) {
+        uint32_t c = point_at(p, i, &taken);
+        len += encode(c >= 0xD800 && c < 0xE000 ? 0xFFFD : c, a.lossy + len);
+    }
+    return a;
+}
+
+/* Whether the string has these units. */
+static inline int has_units(const wtf8_string *string, const uint16_t *units, size_t n) {
+    uint16_t out[MOST];
+    size_t len = 0;
+    return wtf8_copy_units(string, out, MOST, &len) == WTF8_OK && len == n && memcmp(out, units, 2 * n) == 0;
+}
+
+/* Whether a question of this kind, below QUESTIONS, is answered right. `number` draws indexes and positions; `own` is a
+ * string that no one else uses. */
+static inline int is_right(unsigned kind, size_t number, const struct pair *p, const struct pair *q, const struct answers *a, wtf8_string *own) {
+    const wtf8_string *s = &p->string;
+    size_t index = number % (p->n + 2), position = number % (a->byte_len + 2), len = 0;
+    size_t end = number % (p->n + 1), begin = number / 7 % (end + 1);
+    uint16_t unit = 0, units[MOST];
+    uint8_t bytes[3 * MOST];
+    wtf8_result code;
+    switch (kind) {
+        case 0: return wtf8_unit_len(s) == p->n;
+        case 1: return wtf8_byte_len(s) == a->byte_len;
+        case 2:
+            code = wtf8_unit_at(s, index, &unit);
+            return p->n <= index ? code == WTF8_BAD_POSITION : code == WTF8_OK && unit == p->units[index];
+        case 3: return wtf8_is_boundary(s, position) == is_boundary(p, position);
+        case 4: return wtf8_is_utf8(s) == a->is_utf8;
+        case 5: return wtf8_equal(s, &q->string) == (a->order == 0);
+        case 6: return wtf8_compare_units(s, &q->string) == a->order;
+        case 7: return wtf8_compare_code_points(s, &q->string) == a->point_order;
+        case 8: return wtf8_hash(s) == a->hash;
+        case 9: return wtf8_slice_units(own, s, begin, end) == WTF8_OK && has_units(own, p->units + begin, end - begin);
+        case 10: return has_units(s, p->units, p->n);
+        case 11:
+            code = wtf8_copy_slice(s, begin, end, units, MOST, &len);
+            return code == WTF8_OK && len == end - begin && memcmp(units, p->units + begin, 2 * len) == 0;
+        case 12:
+            code = wtf8_copy_utf8(s, bytes, sizeof bytes, &len);
+            if (!a->is_utf8) return code == WTF8_HAS_SURROGATE;
+            return code == WTF8_OK && len == a->byte_len && memcmp(bytes, a->lossy, len) == 0;
+        case 13:
+            code = wtf8_copy_lossy(s, bytes, sizeof bytes, &len);
+            return code == WTF8_OK && len == a->byte_len && memcmp(bytes, a->lossy, len) == 0;
+        case 14: return wtf8_set_string(own, s) == WTF8_OK && has_units(own, p->units, p->n);
+        case 15: return wtf8_capacity(s) >= a->byte_len;
+        case 16:
+            code = wtf8_position_at(s, index, &len);
+            return p->n < index ? code == WTF8_BAD_POSITION : code == WTF8_OK && len == position_of(p, index);
+        case 17: return wtf8_unit_before(s, position) == units_before(p, position);
+        default:
+            wtf8_clear(own);
+            return wtf8_push_string(own, s) == WTF8_OK && has_units(own, p->units, p->n);
+    }
+}
+
+#endif
