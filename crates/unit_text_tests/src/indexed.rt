@@ -161,16 +161,26 @@ fn expect_grown(alloc: Global, units: &[u16], dump: &str) -> Result<(), Wrong> {
     expect_all(alloc, &at_once, units, dump)
 }
 
-/// Fails unless buffers made in several ways have the units and the bytes.
+/// Fails unless a copy of the buffer and one that takes over the string of the units have the units and the bytes.
+fn expect_copies(
+    alloc: Global,
+    buf: &IndexedBuf<Global>,
+    units: &[u16],
+    dump: &str,
+) -> Result<(), Wrong> {
+    let copy = made(buf.clone())?;
+    expect_all(alloc, &copy, units, dump)?;
+    let over = made(taken_over(alloc, units))?;
+    expect_all(alloc, &over, units, dump)
+}
+
+/// Fails unless the buffer of the units has these and the bytes, without marks and with them, and its string the bytes.
 fn expect_made(alloc: Global, units: &[u16], dump: &str) -> Result<(), Wrong> {
     let mut buf = made(IndexedBuf::from_units(alloc, units))?;
     expect_all(alloc, &buf, units, dump)?;
     buf.mark_units(alloc);
     expect_all(alloc, &buf, units, dump)?;
-    let copy = made(buf.clone())?;
-    expect_all(alloc, &copy, units, dump)?;
-    let over = made(taken_over(alloc, units))?;
-    expect_all(alloc, &over, units, dump)?;
+    expect_copies(alloc, &buf, units, dump)?;
     expect_bytes(alloc, buf.into_buf().as_wtf8(), dump)
 }
 

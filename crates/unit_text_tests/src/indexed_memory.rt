@@ -423,20 +423,37 @@ fn calls_that_append_nothing_make_no_request(rt: HostRuntime) -> Result<(), Wron
     expect(heap.requests() == 0, Wrong::Requests)
 }
 
-/// Refuses a copy of the text of `FRONT`, and then units pushed to it. Fails unless each makes one request and leaves
-/// the text as it was, and no units are pushed without one.
-fn expect_text_kept(alloc: Global, heap: Lent<'_>, refusal: Refusal) -> Result<(), Wrong> {
-    heap.grant(9);
-    let mut text = made(UnitText::from_units(heap, &FRONT))?;
+/// Refuses a copy of a text. Fails unless it makes one request.
+fn expect_uncopied<'a>(
+    heap: Lent<'a>,
+    text: &UnitText<Lent<'a>>,
+    refusal: Refusal,
+) -> Result<(), Wrong> {
     heap.refuse_after(0, refusal);
     let is_copied = text.clone().is_ok();
-    expect(!is_copied && heap.requests() == 1, Wrong::Requests)?;
+    expect(!is_copied && heap.requests() == 1, Wrong::Requests)
+}
+
+/// Refuses units pushed to a text. Fails unless that makes one request, and no units are pushed without one.
+fn expect_unpushed<'a>(
+    heap: Lent<'a>,
+    text: &mut UnitText<Lent<'a>>,
+    refusal: Refusal,
+) -> Result<(), Wrong> {
     heap.refuse_after(0, refusal);
     let is_pushed = text.push_units(&[0xE000; 6]).is_ok();
     expect(!is_pushed && heap.requests() == 1, Wrong::Requests)?;
     heap.grant(0);
     expect(text.push_units(&[]).is_ok(), Wrong::Memory)?;
-    expect(heap.requests() == 0, Wrong::Requests)?;
+    expect(heap.requests() == 0, Wrong::Requests)
+}
+
+/// Fails unless the text of `FRONT` is as it was after a copy, and then units pushed to it, are refused.
+fn expect_text_kept(alloc: Global, heap: Lent<'_>, refusal: Refusal) -> Result<(), Wrong> {
+    heap.grant(9);
+    let mut text = made(UnitText::from_units(heap, &FRONT))?;
+    expect_uncopied(heap, &text, refusal)?;
+    expect_unpushed(heap, &mut text, refusal)?;
     expect_text(alloc, &text, &FRONT, FRONT_DUMP)
 }
 

@@ -1,7 +1,7 @@
 // Refused requests for memory, and the number of bytes in requests.
 use crate::shared::slice_of;
 use refusing::{Lent, REFUSALS, Refusal, Refusing};
-use std::alloc::{AllocError, Global};
+use std::alloc::{AllocError, Allocator, Global};
 use unit_text::UnitText;
 use wtf8_tests::wrong::{Wrong, expect, expect_bytes, made};
 
@@ -151,19 +151,25 @@ fn a_slice_asks_for_what_it_needs(rt: HostRuntime) -> Result<(), Wrong> {
     Ok(())
 }
 
+/// Whether the text of `WIDE` can be made.
+fn is_made<A: Allocator>(alloc: A) -> bool {
+    UnitText::from_units(alloc, &WIDE).is_ok()
+}
+
 #[test]
-fn a_text_of_units_asks_for_what_it_needs(rt: HostRuntime) {
+fn a_text_of_units_asks_for_what_it_needs(rt: HostRuntime) -> Result<(), Wrong> {
     let heap = Refusing::new(rt.alloc(), 9);
-    assert!(rt; UnitText::from_units(&heap, &WIDE).is_ok());
-    assert_eq!(rt; heap.requests(), 3);
-    assert_eq!(rt; heap.bytes(), 6 + 12 + 24);
+    expect(is_made(&heap), Wrong::Outcome)?;
+    let is_asked = heap.requests() == 3 && heap.bytes() == 6 + 12 + 24;
+    expect(is_asked, Wrong::Requests)?;
     for refusal in REFUSALS {
         for granted in 0..3 {
             heap.refuse_after(granted, refusal);
-            assert!(rt; UnitText::from_units(&heap, &WIDE).is_err());
-            assert_eq!(rt; heap.requests(), granted.wrapping_add(1));
+            expect(!is_made(&heap), Wrong::Outcome)?;
+            expect(heap.requests() == granted.wrapping_add(1), Wrong::Requests)?;
         }
     }
+    Ok(())
 }
 
 fn hundred_trails() -> [u16; 100] {
