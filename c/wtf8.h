@@ -109,8 +109,8 @@ WTF8_CODE wtf8_result wtf8_reserve_bytes(wtf8_string *string, size_t additional)
 
 /* ---- Marks ----
  *
- * Calls that find a unit by its index take constant time in a string of ASCII. Else they count the units before it, from
- * the start, or at most 129 of them from a mark if the string has marks.
+ * Calls that find a unit by its index take constant time in a string of ASCII. Else they count units: at most 129 of them
+ * from a mark if the string has marks; without marks those from the start, or from the end to one of the last 128.
  */
 
 /* Makes a mark for each 128 units of the string, if it is not ASCII. Appends and truncations keep the marks; a
@@ -185,8 +185,7 @@ uint64_t wtf8_hash(const wtf8_string *string);
 
 /* ---- Cutting ---- */
 
-/* Shortens the string to `n` units, found by the marks. A pair that this divides leaves its lead, and units are counted
- * from the start then. Codes: OK, BAD_POSITION. */
+/* Shortens the string to `n` units, found by the marks. A pair that this divides leaves its lead. Codes: OK, BAD_POSITION. */
 WTF8_CODE wtf8_result wtf8_truncate_units(wtf8_string *string, size_t n);
 
 /* Shortens the string to `position` bytes, a boundary. It counts the units before it from a mark, or from the start.
