@@ -89,6 +89,9 @@ DECLARE(bool, equal, wtf8_string *, wtf8_string *)
 DECLARE(int32_t, compare_units, wtf8_string *, wtf8_string *)
 DECLARE(int32_t, compare_code_points, wtf8_string *, wtf8_string *)
 DECLARE(uint64_t, hash, wtf8_string *)
+DECLARE(bool, equal_units, wtf8_string *, const uint16_t *, size_t)
+DECLARE(int32_t, compare_with_units, wtf8_string *, const uint16_t *, size_t)
+DECLARE(bool, starts_with, wtf8_string *, size_t, wtf8_string *)
 DECLARE(wtf8_result, truncate_bytes, wtf8_string *, size_t)
 DECLARE(wtf8_result, truncate_units, wtf8_string *, size_t)
 DECLARE(wtf8_result, slice_units, wtf8_string *, wtf8_string *, size_t, size_t)
@@ -216,6 +219,22 @@ int32_t wtf8_compare_code_points(const wtf8_string *string, const wtf8_string *o
 uint64_t wtf8_hash(const wtf8_string *string) {
     wtf8_string copy = *string;
     return PROVED(hash)(&copy);
+}
+
+bool wtf8_equal_units(const wtf8_string *string, const uint16_t *units, size_t n) {
+    wtf8_string copy = *string;
+    return PROVED(equal_units)(&copy, n ? units : nothing, n);
+}
+
+int32_t wtf8_compare_with_units(const wtf8_string *string, const uint16_t *units, size_t n) {
+    wtf8_string copy = *string;
+    return PROVED(compare_with_units)(&copy, n ? units : nothing, n);
+}
+
+bool wtf8_starts_with(const wtf8_string *string, size_t index, const wtf8_string *other) {
+    wtf8_string copy = *string, others = *other;
+    if (string != other) return PROVED(starts_with)(&copy, index, &others);
+    return index == 0 || PROVED(unit_len)(&copy) == 0;
 }
 
 wtf8_result wtf8_truncate_bytes(wtf8_string *string, size_t position) {

@@ -179,6 +179,14 @@ bool wtf8_equal(const wtf8_string *string, const wtf8_string *other);
 int32_t wtf8_compare_units(const wtf8_string *string, const wtf8_string *other);
 int32_t wtf8_compare_code_points(const wtf8_string *string, const wtf8_string *other);
 
+/* The same of the string and `n` units, without a string of them: whether they are its units, and the order by units. */
+bool wtf8_equal_units(const wtf8_string *string, const uint16_t *units, size_t n);
+int32_t wtf8_compare_with_units(const wtf8_string *string, const uint16_t *units, size_t n);
+
+/* Whether the units of `string` from `index` on, found by the marks, begin with those of `other`. If that has none, they do
+ * at each index, also after the end. Linear in the length of `other`. */
+bool wtf8_starts_with(const wtf8_string *string, size_t index, const wtf8_string *other);
+
 /* A hash for tables: SipHash-1-3 under the key 0, which everybody knows, so it does not hold off strings that were
  * chosen to collide. Equal strings have equal hashes. Linear in the length. */
 uint64_t wtf8_hash(const wtf8_string *string);

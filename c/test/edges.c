@@ -119,6 +119,42 @@ static void hash(void) {
     }
 }
 
+/* Units asked for without a string of them, and a string within another, also in the middle of a pair. */
+static void asked_units(void) {
+    static const uint16_t units[] = {'a', 0xD83D, 0xDCA9, 'b', 0xE000}, greater[] = {'a', 0xE000};
+    wtf8_string string = WTF8_EMPTY, other = WTF8_EMPTY, none = WTF8_EMPTY;
+    must(wtf8_set_units(&string, units, 5) == WTF8_OK && wtf8_reserve_bytes(&other, 20) == WTF8_OK, "a string to ask");
+    long requested = requests;
+    refuse_after = 0;
+    must(wtf8_equal_units(&string, units, 5) && wtf8_compare_with_units(&string, units, 5) == 0, "the units of a string");
+    for (size_t n = 0; n < 5; n++) {
+        uint16_t less[5];
+        memcpy(less, units, sizeof units);
+        less[n]--;
+        must(!wtf8_equal_units(&string, n ? units : NULL, n), "a front of the units");
+        must(wtf8_compare_with_units(&string, n ? units : NULL, n) == 1, "a string after a front of its units");
+        must(!wtf8_equal_units(&string, less, 5) && wtf8_compare_with_units(&string, less, 5) == 1, "a unit that is less");
+    }
+    /* By units, as JavaScript compares: the lead D83D is less than E000. */
+    must(wtf8_compare_with_units(&string, greater, 2) == -1 && !wtf8_equal_units(&string, greater, 2), "greater units");
+    must(wtf8_equal_units(&none, NULL, 0) && wtf8_compare_with_units(&none, NULL, 0) == 0, "no units");
+    must(!wtf8_equal_units(&none, units, 1) && wtf8_compare_with_units(&none, units, 1) == -1, "no units and one");
+    for (size_t begin = 0; begin < 5; begin++) {
+        for (size_t end = begin + 1; end <= 5; end++) {
+            must(wtf8_set_units(&other, units + begin, end - begin) == WTF8_OK, "a part of a string");
+            for (size_t i = 0; i < 7; i++) must(wtf8_starts_with(&string, i, &other) == (i == begin), "the index of a part");
+            must(!wtf8_starts_with(&string, SIZE_MAX, &other) && !wtf8_starts_with(&none, 0, &other), "no index of a part");
+        }
+    }
+    for (size_t i = 0; i < 7; i++) must(wtf8_starts_with(&string, i, &none), "an empty string at an index");
+    must(wtf8_starts_with(&string, SIZE_MAX, &none) && wtf8_starts_with(&none, SIZE_MAX, &none), "an empty string after the end");
+    for (size_t i = 0; i < 7; i++) must(wtf8_starts_with(&string, i, &string) == (i == 0), "a string within itself");
+    must(requests == requested, "requests of questions");
+    refuse_after = -1;
+    wtf8_free(&string);
+    wtf8_free(&other);
+}
+
 /* A string of more units than 16 bits count, of which no two that are 65536 apart are equal. */
 static void indexes(void) {
     static uint16_t units[LETTERS];
@@ -297,6 +333,7 @@ int main(void) {
     code_points();
     for (size_t front = 0; front < 48; front++) utf8_after(front);
     hash();
+    asked_units();
     indexes();
     marks();
     reserve();

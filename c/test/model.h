@@ -109,6 +109,13 @@ static inline int compare_units(const struct pair *p, const struct pair *q) {
     return p->n == q->n ? 0 : p->n < q->n ? -1 : 1;
 }
 
+/* Whether the units from `index` on begin with those of `q`. */
+static inline int has_at(const struct pair *p, size_t index, const struct pair *q) {
+    for (size_t i = 0; i < q->n; i++)
+        if (index >= p->n || p->n - index <= i || p->units[index + i] != q->units[i]) return 0;
+    return 1;
+}
+
 static inline int compare_points(const struct pair *p, const struct pair *q) {
     size_t i = 0, j = 0, one = 0, two = 0;
     for (; i < p->n && j < q->n; i += one, j += two) {

@@ -6,7 +6,7 @@
 
 #include <string.h>
 
-enum { QUESTIONS = 19 };
+enum { QUESTIONS = 22 };
 
 /* What the calls must answer of one string, and of it and another. */
 struct answers {
@@ -73,6 +73,9 @@ static inline int is_right(unsigned kind, size_t number, const struct pair *p, c
             code = wtf8_position_at(s, index, &len);
             return p->n < index ? code == WTF8_BAD_POSITION : code == WTF8_OK && len == position_of(p, index);
         case 17: return wtf8_unit_before(s, position) == units_before(p, position);
+        case 18: return wtf8_equal_units(s, q->units, q->n) == (a->order == 0) && wtf8_equal_units(s, p->units, p->n);
+        case 19: return wtf8_compare_with_units(s, q->units, q->n) == a->order;
+        case 20: return wtf8_starts_with(s, index, &q->string) == has_at(p, index, q);
         default:
             wtf8_clear(own);
             return wtf8_push_string(own, s) == WTF8_OK && has_units(own, p->units, p->n);

@@ -4,7 +4,7 @@
 #include "model.h"
 #include "requests.h"
 
-enum { STRINGS = 4, KINDS = 27 };
+enum { STRINGS = 4, KINDS = 30 };
 
 static struct pair pairs[STRINGS];
 static long counts[40][7];
@@ -250,6 +250,40 @@ static void step(int kind, struct pair *p, struct pair *q) {
             must_begin(out, 2 * size, p->units, code == WTF8_OK ? 2 * p->n : 0, "copy_units, array");
             break;
         }
+        case 26:
+        case 27: {
+            /* Units of a string at hand, of which one differs or is missing now and then. */
+            const struct pair *from = below(2) ? p : q;
+            static struct pair asked;
+            asked.n = 0;
+            append(&asked, from->units, from->n);
+            if (asked.n > 0 && below(3) == 0) asked.units[below((uint32_t)asked.n)] = a_unit();
+            if (asked.n > 0 && below(3) == 0) asked.n -= 1 + below(2) % asked.n;
+            uint16_t *array = an_array(2 * asked.n);
+            memcpy(array, asked.units, 2 * asked.n);
+            int order = compare_units(p, &asked);
+            refuse_after = 0;
+            needs_none = 1;
+            if (kind == 26) must(wtf8_equal_units(&p->string, asked.n ? array : NULL, asked.n) == (order == 0), "equal_units");
+            else must(wtf8_compare_with_units(&p->string, asked.n ? array : NULL, asked.n) == order, "compare_with_units");
+            must_begin(array, 2 * asked.n, asked.units, 2 * asked.n, "units that were asked");
+            break;
+        }
+        case 28: {
+            size_t i = an_index(p->n);
+            /* A part of the string now and then, since strings seldom begin alike. */
+            if (p != q && below(2)) {
+                size_t first = i < p->n ? i : 0, most = p->n - first;
+                n = most < 12 ? most : below(12);
+                if (wtf8_set_units(&q->string, p->units + first, n) != WTF8_OK) break;
+                replace(q, p->units + first, n, 0);
+            }
+            refuse_after = 0;
+            requested = requests;
+            needs_none = 1;
+            must(wtf8_starts_with(&p->string, i, &q->string) == has_at(p, i, q), "starts_with");
+            break;
+        }
         default:
             if (below(2)) refuse_after = 0;
             code = wtf8_mark(&p->string);
@@ -287,7 +321,7 @@ int main(int count, char **words) {
         {7, WTF8_NO_MEMORY}, {7, WTF8_BAD_CODE_POINT}, {8, WTF8_NO_MEMORY}, {9, WTF8_NO_MEMORY}, {9, WTF8_NOT_UTF8},
         {10, WTF8_NO_MEMORY}, {12, WTF8_BAD_POSITION}, {18, WTF8_BAD_POSITION}, {19, WTF8_NO_MEMORY}, {19, WTF8_BAD_POSITION},
         {20, WTF8_BAD_POSITION}, {22, WTF8_BAD_POSITION}, {22, WTF8_ARRAY_TOO_SHORT}, {23, WTF8_HAS_SURROGATE}, {23, WTF8_ARRAY_TOO_SHORT},
-        {24, WTF8_NO_MEMORY}, {24, WTF8_ARRAY_TOO_SHORT}, {25, WTF8_ARRAY_TOO_SHORT}, {26, WTF8_NO_MEMORY}};
+        {24, WTF8_NO_MEMORY}, {24, WTF8_ARRAY_TOO_SHORT}, {25, WTF8_ARRAY_TOO_SHORT}, {29, WTF8_NO_MEMORY}};
     for (int kind = 0; kind < KINDS; kind++) must(counts[kind][WTF8_OK] > 0 || steps < 25000, "a call is never done");
     for (size_t i = 0; i < sizeof reached / sizeof reached[0]; i++)
         must(counts[reached[i][0]][reached[i][1]] > 0 || steps < 25000, "a code is never reached");

@@ -4,6 +4,7 @@
 mod appending;
 mod asking;
 mod codes;
+mod comparing;
 mod cutting;
 mod handle;
 mod making;
