@@ -89,6 +89,8 @@ DECLARE(bool, equal, wtf8_string *, wtf8_string *)
 DECLARE(int32_t, compare_units, wtf8_string *, wtf8_string *)
 DECLARE(int32_t, compare_code_points, wtf8_string *, wtf8_string *)
 DECLARE(uint64_t, hash, wtf8_string *)
+DECLARE(wtf8_result, next_code_point, wtf8_string *, size_t *, uint32_t *)
+DECLARE(wtf8_result, previous_code_point, wtf8_string *, size_t *, uint32_t *)
 DECLARE(bool, equal_units, wtf8_string *, const uint16_t *, size_t)
 DECLARE(int32_t, compare_with_units, wtf8_string *, const uint16_t *, size_t)
 DECLARE(bool, starts_with, wtf8_string *, size_t, wtf8_string *)
@@ -221,6 +223,16 @@ uint64_t wtf8_hash(const wtf8_string *string) {
     return PROVED(hash)(&copy);
 }
 
+wtf8_result wtf8_next_code_point(const wtf8_string *string, size_t *position, uint32_t *code_point) {
+    wtf8_string copy = *string;
+    return PROVED(next_code_point)(&copy, position, code_point);
+}
+
+wtf8_result wtf8_previous_code_point(const wtf8_string *string, size_t *position, uint32_t *code_point) {
+    wtf8_string copy = *string;
+    return PROVED(previous_code_point)(&copy, position, code_point);
+}
+
 bool wtf8_equal_units(const wtf8_string *string, const uint16_t *units, size_t n) {
     wtf8_string copy = *string;
     return PROVED(equal_units)(&copy, n ? units : nothing, n);
@@ -286,6 +298,7 @@ const char *wtf8_result_text(wtf8_result code) {
         case WTF8_HAS_SURROGATE: return "the string holds a surrogate";
         case WTF8_BAD_CODE_POINT: return "the number is not a code point";
         case WTF8_NOT_UTF8: return "the bytes are not UTF-8";
+        case WTF8_END: return "there is no further code point";
     }
     return "not a code of this library";
 }

@@ -23,7 +23,7 @@
  *
  * In each call the string that is changed, or else the one that is asked, comes first. If several codes apply, a call
  * returns the first of them in this order: BAD_CODE_POINT, NOT_UTF8, BAD_POSITION, HAS_SURROGATE, ARRAY_TOO_SHORT,
- * NO_MEMORY.
+ * NO_MEMORY. END comes alone.
  *
  * Costs: a call takes time linear in the units or bytes that it is given or hands out, if its text says no other. An
  * append to a string without room for it moves the string to a block of at least twice the capacity, so that n appends of
@@ -72,7 +72,8 @@ typedef enum wtf8_result {
     WTF8_ARRAY_TOO_SHORT = 3, /* the array is too short; *len says how long it must be */
     WTF8_HAS_SURROGATE = 4,   /* the string holds a surrogate, so it is not a text in UTF-8 */
     WTF8_BAD_CODE_POINT = 5,  /* the number is greater than 10FFFF */
-    WTF8_NOT_UTF8 = 6         /* the bytes are not UTF-8 */
+    WTF8_NOT_UTF8 = 6,        /* the bytes are not UTF-8 */
+    WTF8_END = 7              /* a walk is at the end or the start: there is no further code point */
 } wtf8_result;
 
 /* The code in words, for a message. The text is static. */
@@ -167,6 +168,15 @@ WTF8_CODE wtf8_result wtf8_unit_at(const wtf8_string *string, size_t index, uint
 
 /* Whether a position in bytes is a code point boundary: 0 and the length are, a position after the end is not. Constant. */
 bool wtf8_is_boundary(const wtf8_string *string, size_t position);
+
+/* Writes the code point after the boundary `*position` to `*code_point`, a lone surrogate too, and moves `*position` past
+ * it, from 0 at the start to the length in bytes at the end. Any code but OK leaves both numbers as they are. Constant.
+ * Codes: OK, BAD_POSITION (`*position` is not a boundary), END (it is the length in bytes). */
+WTF8_CODE wtf8_result wtf8_next_code_point(const wtf8_string *string, size_t *position, uint32_t *code_point);
+
+/* The same of the code point before `*position`, which moves back to its start. Constant. Codes: OK, BAD_POSITION
+ * (`*position` is not a boundary), END (it is 0). */
+WTF8_CODE wtf8_result wtf8_previous_code_point(const wtf8_string *string, size_t *position, uint32_t *code_point);
 
 /* Whether the string holds no surrogate, so that wtf8_copy_utf8 gives its text. Linear in the length. */
 bool wtf8_is_utf8(const wtf8_string *string);

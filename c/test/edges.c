@@ -155,6 +155,50 @@ static void asked_units(void) {
     wtf8_free(&other);
 }
 
+/* Walks over a string of one code point and over one of all of them, and positions that are none. */
+static void walks(void) {
+    enum { POINTS = sizeof points / sizeof points[0] };
+    wtf8_string all = WTF8_EMPTY;
+    size_t ends[POINTS], at = 0;
+    uint32_t value = 77;
+    must(wtf8_next_code_point(&all, &at, &value) == WTF8_END && wtf8_previous_code_point(&all, &at, &value) == WTF8_END, "a walk of nothing");
+    must(at == 0 && value == 77, "the numbers of a walk of nothing");
+    for (size_t i = 0; i < POINTS; i++) {
+        /* A letter after each keeps leads and trails apart. */
+        wtf8_string string = WTF8_EMPTY;
+        must(wtf8_push_code_point(&string, points[i].value) == WTF8_OK, "a code point to walk over");
+        must(wtf8_push_code_point(&all, points[i].value) == WTF8_OK && wtf8_push_code_point(&all, 'a') == WTF8_OK, "more code points");
+        ends[i] = wtf8_byte_len(&all);
+        for (size_t k = 0; k <= points[i].byte_len + 1; k++) {
+            size_t next = k, previous = k;
+            uint32_t after = 77, before = 77;
+            wtf8_result past = k == points[i].byte_len ? WTF8_END : WTF8_BAD_POSITION;
+            must(wtf8_next_code_point(&string, &next, &after) == (k == 0 ? WTF8_OK : past), "the code point at a position");
+            must(next == (k == 0 ? points[i].byte_len : k) && after == (k == 0 ? points[i].value : 77), "a step of a walk");
+            wtf8_result back = k == 0 ? WTF8_END : k == points[i].byte_len ? WTF8_OK : WTF8_BAD_POSITION;
+            must(wtf8_previous_code_point(&string, &previous, &before) == back, "the code point before a position");
+            must(previous == (back == WTF8_OK ? 0 : k) && before == (back == WTF8_OK ? points[i].value : 77), "a step back of a walk");
+        }
+        at = SIZE_MAX;
+        must(wtf8_next_code_point(&string, &at, &value) == WTF8_BAD_POSITION, "a walk from far after the end");
+        must(wtf8_previous_code_point(&string, &at, &value) == WTF8_BAD_POSITION && at == SIZE_MAX, "a walk back from there");
+        wtf8_free(&string);
+    }
+    at = 0;
+    for (size_t i = 0; i < POINTS; i++) {
+        must(wtf8_next_code_point(&all, &at, &value) == WTF8_OK && value == points[i].value && at == ends[i] - 1, "a walk");
+        must(wtf8_next_code_point(&all, &at, &value) == WTF8_OK && value == 'a' && at == ends[i], "a walk's letter");
+    }
+    must(wtf8_next_code_point(&all, &at, &value) == WTF8_END && at == ends[POINTS - 1], "the end of a walk");
+    for (size_t i = POINTS; i-- > 0;) {
+        must(wtf8_previous_code_point(&all, &at, &value) == WTF8_OK && value == 'a' && at == ends[i] - 1, "a walk back");
+        must(wtf8_previous_code_point(&all, &at, &value) == WTF8_OK && value == points[i].value, "a code point of a walk back");
+        must(at == (i == 0 ? 0 : ends[i - 1]), "where a walk back is");
+    }
+    must(wtf8_previous_code_point(&all, &at, &value) == WTF8_END && at == 0, "the end of a walk back");
+    wtf8_free(&all);
+}
+
 /* A string of more units than 16 bits count, of which no two that are 65536 apart are equal. */
 static void indexes(void) {
     static uint16_t units[LETTERS];
@@ -322,7 +366,7 @@ static void growth(void) {
 
 /* Each code has a text of its own, and so has what is no code. */
 static void texts_of_codes(void) {
-    for (int i = WTF8_OK; i <= WTF8_NOT_UTF8 + 1; i++)
+    for (int i = WTF8_OK; i <= WTF8_END + 1; i++)
         for (int k = WTF8_OK; k < i; k++)
             must(strcmp(wtf8_result_text((wtf8_result)i), wtf8_result_text((wtf8_result)k)) != 0, "the text of a code");
     must(strcmp(wtf8_version(), WTF8_VERSION) == 0, "the version");
@@ -334,6 +378,7 @@ int main(void) {
     for (size_t front = 0; front < 48; front++) utf8_after(front);
     hash();
     asked_units();
+    walks();
     indexes();
     marks();
     reserve();

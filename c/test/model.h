@@ -94,6 +94,35 @@ static inline size_t units_before(const struct pair *p, size_t position) {
     return i;
 }
 
+/* What a step over the code point after a position must return and write. */
+static inline wtf8_result next_point(const struct pair *p, size_t *position, uint32_t *value) {
+    uint8_t bytes[4];
+    size_t len = 0, taken = 0, i = 0;
+    for (; i < p->n && len < *position; i += taken) len += encode(point_at(p, i, &taken), bytes);
+    if (len != *position) return WTF8_BAD_POSITION;
+    if (i == p->n) return WTF8_END;
+    *value = point_at(p, i, &taken);
+    *position += encode(*value, bytes);
+    return WTF8_OK;
+}
+
+/* The same of the code point before a position. */
+static inline wtf8_result previous_point(const struct pair *p, size_t *position, uint32_t *value) {
+    uint8_t bytes[4];
+    size_t len = 0, taken = 0, before = 0;
+    uint32_t last = 0;
+    for (size_t i = 0; i < p->n && len < *position; i += taken) {
+        before = len;
+        last = point_at(p, i, &taken);
+        len += encode(last, bytes);
+    }
+    if (len != *position) return WTF8_BAD_POSITION;
+    if (len == 0) return WTF8_END;
+    *position = before;
+    *value = last;
+    return WTF8_OK;
+}
+
 static inline int is_utf8(const struct pair *p) {
     size_t taken = 0;
     for (size_t i = 0; i < p->n; i += taken) {

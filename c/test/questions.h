@@ -6,7 +6,7 @@
 
 #include <string.h>
 
-enum { QUESTIONS = 22 };
+enum { QUESTIONS = 24 };
 
 /* What the calls must answer of one string, and of it and another. */
 struct answers {
@@ -41,6 +41,8 @@ static inline int is_right(unsigned kind, size_t number, const struct pair *p, c
     size_t index = number % (p->n + 2), position = number % (a->byte_len + 2), len = 0;
     size_t end = number % (p->n + 1), begin = number / 7 % (end + 1);
     uint16_t unit = 0, units[MOST];
+    uint32_t point = 77, must_be = 77;
+    size_t at = position, must_be_at = position;
     uint8_t bytes[3 * MOST];
     wtf8_result code;
     switch (kind) {
@@ -76,6 +78,12 @@ static inline int is_right(unsigned kind, size_t number, const struct pair *p, c
         case 18: return wtf8_equal_units(s, q->units, q->n) == (a->order == 0) && wtf8_equal_units(s, p->units, p->n);
         case 19: return wtf8_compare_with_units(s, q->units, q->n) == a->order;
         case 20: return wtf8_starts_with(s, index, &q->string) == has_at(p, index, q);
+        case 21:
+            code = wtf8_next_code_point(s, &at, &point);
+            return code == next_point(p, &must_be_at, &must_be) && at == must_be_at && point == must_be;
+        case 22:
+            code = wtf8_previous_code_point(s, &at, &point);
+            return code == previous_point(p, &must_be_at, &must_be) && at == must_be_at && point == must_be;
         default:
             wtf8_clear(own);
             return wtf8_push_string(own, s) == WTF8_OK && has_units(own, p->units, p->n);

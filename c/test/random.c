@@ -4,10 +4,10 @@
 #include "model.h"
 #include "requests.h"
 
-enum { STRINGS = 4, KINDS = 30 };
+enum { STRINGS = 4, KINDS = 32 };
 
 static struct pair pairs[STRINGS];
-static long counts[40][7];
+static long counts[40][8];
 
 static void check(struct pair *p) {
     uint8_t *out = an_array(2 * p->n);
@@ -284,6 +284,18 @@ static void step(int kind, struct pair *p, struct pair *q) {
             must(wtf8_starts_with(&p->string, i, &q->string) == has_at(p, i, q), "starts_with");
             break;
         }
+        case 29:
+        case 30: {
+            size_t at = an_index(byte_len(p)), must_be_at;
+            uint32_t value = 77, must_be = 77;
+            must_be_at = at;
+            refuse_after = 0;
+            code = (kind == 29 ? wtf8_next_code_point : wtf8_previous_code_point)(&p->string, &at, &value);
+            must(code == (kind == 29 ? next_point : previous_point)(p, &must_be_at, &must_be), "a step of a walk");
+            must(at == must_be_at && value == must_be, "what a step of a walk writes");
+            must(requests == requested, "a step of a walk requests memory");
+            break;
+        }
         default:
             if (below(2)) refuse_after = 0;
             code = wtf8_mark(&p->string);
@@ -291,7 +303,7 @@ static void step(int kind, struct pair *p, struct pair *q) {
             if (code == WTF8_OK) p->is_marked = 1;
             break;
     }
-    must(code <= WTF8_NOT_UTF8, "code");
+    must(code <= WTF8_END, "code");
     must(code != WTF8_NO_MEMORY || refused < refusals || more > PTRDIFF_MAX, "MEMORY, but no request was refused");
     must(!needs_none || code == WTF8_OK, "a call that needs no memory is not done");
     /* What adds units may ask for memory for marks, and does without it. */
@@ -321,7 +333,8 @@ int main(int count, char **words) {
         {7, WTF8_NO_MEMORY}, {7, WTF8_BAD_CODE_POINT}, {8, WTF8_NO_MEMORY}, {9, WTF8_NO_MEMORY}, {9, WTF8_NOT_UTF8},
         {10, WTF8_NO_MEMORY}, {12, WTF8_BAD_POSITION}, {18, WTF8_BAD_POSITION}, {19, WTF8_NO_MEMORY}, {19, WTF8_BAD_POSITION},
         {20, WTF8_BAD_POSITION}, {22, WTF8_BAD_POSITION}, {22, WTF8_ARRAY_TOO_SHORT}, {23, WTF8_HAS_SURROGATE}, {23, WTF8_ARRAY_TOO_SHORT},
-        {24, WTF8_NO_MEMORY}, {24, WTF8_ARRAY_TOO_SHORT}, {25, WTF8_ARRAY_TOO_SHORT}, {29, WTF8_NO_MEMORY}};
+        {24, WTF8_NO_MEMORY}, {24, WTF8_ARRAY_TOO_SHORT}, {25, WTF8_ARRAY_TOO_SHORT}, {29, WTF8_BAD_POSITION},
+        {29, WTF8_END}, {30, WTF8_BAD_POSITION}, {30, WTF8_END}, {31, WTF8_NO_MEMORY}};
     for (int kind = 0; kind < KINDS; kind++) must(counts[kind][WTF8_OK] > 0 || steps < 25000, "a call is never done");
     for (size_t i = 0; i < sizeof reached / sizeof reached[0]; i++)
         must(counts[reached[i][0]][reached[i][1]] > 0 || steps < 25000, "a code is never reached");

@@ -24,6 +24,9 @@ pub(crate) const BAD_CODE_POINT: i32 = 5;
 /// The bytes are not UTF-8.
 pub(crate) const NOT_UTF8: i32 = 6;
 
+/// No code point is after the position, or before it.
+pub(crate) const END: i32 = 7;
+
 /// The first of two strings comes before the second.
 pub(crate) const BEFORE: i32 = -1;
 

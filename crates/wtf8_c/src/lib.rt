@@ -11,3 +11,4 @@ mod making;
 mod opening;
 mod parts;
 mod units_out;
+mod walking;

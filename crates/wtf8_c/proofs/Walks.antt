@@ -1,0 +1,65 @@
+-- Code points between boundaries.
+use Rattle.std.proofs.Common.{◌≡◌, ℕ, ◌+◌, ◌-◌, ◌<◌, ◌≤◌, ◌⊎◌, List, [], ◌∷◌, ◌++◌, length, inl, inr, refl, sym, ap, ◌∙◌, subst, arith}
+use Rattle.std.proofs.Common.{length-append, append_assoc}
+use Rattle.std.proofs.lemmas.Bool.{cases_lt}
+use Rattle.std.proofs.lemmas.List.{append-nil}
+use Rattle.wtf8.specs.Form.{Reads, bytes, encoding}
+use Rattle.wtf8.specs.Position.{Splits, IsBoundary, IsBack}
+use Rattle.wtf8.proofs.lemmas.codec.Encoding.{length-encoding_bounds, bytes-pushed}
+use Rattle.wtf8.proofs.lemmas.codec.Readings.{reads_same}
+use Rattle.wtf8.proofs.lemmas.strings.Positions.{shorter_is_prefix}
+use Rattle.wtf8_c.specs.Walks.{IsPointBetween}
+
+-- the first code point of those after a boundary
+pub first_after : {u v : List ℕ} {k : ℕ} (b : IsBack u k v) (p : ℕ) (rest : List ℕ) → b.back ≡ p ∷ rest
+    → IsPointBetween u k (k + length (encoding p)) p
+first_after {u} {v} {k} b p rest e =
+    let begins : Splits u k b.front (p ∷ rest) = subst (λ c. Splits u k b.front c) e b.splits in
+    record {
+      front = b.front;
+      back = rest;
+      begins = begins;
+      ends = record {
+        reads = subst (λ c. Reads c u) (sym (append_assoc b.front (p ∷ []) rest)) begins.reads;
+        front_len = omega (arith, b.splits.front_len, ap length (bytes-pushed b.front p), length-append (bytes b.front) (encoding p));
+      };
+    }
+
+one_is_empty : (x y : List ℕ) → length x + length y ≡ 1 → (x ≡ []) ⊎ (y ≡ [])
+one_is_empty [] y e = inl refl
+one_is_empty (a ∷ x) [] e = inr refl
+one_is_empty (a ∷ x) (b ∷ y) e = absurd (omega (arith, e))
+
+-- no boundary is between those of a code point
+none_within : {u : List ℕ} {begin next end p : ℕ} → IsPointBetween u begin next p → IsBoundary u end → begin < end → next ≤ end
+none_within {u} {begin} {next} {end} {p} q b l = elim (cases_lt end next) [
+  | inl m ↦
+      let pushed = q.front ++ p ∷ [] in
+      let x = shorter_is_prefix b.front b.back pushed q.back (reads_same b.splits.reads q.ends.reads)
+      (omega (arith, m, b.splits.front_len, q.ends.front_len)) in
+      let y = shorter_is_prefix q.front (p ∷ q.back) b.front b.back (reads_same q.begins.reads b.splits.reads)
+      (omega (arith, l, b.splits.front_len, q.begins.front_len)) in
+      let one : length x.more + length y.more ≡ 1 =
+      omega (arith, ap length x.joined, ap length y.joined, length-append q.front (p ∷ []), length-append b.front x.more, length-append q.front y.more) in
+      elim (one_is_empty x.more y.more one) [
+        | inl e ↦
+            let same : pushed ≡ b.front = x.joined ∙ (ap (λ v. b.front ++ v) e ∙ append-nil b.front) in
+            absurd (omega (arith, m, ap (λ v. length (bytes v)) same, b.splits.front_len, q.ends.front_len))
+        | inr e ↦
+            let same : b.front ≡ q.front = y.joined ∙ (ap (λ v. q.front ++ v) e ∙ append-nil q.front) in
+            absurd (omega (arith, l, ap (λ v. length (bytes v)) same, b.splits.front_len, q.begins.front_len))
+      ]
+  | inr m ↦ m
+]
+
+-- the code point after the last boundary before another one ends there
+pub ends_at : {u : List ℕ} {begin end p : ℕ} → IsPointBetween u begin (begin + length (encoding p)) p → IsBoundary u end → begin < end
+    → ((k : ℕ) → IsBoundary u k → k ≤ end - 1 → k ≤ begin) → IsPointBetween u begin end p
+ends_at {u} {begin} {end} {p} q b l last =
+    let next = begin + length (encoding p) in
+    let is_boundary : IsBoundary u next = record { front = q.front ++ p ∷ []; back = q.back; splits = q.ends } in
+    let same : next ≡ end = elim (cases_lt next end) [
+      | inl m ↦ absurd (omega (arith, m, last next is_boundary (omega (arith, m)), length-encoding_bounds p))
+      | inr m ↦ omega (arith, m, none_within q b l)
+    ] in
+    subst (λ k. IsPointBetween u begin k p) same q

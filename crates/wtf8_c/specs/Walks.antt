@@ -1,0 +1,10 @@
+-- Code points between boundaries.
+use Rattle.std.specs.Prelude.{ℕ, List, [], ◌∷◌, ◌++◌}
+use Rattle.wtf8.specs.Position.{Splits}
+
+-- The code point between the boundaries `begin` and `end` of the units `u` is `p`.
+pub record IsPointBetween (u : List ℕ) (begin end p : ℕ) : Type 0 where
+  pub front : List ℕ
+  pub back : List ℕ
+  pub begins : Splits u begin front (p ∷ back)
+  pub ends : Splits u end (front ++ p ∷ []) back

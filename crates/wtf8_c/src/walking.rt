@@ -1,0 +1,133 @@
+// Calls that walk over a string, code point by code point.
+ghost use Rattle.std.specs.Prelude.{◌≡◌, ◌⊎◌, ◌+◌, ◌≤◌, ◌↔◌, ℕ, IfSome, IsNone, length};
+ghost use Rattle.wtf8.specs.CodePoint.{number};
+ghost use Rattle.wtf8.specs.Form.{encoding};
+ghost use Rattle.wtf8.specs.Position.{IsBoundary};
+ghost use Rattle.wtf8.specs.View.{view_units};
+ghost use Rattle.wtf8_c.specs.Contents.{contents};
+ghost use Rattle.wtf8_c.specs.Walks.{IsPointBetween};
+
+use crate::codes::{BAD_POSITION, END, OK};
+use crate::handle::Wtf8String;
+use crate::opening::view;
+use std::alloc::Global;
+use wtf8::{CodePoint, Wtf8};
+
+/// Writes the code point after `position` to `code_point`, and moves `position` past it.
+#[unsafe(no_mangle)]
+pub extern "C" fn wtf8_next_code_point(
+    alloc: Global,
+    string: &mut Wtf8String,
+    position: &mut usize,
+    code_point: &mut u32,
+) -> i32
+    ensures code { (result ≡ OK) ⊎ ((result ≡ BAD_POSITION) ⊎ (result ≡ END)) }
+    ensures position { result ≡ BAD_POSITION ↔ ¬ (IsBoundary (contents string.old).units position.old) }
+    ensures end { result ≡ END ↔ position.old ≡ length (contents string.old).bytes }
+    ensures ok { result ≡ OK → IsPointBetween (contents string.old).units position.old position.new code_point.new }
+    ensures position_kept { ¬ (result ≡ OK) → position.new ≡ position.old }
+    ensures code_point { ¬ (result ≡ OK) → code_point.new ≡ code_point.old }
+    ensures kept { contents string.new ≡ contents string.old }
+{
+    let held = string.take(alloc);
+    let code = next_of(view(&held), position, code_point);
+    string.put_back(held);
+    code
+}
+
+/// Writes the code point before `position` to `code_point`, and moves `position` back to its start.
+#[unsafe(no_mangle)]
+pub extern "C" fn wtf8_previous_code_point(
+    alloc: Global,
+    string: &mut Wtf8String,
+    position: &mut usize,
+    code_point: &mut u32,
+) -> i32
+    ensures code { (result ≡ OK) ⊎ ((result ≡ BAD_POSITION) ⊎ (result ≡ END)) }
+    ensures position { result ≡ BAD_POSITION ↔ ¬ (IsBoundary (contents string.old).units position.old) }
+    ensures end { result ≡ END ↔ position.old ≡ 0 }
+    ensures ok { result ≡ OK → IsPointBetween (contents string.old).units position.new position.old code_point.new }
+    ensures position_kept { ¬ (result ≡ OK) → position.new ≡ position.old }
+    ensures code_point { ¬ (result ≡ OK) → code_point.new ≡ code_point.old }
+    ensures kept { contents string.new ≡ contents string.old }
+{
+    let held = string.take(alloc);
+    let code = previous_of(view(&held), position, code_point);
+    string.put_back(held);
+    code
+}
+
+/// The code point of `text` after `position`, as `wtf8_next_code_point` writes it.
+fn next_of(text: Wtf8<'_>, position: &mut usize, code_point: &mut u32) -> i32
+    ensures code { (result ≡ OK) ⊎ ((result ≡ BAD_POSITION) ⊎ (result ≡ END)) }
+    ensures position { result ≡ BAD_POSITION ↔ ¬ (IsBoundary (view_units text.entry) position.old) }
+    ensures end { result ≡ END ↔ position.old ≡ length text.entry.bytes.now }
+    ensures ok { result ≡ OK → IsPointBetween (view_units text.entry) position.old position.new code_point.new }
+    ensures position_kept { ¬ (result ≡ OK) → position.new ≡ position.old }
+    ensures code_point { ¬ (result ≡ OK) → code_point.new ≡ code_point.old }
+{
+    let begin = *position;
+    if !text.is_code_point_boundary(begin) {
+        return BAD_POSITION;
+    }
+    match code_point_at(text, begin) {
+        Some(found) => {
+            *position = begin + found.encoded_len();
+            *code_point = found.to_u32();
+            OK
+        }
+        None => END,
+    }
+}
+
+/// The code point of `text` before `position`, as `wtf8_previous_code_point` writes it.
+fn previous_of(text: Wtf8<'_>, position: &mut usize, code_point: &mut u32) -> i32
+    ensures code { (result ≡ OK) ⊎ ((result ≡ BAD_POSITION) ⊎ (result ≡ END)) }
+    ensures position { result ≡ BAD_POSITION ↔ ¬ (IsBoundary (view_units text.entry) position.old) }
+    ensures end { result ≡ END ↔ position.old ≡ 0 }
+    ensures ok { result ≡ OK → IsPointBetween (view_units text.entry) position.new position.old code_point.new }
+    ensures position_kept { ¬ (result ≡ OK) → position.new ≡ position.old }
+    ensures code_point { ¬ (result ≡ OK) → code_point.new ≡ code_point.old }
+{
+    let end = *position;
+    if !text.is_code_point_boundary(end) {
+        return BAD_POSITION;
+    }
+    if end == 0 {
+        return END;
+    }
+    let begin = boundary_before(text, end - 1);
+    match code_point_at(text, begin) {
+        Some(found) => {
+            *position = begin;
+            *code_point = found.to_u32();
+            OK
+        }
+        None => END,
+    }
+}
+
+/// The code point of `text` after the boundary `position`, or `None` at the end.
+fn code_point_at(text: Wtf8<'_>, position: usize) -> Option<CodePoint>
+    requires { IsBoundary (view_units text) position }
+    ensures some { IfSome result (λ p. IsPointBetween (view_units text.entry) position (position + length (encoding (number p))) (number p)) }
+    ensures within { IfSome result (λ p. position + length (encoding (number p)) ≤ length text.entry.bytes.now) }
+    ensures none { IsNone result → position ≡ length text.entry.bytes.now }
+{
+    text.slice_from(position).code_points().next()
+}
+
+/// The last boundary of `text` at or before a position. It goes back at most three bytes, as a code point has at most
+/// three continuation bytes.
+fn boundary_before(text: Wtf8<'_>, position: usize) -> usize
+    requires { position ≤ length text.bytes.now }
+    ensures boundary { IsBoundary (view_units text.entry) result }
+    ensures before { result ≤ position }
+    ensures last { (k : ℕ) → IsBoundary (view_units text.entry) k → k ≤ position → k ≤ result }
+{
+    let mut boundary = position;
+    while !text.is_code_point_boundary(boundary) {
+        boundary -= 1;
+    }
+    boundary
+}
