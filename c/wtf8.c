@@ -77,6 +77,7 @@ DECLARE(wtf8_result, push_code_point, wtf8_string *, uint32_t)
 DECLARE(wtf8_result, push_units, wtf8_string *, const uint16_t *, size_t)
 DECLARE(wtf8_result, push_utf8, wtf8_string *, const uint8_t *, size_t, size_t *)
 DECLARE(wtf8_result, push_string, wtf8_string *, wtf8_string *)
+DECLARE(wtf8_result, push_slice, wtf8_string *, wtf8_string *, size_t, size_t)
 DECLARE(size_t, unit_len, wtf8_string *)
 DECLARE(size_t, byte_len, wtf8_string *)
 DECLARE(size_t, capacity, wtf8_string *)
@@ -160,6 +161,16 @@ wtf8_result wtf8_push_string(wtf8_string *string, const wtf8_string *other) {
     wtf8_result code = PROVED(set_string)(&second, &copy);
     if (code == WTF8_OK) code = PROVED(push_string)(string, &second);
     PROVED(free)(&second);
+    return code;
+}
+
+wtf8_result wtf8_push_slice(wtf8_string *string, const wtf8_string *other, size_t begin, size_t end) {
+    wtf8_string copy = *other;
+    if (string != other) return PROVED(push_slice)(string, &copy, begin, end);
+    wtf8_string part = WTF8_EMPTY;
+    wtf8_result code = PROVED(slice_units)(&part, &copy, begin, end);
+    if (code == WTF8_OK) code = PROVED(push_string)(string, &part);
+    PROVED(free)(&part);
     return code;
 }
 

@@ -123,7 +123,8 @@ WTF8_CODE wtf8_result wtf8_mark(wtf8_string *string);
 /* ---- Appending ---- */
 
 /* Each appends to the string. A trail after a lead completes the pair. A call whose bytes fit the capacity is never
- * refused, except that to append nothing to a string without a buffer may be. */
+ * refused, except as wtf8_push_string and wtf8_push_slice say, and that to append nothing to a string without a buffer may
+ * be. */
 
 /* One unit. Never refused if it fits. Codes: OK, NO_MEMORY. */
 WTF8_CODE wtf8_result wtf8_push_unit(wtf8_string *string, uint16_t unit);
@@ -139,6 +140,11 @@ WTF8_CODE wtf8_result wtf8_push_utf8(wtf8_string *string, const uint8_t *text, s
 
 /* Another string. Never refused if it fits, unless both are one string. Codes: OK, NO_MEMORY. */
 WTF8_CODE wtf8_result wtf8_push_string(wtf8_string *string, const wtf8_string *other);
+
+/* The units of `other` from `begin`, found by the marks, to before `end`. It may be refused although they fit if both are
+ * one string, or if `begin` or `end` divides a pair: the part is copied first then. Codes: OK, NO_MEMORY, BAD_POSITION
+ * (`begin` is greater than `end`, or `end` than the length). */
+WTF8_CODE wtf8_result wtf8_push_slice(wtf8_string *string, const wtf8_string *other, size_t begin, size_t end);
 
 /* ---- Asking ---- */
 

@@ -199,6 +199,37 @@ static void walks(void) {
     wtf8_free(&all);
 }
 
+/* Each part of a string is appended, also from the middle of a pair, and to the string itself. */
+static void pushed_slices(void) {
+    static const uint16_t units[] = {'a', 0xD83D, 0xDCA9, 0xDC00, 0xD801, 0xE9};
+    enum { UNITS = 6 };
+    wtf8_string other = WTF8_EMPTY;
+    must(wtf8_set_units(&other, units, UNITS) == WTF8_OK, "a string to push parts of");
+    for (size_t begin = 0; begin <= UNITS; begin++) {
+        for (size_t end = begin; end <= UNITS; end++) {
+            /* After a lead, which a trail at the front of the part completes. */
+            uint16_t both[2 * UNITS] = {'b', 0xDBFF};
+            size_t n = end - begin;
+            wtf8_string string = WTF8_EMPTY, same = WTF8_EMPTY;
+            memcpy(both + 2, units + begin, 2 * n);
+            must(wtf8_set_units(&string, both, 2) == WTF8_OK && wtf8_set_units(&same, units, UNITS) == WTF8_OK, "strings to push to");
+            must(wtf8_push_slice(&string, &other, begin, end) == WTF8_OK, "a part that is pushed");
+            must_have(&string, both, n + 2, "a part that was pushed");
+            must(wtf8_push_slice(&string, &other, begin, UNITS + 1) == WTF8_BAD_POSITION, "a part that ends after the end");
+            must(wtf8_push_slice(&string, &other, end + 1, end) == WTF8_BAD_POSITION, "a part that ends before it begins");
+            must_have(&string, both, n + 2, "a string after parts that are none");
+            memcpy(both, units, 2 * UNITS);
+            memcpy(both + UNITS, units + begin, 2 * n);
+            must(wtf8_push_slice(&same, &same, begin, end) == WTF8_OK, "a part of the string itself");
+            must_have(&same, both, UNITS + n, "a part of the string itself that was pushed");
+            must(wtf8_push_slice(&same, &same, begin, SIZE_MAX) == WTF8_BAD_POSITION, "a part of the string itself that is none");
+            wtf8_free(&string);
+            wtf8_free(&same);
+        }
+    }
+    wtf8_free(&other);
+}
+
 /* A string of more units than 16 bits count, of which no two that are 65536 apart are equal. */
 static void indexes(void) {
     static uint16_t units[LETTERS];
@@ -379,6 +410,7 @@ int main(void) {
     hash();
     asked_units();
     walks();
+    pushed_slices();
     indexes();
     marks();
     reserve();

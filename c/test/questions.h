@@ -6,7 +6,7 @@
 
 #include <string.h>
 
-enum { QUESTIONS = 24 };
+enum { QUESTIONS = 25 };
 
 /* What the calls must answer of one string, and of it and another. */
 struct answers {
@@ -84,6 +84,9 @@ static inline int is_right(unsigned kind, size_t number, const struct pair *p, c
         case 22:
             code = wtf8_previous_code_point(s, &at, &point);
             return code == previous_point(p, &must_be_at, &must_be) && at == must_be_at && point == must_be;
+        case 23:
+            wtf8_clear(own);
+            return wtf8_push_slice(own, s, begin, end) == WTF8_OK && has_units(own, p->units + begin, end - begin);
         default:
             wtf8_clear(own);
             return wtf8_push_string(own, s) == WTF8_OK && has_units(own, p->units, p->n);

@@ -4,7 +4,7 @@
 #include "model.h"
 #include "requests.h"
 
-enum { STRINGS = 4, KINDS = 32 };
+enum { STRINGS = 4, KINDS = 33 };
 
 static struct pair pairs[STRINGS];
 static long counts[40][8];
@@ -296,6 +296,17 @@ static void step(int kind, struct pair *p, struct pair *q) {
             must(requests == requested, "a step of a walk requests memory");
             break;
         }
+        case 31: {
+            size_t a = below((uint32_t)q->n + 2), b = an_index(q->n);
+            int in_range = a <= b && b <= q->n;
+            int divides = in_range && ((a > 0 && is_pair(q, a - 1)) || (b > 0 && is_pair(q, b - 1)));
+            if (in_range) memmove(q->units + q->n, q->units + a, 2 * (b - a));
+            needs_none = in_range && p != q && !divides && refuse_if_units_fit(p, q->units + q->n, b - a);
+            code = wtf8_push_slice(&p->string, &q->string, a, b);
+            must((code == WTF8_BAD_POSITION) == !in_range, "push_slice");
+            if (code == WTF8_OK) append(p, q->units + a, b - a);
+            break;
+        }
         default:
             if (below(2)) refuse_after = 0;
             code = wtf8_mark(&p->string);
@@ -307,7 +318,7 @@ static void step(int kind, struct pair *p, struct pair *q) {
     must(code != WTF8_NO_MEMORY || refused < refusals || more > PTRDIFF_MAX, "MEMORY, but no request was refused");
     must(!needs_none || code == WTF8_OK, "a call that needs no memory is not done");
     /* What adds units may ask for memory for marks, and does without it. */
-    int may_ask_for_marks = p->is_marked && (kind <= 2 || (kind >= 6 && kind <= 10));
+    int may_ask_for_marks = p->is_marked && (kind <= 2 || (kind >= 6 && kind <= 10) || kind == 31);
     must(!needs_none || may_ask_for_marks || requests == requested, "a call that needs no memory requests it");
     counts[kind][code]++;
 }
@@ -334,7 +345,8 @@ int main(int count, char **words) {
         {10, WTF8_NO_MEMORY}, {12, WTF8_BAD_POSITION}, {18, WTF8_BAD_POSITION}, {19, WTF8_NO_MEMORY}, {19, WTF8_BAD_POSITION},
         {20, WTF8_BAD_POSITION}, {22, WTF8_BAD_POSITION}, {22, WTF8_ARRAY_TOO_SHORT}, {23, WTF8_HAS_SURROGATE}, {23, WTF8_ARRAY_TOO_SHORT},
         {24, WTF8_NO_MEMORY}, {24, WTF8_ARRAY_TOO_SHORT}, {25, WTF8_ARRAY_TOO_SHORT}, {29, WTF8_BAD_POSITION},
-        {29, WTF8_END}, {30, WTF8_BAD_POSITION}, {30, WTF8_END}, {31, WTF8_NO_MEMORY}};
+        {29, WTF8_END}, {30, WTF8_BAD_POSITION}, {30, WTF8_END}, {31, WTF8_NO_MEMORY},
+        {31, WTF8_BAD_POSITION}, {32, WTF8_NO_MEMORY}};
     for (int kind = 0; kind < KINDS; kind++) must(counts[kind][WTF8_OK] > 0 || steps < 25000, "a call is never done");
     for (size_t i = 0; i < sizeof reached / sizeof reached[0]; i++)
         must(counts[reached[i][0]][reached[i][1]] > 0 || steps < 25000, "a code is never reached");

@@ -1,10 +1,11 @@
-// Calls that shorten a string, and that copy a part of one.
-ghost use Rattle.std.specs.Prelude.{◌≡◌, [], ◌⊎◌, ◌<◌, ◌≤◌, ◌↔◌, IfOk, length, take, drop};
+// Calls that shorten a string, and that copy or append a part of one.
+ghost use Rattle.std.specs.Prelude.{◌≡◌, [], ◌⊎◌, ◌<◌, ◌≤◌, ◌↔◌, IfOk, OnOk, OnErr, length, take, drop};
+ghost use Rattle.wtf8.specs.Appending.{AppendsUnits, KeepsContents};
 ghost use Rattle.wtf8.specs.Position.{IsBoundary, IsFront};
 ghost use Rattle.wtf8.specs.UnitPosition.{units_of_slice};
 ghost use Rattle.wtf8_c.specs.Contents.{contents, buffer_contents};
 
-use crate::codes::{BAD_POSITION, NO_MEMORY, OK};
+use crate::codes::{BAD_POSITION, NO_MEMORY, OK, code_of};
 use crate::handle::Wtf8String;
 use crate::making::replace;
 use crate::opening::{unit_len, view};
@@ -98,6 +99,70 @@ pub extern "C" fn wtf8_slice_units(
     match copied {
         Ok(made) => replace(alloc, into, made),
         Err(_) => NO_MEMORY,
+    }
+}
+
+/// Appends the units of `other` from index `begin` to before `end`.
+#[unsafe(no_mangle)]
+pub extern "C" fn wtf8_push_slice(
+    alloc: Global,
+    string: &mut Wtf8String,
+    other: &mut Wtf8String,
+    begin: usize,
+    end: usize,
+) -> i32
+    ensures code { (result ≡ OK) ⊎ ((result ≡ NO_MEMORY) ⊎ (result ≡ BAD_POSITION)) }
+    ensures position { result ≡ BAD_POSITION ↔ ¬ ((begin ≤ end) × (end ≤ length (contents other.old).units)) }
+    ensures ok { result ≡ OK → AppendsUnits (contents string.old) (drop begin (take end (contents other.old).units)) (contents string.new) }
+    ensures kept { ¬ (result ≡ OK) → KeepsContents (contents string.old) (contents string.new) }
+    ensures other { contents other.new ≡ contents other.old }
+    ensures capacity { (contents string.old).capacity ≤ (contents string.new).capacity }
+{
+    let held = other.take(alloc);
+    if end < begin || unit_len(&held) < end {
+        other.put_back(held);
+        return BAD_POSITION;
+    }
+    let code = push_part(alloc, string, slice_of(&held, begin, end));
+    other.put_back(held);
+    code
+}
+
+/// Appends a slice to the string.
+fn push_part(alloc: Global, string: &mut Wtf8String, slice: UnitSlice<'_>) -> i32
+    ensures code { (result ≡ OK) ⊎ (result ≡ NO_MEMORY) }
+    ensures ok { result ≡ OK → AppendsUnits (contents string.old) (units_of_slice slice.entry) (contents string.new) }
+    ensures kept { result ≡ NO_MEMORY → KeepsContents (contents string.old) (contents string.new) }
+    ensures capacity { (contents string.old).capacity ≤ (contents string.new).capacity }
+{
+    let Ok(mut buf) = string.open(alloc) else {
+        return NO_MEMORY;
+    };
+    let pushed = push_to(alloc, &mut buf, slice);
+    string.put(buf);
+    code_of(pushed)
+}
+
+/// Appends a slice to the buffer. A slice with half a pair at an end is copied first.
+fn push_to(
+    alloc: Global,
+    buf: &mut IndexedBuf<Global>,
+    slice: UnitSlice<'_>,
+) -> Result<(), AllocError>
+    ensures ok { OnOk result (AppendsUnits buf.old (units_of_slice slice.entry) buf.new) }
+    ensures kept { OnErr result (KeepsContents buf.old buf.new) }
+    ensures capacity { buf.old.capacity ≤ buf.new.capacity }
+{
+    match slice {
+        UnitSlice {
+            trail: None,
+            whole,
+            lead: None,
+        } => buf.push_wtf8(whole),
+        _ => {
+            let copied = copy_of_slice(alloc, slice)?;
+            buf.push_wtf8(copied.as_wtf8())
+        }
     }
 }
 
