@@ -1,6 +1,6 @@
 use Rattle.std.proofs.Common.{rules, refl, inr, to_z, of_z, w32}
 use Rattle.wtf8_c.specs.Contents.{contents}
-use Rattle.wtf8_c.proofs.Outcomes.{other_code, IsCodeOf, returned, ok_or_no_memory, Opened, opened, appended, kept, kept_same, capacity_kept}
+use Rattle.wtf8_c.proofs.Outcomes.{other_code, IsCodeOf, returned, ok_or_no_memory, Opened, opened, kept, kept_same, capacity_kept}
 use Rattle.wtf8_c.proofs.Outcomes.{capacity_same}
 use Rattle.wtf8_c.proofs.cutting.push_part.Goals as goal
 
