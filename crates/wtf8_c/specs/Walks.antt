@@ -2,7 +2,8 @@
 use Rattle.std.specs.Prelude.{ℕ, List, [], ◌∷◌, ◌++◌}
 use Rattle.wtf8.specs.Position.{Splits}
 
--- The code point between the boundaries `begin` and `end` of the units `u` is `p`.
+-- The code point between the boundaries `begin` and `end` of the units `u` is `p` (Unicode 3.9, boundaries of code unit
+-- sequences).
 pub record IsPointBetween (u : List ℕ) (begin end p : ℕ) : Type 0 where
   pub front : List ℕ
   pub back : List ℕ
