@@ -39,6 +39,8 @@ REASONS = {
     "clone": "allocation",
     "sort": "sorts and maps",
     "BTreeMap": "sorts and maps",
+    "write_units": "short copies",
+    "IndexedBuf": "short copies",
 }
 
 
