@@ -349,7 +349,7 @@ function callsBetween({ first }, below) {
   }
 }
 
-// Random calls, in one case of four one of those that the fixed list does without, or a few.
+// Random calls; in one case of four a call of a kind that the fixed list does not draw, or a few.
 const allCalls = (state, below) => (below(4) === 0 ? callsBetween(state, below) : randomCalls(state, below));
 
 // All lists of at most `most` units out of `some`.

@@ -148,7 +148,7 @@ fn pushed_from_each_index(units: &[u16]) -> Vec<Call> {
     calls
 }
 
-/// The calls that append units, by each way that takes them; those of register 1 are these units.
+/// The calls that append these units, by each way that takes them; the string of register 1 has them too.
 fn ways(units: &[u16]) -> Vec<Vec<Call>> {
     let each = |opcode| {
         let push = |unit: &u16| match opcode {

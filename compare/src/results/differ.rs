@@ -30,7 +30,7 @@ struct Tally {
     refusal_examples: Vec<(&'static str, Vec<Call>)>,
 }
 
-/// Runs all of `LISTS`, `cases` random scripts, as many of the indexed string, and `cases` random lists of building calls
+/// Runs all of `LISTS`, `cases` random scripts, `cases` of the indexed string, and `cases` random lists of building calls
 /// against the model. Returns whether the sides agree, but for the known differences.
 pub fn run(seed: u64, cases: u64, every_point: bool) -> bool {
     let mut tally = Tally::default();

@@ -143,7 +143,7 @@ impl Machine {
         self.show(register);
     }
 
-    /// The units from one index to another, and after them those that a slice has past its end.
+    /// The units from one index to another, and after them the units that a slice has past its end.
     fn copy_units(&mut self, reader: &mut Reader<'_>) {
         let (begin, end) = (reader.number(), reader.number());
         let after = reader.units();
