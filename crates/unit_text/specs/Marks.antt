@@ -23,7 +23,7 @@ AreKept w u marks = (k : ℕ) (d : UnitMark) → k < length marks → IsKept w u
 abbrev pub AreEnough : List ℕ → List ℕ → ℕ → Type 0
 AreEnough w u count = (length w ≢ length u) → (n : ℕ) → n * spacing < length u → n ≤ count
 
--- The marks are as `AreKept` says and, unless a list of this capacity is full, as many as `AreEnough` says.
+-- `AreKept` holds of the marks and, if there are fewer than `capacity` marks, `AreEnough` holds of their number.
 pub record AreMarks (w u : List ℕ) (marks : List UnitMark) (capacity : ℕ) : Type 0 where
   pub kept : AreKept w u marks
   pub all : length marks < capacity → AreEnough w u (length marks)

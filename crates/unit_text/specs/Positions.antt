@@ -2,7 +2,7 @@
 use Rattle.std.specs.Prelude.{ℕ, ◌≤◌, List, length, take}
 use Rattle.wtf8.specs.Position.{IsBoundary, IsFront}
 
--- The first `n` units are those before the last boundary at or before byte position `k` (Unicode 3.9, boundaries of
+-- The first `n` units are the units before the last boundary at or before byte position `k` (Unicode 3.9, boundaries of
 -- code unit sequences).
 pub record AreUnitsBefore (u : List ℕ) (k n : ℕ) : Type 0 where
   pub boundary : ℕ

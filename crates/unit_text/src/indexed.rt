@@ -271,6 +271,18 @@ impl<A: Allocator> IndexedBuf<A> {
         self.text.reserve(additional)
     }
 
+    /// Releases spare capacity, that of the marks too, if the allocator agrees, else keeps it. An empty string releases all
+    /// of it. The units and bytes of the string never change, and its marks are kept. Linear in the length if it allocates.
+    pub fn shrink_to_fit(&mut self)
+        ensures units { self.new.units ≡ self.old.units }
+        ensures bytes { self.new.bytes ≡ self.old.bytes }
+        ensures capacity { self.new.capacity ≤ self.old.capacity }
+        ensures empty { self.old.bytes ≡ [] → self.new.capacity ≡ 0 }
+    {
+        self.text.shrink_to_fit();
+        marks::shrink_kept(&mut self.marks);
+    }
+
     /// Appends a code point. A trail surrogate after a lead surrogate completes the pair. If memory is refused, the string is
     /// unchanged. No push is refused for a mark.
     pub fn push(&mut self, code_point: CodePoint) -> Result<(), AllocError>
@@ -416,6 +428,25 @@ impl<A: Allocator> IndexedBuf<A> {
     {
         self.text.push_wtf8(other)?;
         marks::count_more(&self.text, &mut self.count, &mut self.marks, count);
+        Ok(())
+    }
+
+    /// Appends a part that was cut at code units, and counts its units: its whole code points between the halves of pairs
+    /// that the cuts split. A string that is cut at any unit, even inside a pair, is whole again after the second part is
+    /// appended to the first. If memory is refused, the string is unchanged. Amortized linear in the length of the part.
+    pub fn push_unit_slice(&mut self, slice: UnitSlice<'_>) -> Result<(), AllocError>
+        ensures ok { OnOk result (AppendsUnits self.old (units_of_slice slice.entry) self.new) }
+        ensures kept { OnErr result (KeepsContents self.old self.new) }
+
+        // A push whose bytes fit is never refused, nor is an empty part, and the capacity never shrinks.
+        ensures room { HasRoomFor self.old (units_of_slice slice.entry) → IsOk result }
+        ensures empty { units_of_slice slice.entry ≡ [] → IsOk result }
+        ensures capacity { self.old.capacity ≤ self.new.capacity }
+    {
+        self.text.push_unit_slice(slice)?;
+        prove!(self.text.len() <= usize::MAX);
+        let more = slices::unit_len(slice);
+        marks::count_more(&self.text, &mut self.count, &mut self.marks, more);
         Ok(())
     }
 

@@ -162,6 +162,15 @@ pub(crate) fn truncate_kept<A: Allocator>(
     }
 }
 
+/// Releases the spare capacity of the marks, if marks are kept and the allocator agrees.
+pub(crate) fn shrink_kept<A: Allocator>(marks: &mut Option<Vec<UnitMark, A>>)
+    ensures { (w u : List ℕ) → IfSome marks.old (λ m. AreMarks w u m.items (vec_capacity m)) → IfSome marks.new (λ m. AreMarks w u m.items (vec_capacity m)) }
+{
+    if let Some(marks) = marks {
+        marks.shrink_to_fit();
+    }
+}
+
 /// The last mark, or the start if there is none.
 fn last_or_start(view: Wtf8<'_>, marks: &[UnitMark]) -> UnitMark
     requires { AreKept view.bytes.now (view_units view) marks.now }

@@ -1,6 +1,6 @@
 // Slices of units, copied and compared.
 ghost use Rattle.std.specs.Option.{option_to_list};
-ghost use Rattle.std.specs.Prelude.{◌≡◌, ◌↔◌, ◌+◌, ◌≤◌, length, [], IfOk, IsOk, IsTrue};
+ghost use Rattle.std.specs.Prelude.{◌≡◌, ◌↔◌, ◌+◌, ◌^◌, ◌<◌, ◌≤◌, length, [], IfOk, IsOk, IsTrue};
 ghost use Rattle.unit_text.specs.Written.{WritesAt};
 ghost use Rattle.wtf8.specs.UnitPosition.{units_of_slice};
 ghost use Rattle.wtf8.specs.View.{view_units};
@@ -19,6 +19,15 @@ pub(crate) fn buf_of_slice<A: Allocator>(
     let mut text = Wtf8Buf::new(alloc);
     text.push_unit_slice(slice)?;
     Ok(text)
+}
+
+/// The number of units of a slice, which must be below `2 ^ 64`. Linear in its length in bytes.
+pub(crate) fn unit_len(slice: UnitSlice<'_>) -> usize
+    requires { length (units_of_slice slice) < 2 ^ 64 }
+    ensures { result ≡ length (units_of_slice slice.entry) }
+{
+    let halves = usize::from(slice.trail.is_some()) + usize::from(slice.lead.is_some());
+    halves + slice.whole.unit_len()
 }
 
 /// Whether a slice has the code units of `other`. Compares bytes, unless an end of the slice splits a surrogate pair.

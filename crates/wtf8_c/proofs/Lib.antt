@@ -1,5 +1,6 @@
 pub mod Boxed
 pub mod Empty
+pub mod FirstPoints
 pub mod Outcomes
 pub mod Steps
 pub mod Walks

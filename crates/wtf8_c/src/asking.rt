@@ -8,14 +8,12 @@ ghost use Rattle.wtf8.specs.Surrogates.{AreScalar};
 ghost use Rattle.wtf8.specs.UnitPosition.{DividesPair};
 ghost use Rattle.unit_text.specs.Positions.{AreUnitsBefore};
 ghost use Rattle.wtf8_c.specs.Contents.{contents, buffer_contents};
-ghost use Rattle.wtf8_c.specs.Hashing.{hash_of};
 
 use crate::codes::{AFTER, BAD_POSITION, BEFORE, OK, SAME};
 use crate::handle::Wtf8String;
 use crate::opening::{unit_len, view};
 use std::alloc::Global;
 use std::cmp::Ordering;
-use std::hash::{DefaultHasher, Hash, Hasher};
 use unit_text::IndexedBuf;
 
 /// The number of units.
@@ -257,17 +255,4 @@ pub extern "C" fn wtf8_compare_code_points(
         Ordering::Equal => SAME,
         Ordering::Greater => AFTER,
     }
-}
-
-/// The hash of the string, for tables.
-#[unsafe(no_mangle)]
-pub extern "C" fn wtf8_hash(alloc: Global, string: &mut Wtf8String) -> u64
-    ensures hash { result ≡ hash_of (contents string.old).bytes }
-    ensures kept { contents string.new ≡ contents string.old }
-{
-    let held = string.take(alloc);
-    let mut hasher = DefaultHasher::new();
-    view(&held).hash(&mut hasher);
-    string.put_back(held);
-    hasher.finish()
 }

@@ -7,6 +7,7 @@ mod codes;
 mod comparing;
 mod cutting;
 mod handle;
+mod hashing;
 mod making;
 mod opening;
 mod parts;

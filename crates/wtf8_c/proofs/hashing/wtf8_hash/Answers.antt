@@ -1,5 +1,5 @@
 use Rattle.std.proofs.Common.{rules, ◌∙◌}
-use Rattle.wtf8_c.proofs.asking.wtf8_hash.Goals as goal
+use Rattle.wtf8_c.proofs.hashing.wtf8_hash.Goals as goal
 
 pub returns-clause-hash : goal.returns-clause-hash
 returns-clause-hash c = search rules

@@ -1,0 +1,10 @@
+use Rattle.std.proofs.Common.{arith}
+use Rattle.std.specs.Prelude.{vec_capacity}
+use Rattle.unit_text.specs.Marks.{AreMarks}
+use Rattle.unit_text.proofs.marks.shrink_kept.Goals as goal
+
+pub returns-in-Some : goal.returns-in-Some
+returns-in-Some g c = λ w u h.
+    let old : AreMarks w u c.in-Some.marks.items (vec_capacity c.in-Some.marks) = rw c.in-Some.is at h in
+    let shrunk = c.shrink_to_fit.ensures in
+    rw shrunk.items (record { kept = old.kept; all = λ room. old.all (omega (arith, room, shrunk.capacity)) })
