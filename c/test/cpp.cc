@@ -16,7 +16,7 @@ static_assert(!std::is_copy_constructible<string>::value && !std::is_copy_assign
 static_assert(std::is_nothrow_default_constructible<string>::value, "an empty string needs no memory");
 static_assert(std::is_nothrow_move_constructible<string>::value && std::is_nothrow_move_assignable<string>::value, "moves");
 static_assert(noexcept(swap(std::declval<string &>(), std::declval<string &>())), "a swap needs no memory");
-static_assert(!std::is_convertible<const char16_t *, string>::value && !std::is_convertible<std::u16string, string>::value, "no copy unasked");
+static_assert(!std::is_convertible<wtf8::units_in, string>::value && !std::is_convertible<std::u16string, string>::value, "no copy unasked");
 static_assert(std::is_same<decltype(std::declval<const string &>().at(0)), char16_t>::value, "units are char16_t");
 static_assert(std::is_same<decltype(std::declval<const string &>().units()), std::u16string>::value, "units are char16_t");
 

@@ -8,7 +8,7 @@ import threading
 sys.path.insert(0, str(pathlib.Path(__file__).resolve().parent.parent / "example"))
 from join import String, Struct, lib
 
-CALLS, PUSHES, THREADS = 30000, 20000, 4
+FRONT, CALLS, PUSHES, THREADS = 20000, 30000, 20000, 4
 sys.setswitchinterval(1e-5)
 keeping = ctypes.PyDLL("libwtf8.so.0")
 keeping.wtf8_unit_len.restype = ctypes.c_size_t
@@ -29,24 +29,23 @@ def run(count, work):
     return sum(wrong)
 
 
-shared = String()
+shared = String("\u4e2d" * FRONT)
 
 
 def push_and_ask():
-    """Makes half of CALLS pushes, each before a question: no length is below what this thread pushed, or shrinks."""
-    wrong, last = 0, 0
+    """Makes half of CALLS pushes, a question after each: no length is below what this thread pushed, or shrinks."""
+    wrong, last = 0, FRONT
     for pushed in range(1, CALLS // 2 + 1):
         shared.push("\u4e2d")
-        n = len(shared)
-        wrong += not max(pushed, last + 1) <= n <= CALLS
+        n = len(shared) if pushed % 50 else len(str(shared).rstrip("\u0000"))
+        wrong += not max(FRONT + pushed, last + 1) <= n <= FRONT + CALLS
         last = n
     return wrong
 
 
 wrong = run(2, push_and_ask)
-wrong += len(shared) != CALLS
-wrong += run(2, lambda: sum(len(shared) != CALLS for _ in range(CALLS)))
-wrong += str(shared) != "\u4e2d" * CALLS
+wrong += str(shared) != "\u4e2d" * (FRONT + CALLS)
+wrong += run(2, lambda: sum(len(shared) != FRONT + CALLS for _ in range(CALLS)))
 
 s = ctypes.byref(Struct())
 if getattr(sys, "_is_gil_enabled", lambda: True)():
