@@ -93,7 +93,7 @@ public:
     void truncate_units(size_t n) { check(wtf8_truncate_units(get(), n)); }
     void truncate_bytes(size_t position) { check(wtf8_truncate_bytes(get(), position)); }
 
-    /* Code points. Each call is false if there is none, and leaves its numbers. */
+    /* Code points. If there is none, each returns false and leaves its arguments as they are. */
     bool pop(char32_t &value) { return found(wtf8_pop(get(), raw(&value))); }
     bool next(size_t &position, char32_t &value) const {
         return found(wtf8_next_code_point(get(), &position, raw(&value)));
@@ -165,9 +165,9 @@ private:
         std::string copy(byte_len(), '\0');
         size_t n = 0;
         check(call(get(), raw(&copy[0]), copy.size(), &n));
+        copy.resize(n);
         return copy;
     }
-
     wtf8_string string_;
 };
 

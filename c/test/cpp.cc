@@ -174,6 +174,7 @@ static void test_order() {
             must((a.compare(b) < 0) == (x < y) && (a.compare(y) == 0) == (x == y) && a.equals(b) == a.equals(y), "compare");
         }
     }
+    must(string(u"a") == u"a" && u"a" < string(u"b") && string(u"b") != u"a", "operators of literals");
     const string pair(u"\xD800\xDC00"), last(u"\xFFFF"), trail(u"\xDC00"), lead(u"\xD800");
     must(pair < last && 0 < pair.compare_code_points(last), "U+10000 and U+FFFF");
     must(pair < trail && trail.compare_code_points(pair) < 0 && lead.compare_code_points(pair) < 0, "U+10000 and surrogates");
