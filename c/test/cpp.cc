@@ -1,5 +1,5 @@
-/* The class of wtf8.hpp: what it gives is known by hand or by std::u16string. Standard containers hold its strings, and the
- * library's requests for memory are refused in turn. Linked with -Wl,--wrap=malloc,--wrap=realloc,--wrap=free. */
+/* The class of wtf8.hpp: what it must return is known by hand or by std::u16string. Standard containers hold its strings,
+ * and the library's requests for memory are refused in turn. Linked with -Wl,--wrap=malloc,--wrap=realloc,--wrap=free. */
 #include "../wtf8.hpp"
 #include "must.h"
 
@@ -12,13 +12,16 @@
 
 using wtf8::string;
 
-static_assert(!std::is_copy_constructible<string>::value && !std::is_copy_assignable<string>::value, "no copy unasked");
+static_assert(!std::is_copy_constructible<string>::value, "no copy unasked");
+static_assert(!std::is_copy_assignable<string>::value, "no copy unasked");
 static_assert(std::is_nothrow_default_constructible<string>::value, "an empty string needs no memory");
-static_assert(std::is_nothrow_move_constructible<string>::value && std::is_nothrow_move_assignable<string>::value, "moves");
+static_assert(std::is_nothrow_move_constructible<string>::value, "a move needs no memory");
+static_assert(std::is_nothrow_move_assignable<string>::value, "a move needs no memory");
 static_assert(noexcept(swap(std::declval<string &>(), std::declval<string &>())), "a swap needs no memory");
-static_assert(!std::is_convertible<wtf8::units_in, string>::value && !std::is_convertible<std::u16string, string>::value, "no copy unasked");
-static_assert(std::is_same<decltype(std::declval<const string &>().at(0)), char16_t>::value, "units are char16_t");
-static_assert(std::is_same<decltype(std::declval<const string &>().units()), std::u16string>::value, "units are char16_t");
+static_assert(!std::is_convertible<wtf8::units_in, string>::value, "no copy unasked");
+static_assert(!std::is_convertible<std::u16string, string>::value, "no copy unasked");
+static_assert(std::is_same<decltype(string().at(0)), char16_t>::value, "units are char16_t");
+static_assert(std::is_same<decltype(string().units()), std::u16string>::value, "units are char16_t");
 
 static long refuse_after = -1; /* the number of requests that are granted before all are refused; -1: all are granted */
 static long blocks;            /* the number of blocks that were granted and not freed */
@@ -38,7 +41,9 @@ void *__wrap_malloc(size_t size);
 void *__wrap_realloc(void *at, size_t size);
 void __wrap_free(void *at);
 void *__wrap_malloc(size_t size) { return granted(is_refused() ? nullptr : __real_malloc(size), true); }
-void *__wrap_realloc(void *at, size_t size) { return granted(is_refused() ? nullptr : __real_realloc(at, size), at == nullptr); }
+void *__wrap_realloc(void *at, size_t size) {
+    return granted(is_refused() ? nullptr : __real_realloc(at, size), at == nullptr);
+}
 void __wrap_free(void *at) {
     if (at != nullptr) blocks--;
     __real_free(at);
@@ -81,10 +86,12 @@ static void test_parts() {
     must(s.units() == mixed && s.byte_len() == 8, "units");
     must(s.units(1, 3) == u"\xD83D\xDCA9" && s.units(2, 2).empty() && s.slice(1, 2).units() == u"\xD83D", "slices");
     must(s.at(0) == u'a' && s.at(1) == 0xD83D && s.at(2) == 0xDCA9 && s.at(3) == 0xDC00, "at");
-    must(s.position_at(1) == 1 && s.position_at(2) == 1 && s.position_at(3) == 5 && s.position_at(4) == 8, "position_at");
-    must(s.unit_before(0) == 0 && s.unit_before(3) == 1 && s.unit_before(5) == 3 && s.unit_before(99) == 4, "unit_before");
-    must(s.is_boundary(1) && !s.is_boundary(2) && s.is_boundary(8) && !s.is_boundary(9), "is_boundary");
-    must(s.starts_with(string(u"a\xD83D")) && s.starts_with(string(u"\xDCA9"), 2) && !s.starts_with(string(u"b")), "starts_with");
+    const size_t positions[] = {0, 1, 1, 5, 8}, units_before[] = {0, 1, 1, 1, 1, 3, 3, 3, 4, 4};
+    for (size_t i = 0; i <= 4; i++) must(s.position_at(i) == positions[i], "position_at");
+    for (size_t i = 0; i <= 9; i++) must(s.unit_before(i) == units_before[i], "unit_before");
+    for (size_t i = 0; i <= 9; i++) must(s.is_boundary(i) == (i < 2 || i == 5 || i == 8), "is_boundary");
+    must(s.starts_with(string(u"a\xD83D")) && !s.starts_with(string(u"b")), "starts_with at the start");
+    must(s.starts_with(string(u"\xDCA9"), 2) && !s.starts_with(string(u"\xDCA9"), 1), "starts_with at an index");
     s.mark();
     must(s.at(2) == 0xDCA9 && s.units() == mixed, "marks");
 }
@@ -92,7 +99,7 @@ static void test_parts() {
 static void test_building() {
     string s;
     must(s.empty() && s.unit_len() == 0 && s.units().empty() && s.utf8().empty() && s.lossy().empty(), "empty");
-    must(string(nullptr, 0).empty() && string(std::u16string()).empty() && string::from_utf8(std::string()).empty(), "of nothing");
+    must(string(nullptr, 0).empty() && string(u"").empty() && string::from_utf8("").empty(), "strings of nothing");
     s.append(nullptr, 0).append(mixed.data(), 2).append(mixed.substr(2));
     must(s.units() == mixed, "append");
     s.append_code_point(0x1F4A9).append_code_point(0xD83D).append_code_point(0xDCA9).append_utf8("\xC3\xA9");
@@ -100,7 +107,8 @@ static void test_building() {
     s.assign(mixed).append(s, 2, 4).append(string(u"z")).append(s);
     must(s.units() == mixed + u"\xDCA9\xDC00z" + mixed + u"\xDCA9\xDC00z", "append of strings");
     must(s.assign_utf8("\xE4\xB8\xAD").units() == u"\x4E2D" && s.assign(string(u"ab")).units() == u"ab", "assign");
-    must(s.assign(s).units() == u"ab" && s.assign(s, 1, 2).units() == u"b" && s.assign(mixed.data(), 3).unit_len() == 3, "assign");
+    must(s.assign(s).units() == u"ab" && s.assign(s, 1, 2).units() == u"b", "assign of a string to itself");
+    must(s.assign(mixed.data(), 3).units() == mixed.substr(0, 3), "assign of units");
     must(s.clone().units() == s.units() && s.unit_len() == 3, "clone");
     must(string(mixed).get() != nullptr && wtf8_unit_len(string(mixed).get()) == 4, "get");
     s.reserve_bytes(1000);
@@ -130,21 +138,25 @@ static void test_walks() {
     const size_t positions[] = {0, 1, 5, 8};
     size_t position = 0;
     char32_t point = 0;
-    for (size_t i = 0; i < 3; i++) must(s.next(position, point) && point == points[i] && position == positions[i + 1], "next");
+    for (size_t i = 0; i < 3; i++)
+        must(s.next(position, point) && point == points[i] && position == positions[i + 1], "next");
     must(!s.next(position, point) && point == 0xDC00 && position == 8, "next at the end");
-    for (size_t i = 3; 0 < i; i--) must(s.previous(position, point) && point == points[i - 1] && position == positions[i - 1], "previous");
+    for (size_t i = 3; 0 < i; i--)
+        must(s.previous(position, point) && point == points[i - 1] && position == positions[i - 1], "previous");
     must(!s.previous(position, point) && point == U'a' && position == 0, "previous at the start");
     position = 2;
-    must(throws<std::out_of_range>([&] { s.next(position, point); }) && throws<std::out_of_range>([&] { s.previous(position, point); }), "off a boundary");
-    must(position == 2 && point == U'a', "a refused walk");
+    must(throws<std::out_of_range>([&] { s.next(position, point); }), "next off a boundary");
+    must(throws<std::out_of_range>([&] { s.previous(position, point); }), "previous off a boundary");
+    must(position == 2 && point == U'a', "a step off a boundary changes no argument");
 }
 
 static void test_throws() {
     string s(mixed), other(u"xy");
     const std::vector<std::function<void()>> out_of_range = {
-        [&] { s.at(4); }, [&] { s.at(huge); }, [&] { s.position_at(5); }, [&] { s.slice(2, 1); }, [&] { s.slice(0, 5); },
-        [&] { s.units(2, 1); }, [&] { s.units(5, 5); }, [&] { s.append(other, 0, 3); }, [&] { s.append(s, 3, 2); },
-        [&] { s.assign(other, 2, 3); }, [&] { s.truncate_units(5); }, [&] { s.truncate_bytes(2); }, [&] { s.truncate_bytes(9); }};
+        [&] { s.at(4); },           [&] { s.at(huge); },           [&] { s.position_at(5); },    [&] { s.slice(2, 1); },
+        [&] { s.slice(0, 5); },     [&] { s.units(2, 1); },        [&] { s.units(5, 5); },       [&] { s.append(other, 0, 3); },
+        [&] { s.append(s, 3, 2); }, [&] { s.assign(other, 2, 3); }, [&] { s.truncate_units(5); }, [&] { s.truncate_bytes(2); },
+        [&] { s.truncate_bytes(9); }};
     for (const auto &call : out_of_range) must(throws<std::out_of_range>(call) && s.units() == mixed, "out_of_range");
     must(fails([&] { s.append_code_point(0x110000); }, WTF8_BAD_CODE_POINT) && s.units() == mixed, "BAD_CODE_POINT");
     must(fails([&] { s.append_utf8("ab\xFF"); }, WTF8_NOT_UTF8, 2) && s.units() == mixed, "NOT_UTF8");
@@ -156,9 +168,9 @@ static void test_throws() {
 
 /* Strings that the two orders and equality divide. */
 static const std::vector<std::u16string> keys = {
-    u"", std::u16string(1, u'\0'), u"a", u"ab", u"b", u"\xE9", u"\x4E2D\x56FD", u"\xD800", u"\xD800\xDC00", u"\xD83D\xDCA9", u"\xD83D",
-    u"\xDBFF\xDFFF", u"\xDC00", u"\xDFFF", u"\xE000", u"\xFFFF", u"a\xD83D", u"a\xD83D\xDCA9", u"a\xFFFF", std::u16string(300, u'x'),
-    std::u16string(300, u'x') + u"\xDC00"};
+    u"", std::u16string(1, u'\0'), u"a", u"ab", u"b", u"\xE9", u"\x4E2D\x56FD", u"\xD800", u"\xD800\xDC00", u"\xD83D\xDCA9",
+    u"\xD83D", u"\xDBFF\xDFFF", u"\xDC00", u"\xDFFF", u"\xE000", u"\xFFFF", u"a\xD83D", u"a\xD83D\xDCA9", u"a\xFFFF",
+    std::u16string(300, u'x'), std::u16string(300, u'x') + u"\xDC00"};
 
 /* Whether all operators of `a` and `b` give what they give of `x` and `y`. */
 template <class A, class B> static bool agree(const A &a, const B &b, const std::u16string &x, const std::u16string &y) {
