@@ -131,15 +131,15 @@ public:
     int compare_code_points(const string &other) const noexcept { return wtf8_compare_code_points(get(), other.get()); }
 
     /* Copying out. */
-    std::u16string units() const { return units(0, unit_len()); }
+    std::u16string units() const { return copy<std::u16string>(wtf8_copy_units, unit_len()); }
     std::u16string units(size_t begin, size_t end) const {
-        std::u16string copy(begin <= end && end <= unit_len() ? end - begin : 0, u'\0');
+        std::u16string out(begin <= end && end <= unit_len() ? end - begin : 0, 0);
         size_t n = 0;
-        check(wtf8_copy_slice(get(), begin, end, raw(&copy[0]), copy.size(), &n));
-        return copy;
+        check(wtf8_copy_slice(get(), begin, end, raw(&out[0]), out.size(), &n));
+        return out;
     }
-    std::string utf8() const { return text(wtf8_copy_utf8); }
-    std::string lossy() const { return text(wtf8_copy_lossy); }
+    std::string utf8() const { return copy<std::string>(wtf8_copy_utf8, byte_len()); }
+    std::string lossy() const { return copy<std::string>(wtf8_copy_lossy, byte_len()); }
 
 private:
     friend struct hasher;
@@ -161,13 +161,13 @@ private:
         wtf8_result code = call(get(), raw(text.data()), text.size(), &valid);
         return done(code, valid);
     }
-    std::string text(wtf8_result (*call)(const wtf8_string *, uint8_t *, size_t, size_t *)) const {
-        std::string copy(byte_len(), '\0');
-        size_t n = 0;
-        check(call(get(), raw(&copy[0]), copy.size(), &n));
-        copy.resize(n);
-        return copy;
+    template <class Out, class Call> Out copy(Call call, size_t n) const {
+        Out out(n, 0);
+        check(call(get(), raw(&out[0]), out.size(), &n));
+        out.resize(n);
+        return out;
     }
+
     wtf8_string string_;
 };
 
