@@ -1,6 +1,9 @@
-/* The edges: of code points, of UTF-8, of indexes, of capacities. The hash of four strings, the text of each code, how
- * often a string that grows asks for memory. Linked as requests.h says. */
+/* The edges: of code points, of UTF-8, of indexes, of capacities, of strings longer than 16 bits count. The hash of four
+ * strings, the text of each code, how often a string that grows asks for memory. Linked as requests.h says. */
+#define _DEFAULT_SOURCE
 #include "../wtf8.h"
+#include "model.h"
+#include "no_texts.h"
 #include "requests.h"
 
 enum { LETTERS = 70000 };
@@ -44,8 +47,6 @@ static void code_points(void) {
     }
 }
 
-#define TEXT(text) text, sizeof(text) - 1
-
 static const struct {
     const char *bytes;
     size_t len, n;
@@ -54,21 +55,13 @@ static const struct {
     {TEXT(""), 0, {0}}, {TEXT("\0"), 1, {0}}, {TEXT("a\0b"), 3, {'a', 0, 'b'}}, {TEXT("\x7F"), 1, {0x7F}},
     {TEXT("seventh"), 7, {'s', 'e', 'v', 'e', 'n', 't', 'h'}}, {TEXT("\xC2\x80"), 1, {0x80}},
     {TEXT("\xDF\xBF"), 1, {0x7FF}}, {TEXT("\xE0\xA0\x80"), 1, {0x800}}, {TEXT("\xED\x9F\xBF"), 1, {0xD7FF}},
-    {TEXT("\xEE\x80\x80"), 1, {0xE000}}, {TEXT("\xEF\xBF\xBF"), 1, {0xFFFF}},
-    {TEXT("\xF0\x90\x80\x80"), 2, {0xD800, 0xDC00}}, {TEXT("\xF4\x8F\xBF\xBF"), 2, {0xDBFF, 0xDFFF}}};
+    {TEXT("\xEE\x80\x80"), 1, {0xE000}}, {TEXT("\xEF\xBF\xBE"), 1, {0xFFFE}}, {TEXT("\xEF\xBF\xBF"), 1, {0xFFFF}},
+    {TEXT("\xF0\x90\x80\x80"), 2, {0xD800, 0xDC00}}, {TEXT("\xF4\x8F\xBF\xBF"), 2, {0xDBFF, 0xDFFF}},
+    {TEXT("\xEF\xBB\xBF" "a"), 2, {0xFEFF, 'a'}}, {TEXT("\r\n"), 2, {'\r', '\n'}}, {TEXT("e\xCC\x81"), 2, {'e', 0x301}}};
 
-static const struct {
-    const char *bytes;
-    size_t len;
-} no_texts[] = {
-    {TEXT("\x80")}, {TEXT("\xBF")}, {TEXT("\xC0\x80")}, {TEXT("\xC1\xBF")}, {TEXT("\xC3")}, {TEXT("\xC3" "a")},
-    {TEXT("\xE0\x9F\xBF")}, {TEXT("\xE4\xB8")}, {TEXT("\xE4\xB8" "a")}, {TEXT("\xED\xA0\x80")}, {TEXT("\xED\xBF\xBF")},
-    {TEXT("\xED\xA0\xBD\xED\xB2\xA9")}, {TEXT("\xF0\x8F\xBF\xBF")}, {TEXT("\xF0\x9F\x92")}, {TEXT("\xF0\x9F\x92" "a")},
-    {TEXT("\xF4\x90\x80\x80")}, {TEXT("\xF5\x80\x80\x80")}, {TEXT("\xF8\x88\x80\x80\x80")}, {TEXT("\xFE")}, {TEXT("\xFF")}};
-
-/* Texts after `front` letters, set and pushed. */
+/* Texts after `front` letters, set and pushed, and bytes that are none, before as many letters. */
 static void utf8_after(size_t front) {
-    uint8_t text[64];
+    uint8_t text[128];
     uint16_t units[128];
     wtf8_string string = WTF8_EMPTY;
     memcpy(text, letters, front);
@@ -79,19 +72,28 @@ static void utf8_after(size_t front) {
         memcpy(units + front, texts[i].units, 2 * texts[i].n);
         memcpy(units + n, units, 2 * n);
         size_t valid = 77;
-        must(wtf8_set_utf8(&string, len ? text : NULL, len, &valid) == WTF8_OK && valid == 77, "a text is set");
+        uint8_t *array = array_of(text, len);
+        must(wtf8_set_utf8(&string, len ? array : NULL, len, &valid) == WTF8_OK && valid == 77, "a text is set");
         must_have(&string, units, n, "a text that was set");
-        must(wtf8_push_utf8(&string, len ? text : NULL, len, NULL) == WTF8_OK, "a text is pushed");
+        must(wtf8_push_utf8(&string, len ? array : NULL, len, NULL) == WTF8_OK, "a text is pushed");
+        must_begin(array, len, text, len, "the text itself");
         must_have(&string, units, 2 * n, "a text that was pushed");
         must(wtf8_byte_len(&string) == 2 * len && wtf8_is_utf8(&string), "a text's length");
-        for (size_t k = 0; k < sizeof no_texts / sizeof no_texts[0]; k++) {
+        for (size_t k = 0; k < NO_TEXTS; k++) {
             memcpy(text + front, no_texts[k].bytes, no_texts[k].len);
-            /* Each of them is not UTF-8 from its first byte on. */
-            size_t set = 77, pushed = 77;
-            must(wtf8_set_utf8(&string, text, front + no_texts[k].len, &set) == WTF8_NOT_UTF8, "no text is set");
-            must(wtf8_push_utf8(&string, text, front + no_texts[k].len, &pushed) == WTF8_NOT_UTF8, "no text is pushed");
-            must(set == front && pushed == front, "the first byte that is not UTF-8");
-            must(wtf8_set_utf8(&string, text, front + no_texts[k].len, NULL) == WTF8_NOT_UTF8, "no text is set");
+            memcpy(text + front + no_texts[k].len, letters, front);
+            for (size_t back = 0; back <= front; back += front < 8 ? 1 : front) {
+                size_t set = 77, pushed = 77;
+                len = front + no_texts[k].len + back;
+                array = array_of(text, len);
+                must(wtf8_set_utf8(&string, array, len, &set) == WTF8_NOT_UTF8, "no text is set");
+                must(wtf8_push_utf8(&string, array, len, &pushed) == WTF8_NOT_UTF8, "no text is pushed");
+                must(set == front && pushed == front, "the first byte that is not UTF-8");
+                must(wtf8_set_utf8(&string, array, len, NULL) == WTF8_NOT_UTF8, "no text is set");
+                must(wtf8_push_utf8(&string, array, len, NULL) == WTF8_NOT_UTF8, "no text is pushed");
+                must_begin(array, len, text, len, "bytes that are no text");
+                if (front == 0) break;
+            }
         }
         must_have(&string, units, 2 * n, "a text after bytes that are none");
     }
@@ -109,6 +111,16 @@ static const struct {
     {1, {'a'}, 0x973594DBF3FE377B},
     {1, {0xD83D}, 0x643FA58BA1C9B89E},
     {16, {'s', 'i', 'x', 't', 'e', 'e', 'n', ' ', 'l', 'e', 't', 't', 'e', 'r', 's', '!'}, 0xF1BF75ED98DBA035}};
+
+/* The first and the last of the 64 vectors of SipHash-2-4 in its authors' vectors.h: the bytes are 00 to 3E, the key 00 to
+ * 0F. */
+static void sip_vectors(void) {
+    uint8_t bytes[63];
+    for (size_t i = 0; i < sizeof bytes; i++) bytes[i] = (uint8_t)i;
+    must(sip_hash(2, 4, 0x0706050403020100, 0x0F0E0D0C0B0A0908, bytes, 0) == 0x726FDB47DD0E0E31, "SipHash-2-4 of no byte");
+    must(sip_hash(2, 4, 0x0706050403020100, 0x0F0E0D0C0B0A0908, bytes, 15) == 0xA129CA6149BE45E5, "SipHash-2-4 of 15 bytes");
+    must(sip_hash(2, 4, 0x0706050403020100, 0x0F0E0D0C0B0A0908, bytes, 63) == 0x958A324CEB064572, "SipHash-2-4 of 63 bytes");
+}
 
 static void hash(void) {
     for (size_t i = 0; i < sizeof hashes / sizeof hashes[0]; i++) {
@@ -249,6 +261,116 @@ static void indexes(void) {
     wtf8_free(&string);
 }
 
+/* A string of more bytes and units than 16 bits count: letters of three bytes, and one of four after unit 65536, where
+ * `pair_at` is. */
+static void long_strings(void) {
+    enum { SIZE = 3 * LETTERS };
+    static uint16_t units[LETTERS + 1];
+    static uint8_t text[SIZE + 3];
+    const size_t pair_at = 65600, bytes = SIZE - 6 + 4, asked[] = {1, 127, 128, 129, 21845, 21846, 65535, 65536, 65537, 65664, LETTERS - 1};
+    wtf8_string string = WTF8_EMPTY, other = WTF8_EMPTY;
+    size_t len = 0, valid = 77;
+    for (size_t i = 0; i < LETTERS; i++) units[i] = (uint16_t)(0x3000 + i % 40000);
+    units[pair_at] = 0xD83D;
+    units[pair_at + 1] = 0xDCA9;
+    for (int is_marked = 0; is_marked < 2; is_marked++) {
+        must(wtf8_set_units(&string, units, LETTERS) == WTF8_OK && (!is_marked || wtf8_mark(&string) == WTF8_OK), "a long string");
+        must(wtf8_unit_len(&string) == LETTERS && wtf8_byte_len(&string) == bytes, "a long string's lengths");
+        must(bytes <= wtf8_capacity(&string) && wtf8_is_utf8(&string), "a long string's capacity");
+        for (size_t k = 0; k < sizeof asked / sizeof asked[0]; k++) {
+            size_t i = asked[k], at = i < pair_at ? 3 * i : 3 * i - 2, position = 77, end;
+            uint16_t unit = 0, out[4];
+            uint32_t value = 77;
+            must(wtf8_position_at(&string, i, &position) == WTF8_OK && position == at, "a position in a long string");
+            must(wtf8_unit_before(&string, at) == i && wtf8_unit_before(&string, at + 2) == i, "an index in a long string");
+            must(wtf8_is_boundary(&string, at) && !wtf8_is_boundary(&string, at + 1), "a boundary in a long string");
+            must(wtf8_unit_at(&string, i, &unit) == WTF8_OK && unit == units[i], "a unit in a long string");
+            end = at;
+            must(wtf8_next_code_point(&string, &end, &value) == WTF8_OK && end == at + 3 && value == units[i], "a step in a long string");
+            must(wtf8_previous_code_point(&string, &end, &value) == WTF8_OK && end == at && value == units[i], "a step back in it");
+            must(wtf8_slice_units(&other, &string, i, LETTERS) == WTF8_OK, "a slice of a long string");
+            must_have(&other, units + i, LETTERS - i, "the units of a long string's slice");
+            must(wtf8_starts_with(&string, i, &other) && !wtf8_starts_with(&string, i - 1, &other), "a long string's back");
+            must(wtf8_set_units(&other, units + i, 1) == WTF8_OK && wtf8_starts_with(&string, i, &other), "a unit of a long string at its index");
+            must(wtf8_push_slice(&other, &string, i - 1, i + 1) == WTF8_OK, "a part of a long string that is pushed");
+            must(wtf8_unit_at(&other, 1, &unit) == WTF8_OK && unit == units[i - 1], "a part of a long string that was pushed");
+            must(wtf8_copy_slice(&string, i - 1, i + 1, out, 4, &len) == WTF8_OK && len == 2, "a part of a long string");
+            must(out[0] == units[i - 1] && out[1] == units[i], "the units of a long string's part");
+            must(wtf8_set_string(&other, &string) == WTF8_OK && wtf8_truncate_units(&other, i) == WTF8_OK, "a long string is cut");
+            must_have(&other, units, i, "a long string's front");
+            must(wtf8_set_string(&other, &string) == WTF8_OK && wtf8_truncate_bytes(&other, at) == WTF8_OK, "a long string is cut by bytes");
+            must_have(&other, units, i, "a long string's front by bytes");
+            /* One unit differs. */
+            must(wtf8_push_unit(&other, 'x') == WTF8_OK && wtf8_push_slice(&other, &string, i + 1, LETTERS) == WTF8_OK, "a unit of a long string is another");
+            must(wtf8_unit_len(&other) == LETTERS && !wtf8_equal(&string, &other) && wtf8_compare_units(&string, &other) == 1, "long strings that differ");
+            must(wtf8_compare_code_points(&other, &string) == -1 && wtf8_compare_with_units(&other, units, LETTERS) == -1, "the order of long strings");
+            must(!wtf8_equal_units(&other, units, LETTERS) && wtf8_equal_units(&string, units, LETTERS), "the units of long strings");
+            must(wtf8_hash(&string) != wtf8_hash(&other), "the hash of long strings");
+        }
+        must(wtf8_unit_before(&string, SIZE_MAX) == LETTERS && wtf8_unit_before(&string, bytes + 1) == LETTERS, "after a long string's end");
+        must(wtf8_set_string(&other, &string) == WTF8_OK && wtf8_equal(&string, &other), "long strings that are equal");
+        must(wtf8_compare_units(&string, &other) == 0 && wtf8_compare_code_points(&string, &other) == 0, "the order of equal long strings");
+        /* A lone trail at the end alone. */
+        uint8_t *out = an_array(SIZE);
+        must(wtf8_copy_utf8(&string, out, SIZE, &len) == WTF8_OK && len == bytes, "a long text");
+        memcpy(text, out, bytes);
+        must_begin(out, SIZE, text, bytes, "a long text's array");
+        must(wtf8_set_utf8(&other, text, bytes, NULL) == WTF8_OK && wtf8_equal(&string, &other), "a long text that is set");
+        must(wtf8_push_unit(&string, 0xDFFF) == WTF8_OK && !wtf8_is_utf8(&string), "a lone trail after a long text");
+        must(wtf8_copy_utf8(&string, text, SIZE, &len) == WTF8_HAS_SURROGATE && len == bytes, "a long text with a surrogate");
+        out = an_array(bytes + 3);
+        memcpy(text + bytes, "\xEF\xBF\xBD", 3);
+        must(wtf8_copy_lossy(&string, out, bytes + 3, &len) == WTF8_OK && len == bytes + 3, "a long lossy text");
+        must_begin(out, bytes + 3, text, bytes + 3, "a long lossy text's array");
+        units[LETTERS] = 0xDFFF;
+        must_have(&string, units, LETTERS + 1, "a long string with a lone trail");
+        wtf8_free(&string);
+    }
+    /* A byte that is not UTF-8, far from the start. */
+    for (size_t at = 250; at < SIZE; at = at < 300 ? at + 1 : at * 3 - 7) {
+        memset(text, 'b', SIZE);
+        text[at] = 0xFF;
+        must(wtf8_set_utf8(&other, text, SIZE, &valid) == WTF8_NOT_UTF8 && valid == at, "a long text's bad byte");
+        valid = 77;
+        must(wtf8_push_utf8(&other, text, SIZE, &valid) == WTF8_NOT_UTF8 && valid == at, "the bad byte of a long text that is pushed");
+    }
+    wtf8_free(&other);
+}
+
+/* What a string without a buffer answers, and one that is empty but has one. */
+static void empty_strings(void) {
+    for (int has_buffer = 0; has_buffer < 2; has_buffer++) {
+        wtf8_string string = WTF8_EMPTY, none = WTF8_EMPTY;
+        size_t len = 77, position = 77, at = 0;
+        uint16_t unit = 0xABCD;
+        must(!has_buffer || wtf8_reserve_bytes(&string, 5) == WTF8_OK, "a buffer");
+        must(has_buffer == (wtf8_capacity(&string) != 0), "the capacity of an empty string");
+        refuse_after = 0;
+        must(wtf8_unit_len(&string) == 0 && wtf8_byte_len(&string) == 0 && wtf8_is_utf8(&string), "an empty string");
+        must(wtf8_position_at(&string, 0, &position) == WTF8_OK && position == 0, "the position of an empty string's end");
+        position = 77;
+        must(wtf8_position_at(&string, 1, &position) == WTF8_BAD_POSITION && position == 77, "the position of no unit");
+        must(wtf8_unit_before(&string, 0) == 0 && wtf8_unit_before(&string, SIZE_MAX) == 0, "the units before any position");
+        must(wtf8_unit_at(&string, 0, &unit) == WTF8_BAD_POSITION && unit == 0xABCD, "a unit of an empty string");
+        must(wtf8_is_boundary(&string, 0) && !wtf8_is_boundary(&string, 1), "the boundary of an empty string");
+        must(wtf8_equal(&string, &none) && wtf8_equal(&none, &string) && wtf8_equal(&string, &string), "empty strings are equal");
+        must(wtf8_compare_units(&string, &none) == 0 && wtf8_compare_code_points(&none, &string) == 0, "the order of empty strings");
+        must(wtf8_starts_with(&string, 0, &none) && wtf8_starts_with(&string, 1, &string), "an empty string within one");
+        must(wtf8_truncate_units(&string, 0) == WTF8_OK && wtf8_truncate_bytes(&string, 0) == WTF8_OK, "an empty string is cut");
+        must(wtf8_truncate_units(&string, 1) == WTF8_BAD_POSITION && wtf8_truncate_bytes(&string, 1) == WTF8_BAD_POSITION, "a cut after the end");
+        must(wtf8_copy_units(&string, NULL, 0, &len) == WTF8_OK && len == 0, "no units");
+        must(wtf8_copy_slice(&string, 0, 0, NULL, 0, &len) == WTF8_OK && len == 0, "no part");
+        must(wtf8_copy_utf8(&string, NULL, 0, &len) == WTF8_OK && len == 0, "no text");
+        must(wtf8_copy_lossy(&string, NULL, 0, &len) == WTF8_OK && len == 0, "no lossy text");
+        must(wtf8_next_code_point(&string, &at, &(uint32_t){0}) == WTF8_END && at == 0, "no code point");
+        wtf8_clear(&string);
+        refuse_after = -1;
+        wtf8_free(&string);
+        wtf8_free(&string);
+        must(blocks == 0, "a block of an empty string");
+    }
+}
+
 enum { MARKED = 700, APPENDED = 300, SPACING = 128 };
 
 /* CJK letters with a surrogate pair around each multiple of the marks' spacing, less `shift`. */
@@ -384,19 +506,37 @@ static void kept_capacity(void) {
 
 /* A string that grows unit by unit asks for memory at most once for each doubling, beside its struct. */
 static void growth(void) {
-    wtf8_string string = WTF8_EMPTY;
-    long before = requests;
-    for (size_t i = 1; i <= LETTERS; i++) {
-        must(wtf8_push_unit(&string, 0x4E2D) == WTF8_OK, "a push that grows");
-        size_t doublings = 0;
-        for (size_t n = i; n > 0; n /= 2) doublings++;
-        must(requests - before <= 2 + (long)doublings, "the requests of a string that grows");
+    static uint16_t units[LETTERS];
+    for (int way = 0; way < 5; way++) {
+        wtf8_string string = WTF8_EMPTY, one = WTF8_EMPTY;
+        must(wtf8_push_unit(&one, 0x4E2D) == WTF8_OK, "a unit to push");
+        long before = requests;
+        for (size_t i = 1; i <= LETTERS; i++) {
+            const uint16_t unit = 0x4E2D;
+            units[i - 1] = unit;
+            wtf8_result code = way == 0 ? wtf8_push_unit(&string, unit)
+                             : way == 1 ? wtf8_push_code_point(&string, unit)
+                             : way == 2 ? wtf8_push_units(&string, &unit, 1)
+                             : way == 3 ? wtf8_push_utf8(&string, (const uint8_t *)"\xE4\xB8\xAD", 3, NULL)
+                                        : wtf8_push_string(&string, &one);
+            must(code == WTF8_OK, "a push that grows");
+            size_t doublings = 0;
+            for (size_t n = i; n > 0; n /= 2) doublings++;
+            must(requests - before <= 2 + (long)doublings, "the requests of a string that grows");
+        }
+        must(wtf8_byte_len(&string) == 3 * LETTERS, "the length of a string that grew");
+        must_have(&string, units, LETTERS, "the units of a string that grew");
+        wtf8_free(&string);
+        wtf8_free(&one);
     }
-    wtf8_free(&string);
 }
 
-/* Each code has a text of its own, and so has what is no code. */
+/* Each code has a text of its own, with a word of its meaning, and so has what is no code. */
 static void texts_of_codes(void) {
+    static const char *const words[] = {"did", "memory", "position", "array", "surrogate", "not a code point", "UTF-8", "no further"};
+    for (int i = WTF8_OK; i <= WTF8_END; i++)
+        must(strstr(wtf8_result_text((wtf8_result)i), words[i]) != NULL, "a word in the text of a code");
+    must(wtf8_result_text((wtf8_result)(WTF8_END + 1)) != NULL, "a text of no code");
     for (int i = WTF8_OK; i <= WTF8_END + 1; i++)
         for (int k = WTF8_OK; k < i; k++)
             must(strcmp(wtf8_result_text((wtf8_result)i), wtf8_result_text((wtf8_result)k)) != 0, "the text of a code");
@@ -407,11 +547,14 @@ int main(void) {
     memset(letters, 'a', LETTERS);
     code_points();
     for (size_t front = 0; front < 48; front++) utf8_after(front);
+    sip_vectors();
     hash();
     asked_units();
     walks();
     pushed_slices();
     indexes();
+    long_strings();
+    empty_strings();
     marks();
     reserve();
     replaced_in_place();
