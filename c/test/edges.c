@@ -167,6 +167,65 @@ static void asked_units(void) {
     wtf8_free(&other);
 }
 
+/* The order of two code points, each after equal units and before a letter: by their values, which rise in `points`, and by
+ * their units. */
+static void orders(void) {
+    enum { POINTS = sizeof points / sizeof points[0], MOST_EQUAL = 40 };
+    static const size_t fronts[] = {0, 1, 2, 7, 8, 15, 16, 17, 31, 32, 33, MOST_EQUAL};
+    for (size_t f = 0; f < sizeof fronts / sizeof fronts[0]; f++) {
+        for (size_t i = 0; i < POINTS; i++) {
+            for (size_t k = 0; k < POINTS; k++) {
+                static struct pair p, q;
+                struct pair *const both[] = {&p, &q};
+                for (int of = 0; of < 2; of++) {
+                    size_t point = of ? k : i;
+                    both[of]->n = 0;
+                    for (size_t m = 0; m < fronts[f]; m++) both[of]->units[both[of]->n++] = m % 3 ? 'a' : 0x4E2D;
+                    for (size_t m = 0; m < points[point].n; m++) both[of]->units[both[of]->n++] = points[point].units[m];
+                    both[of]->units[both[of]->n++] = 'z';
+                    must(wtf8_set_units(&both[of]->string, both[of]->units, both[of]->n) == WTF8_OK, "a string to order");
+                }
+                int by_units = compare_units(&p, &q);
+                must(wtf8_compare_code_points(&p.string, &q.string) == (i < k ? -1 : i > k), "the order by code points");
+                must(wtf8_compare_units(&p.string, &q.string) == by_units, "the order by units");
+                must(wtf8_compare_with_units(&p.string, q.units, q.n) == by_units, "the order by units that are given");
+                must(wtf8_equal(&p.string, &q.string) == (i == k) && wtf8_equal_units(&p.string, q.units, q.n) == (i == k), "equal code points");
+                wtf8_free(&p.string);
+                wtf8_free(&q.string);
+            }
+        }
+    }
+}
+
+/* Each unit of a string counts: one that is another by one bit is noticed by each question of two. */
+static void each_unit(void) {
+    enum { LONG = 300 };
+    uint16_t units[LONG];
+    wtf8_string string = WTF8_EMPTY, other = WTF8_EMPTY;
+    for (size_t n = 1; n <= LONG; n += n < 36 ? 1 : n < 62 || n > 66 ? n / 3 : 1) {
+        for (int kind = 0; kind < 2; kind++) {
+            for (size_t i = 0; i < n; i++) units[i] = (uint16_t)(kind ? 0x4E00 + i : 'a' + i % 16);
+            must(wtf8_set_units(&string, units, n) == WTF8_OK, "a string of units that count");
+            for (size_t i = 0; i < n; i++) {
+                units[i] ^= 1;
+                int order = units[i] & 1 ? -1 : 1;
+                must(wtf8_set_units(&other, units, n) == WTF8_OK, "a string with another unit");
+                must(!wtf8_equal(&string, &other) && !wtf8_equal_units(&string, units, n), "a unit counts");
+                must(wtf8_compare_units(&string, &other) == order && wtf8_compare_code_points(&string, &other) == order, "a unit orders");
+                must(wtf8_compare_with_units(&string, units, n) == order && !wtf8_starts_with(&string, 0, &other), "a unit that is given orders");
+                must(wtf8_hash(&string) != wtf8_hash(&other), "a unit is hashed");
+                units[i] ^= 1;
+            }
+            must(wtf8_set_units(&other, units, n) == WTF8_OK && wtf8_equal(&string, &other) && wtf8_equal_units(&string, units, n), "the units themselves");
+            must(wtf8_compare_units(&string, &other) == 0 && wtf8_compare_code_points(&string, &other) == 0, "the order of the units themselves");
+            must(wtf8_compare_with_units(&string, units, n) == 0 && wtf8_starts_with(&string, 0, &other), "the units themselves that are given");
+            must(wtf8_hash(&string) == wtf8_hash(&other), "the hash of the units themselves");
+        }
+    }
+    wtf8_free(&string);
+    wtf8_free(&other);
+}
+
 /* Walks over a string of one code point and over one of all of them, and positions that are none. */
 static void walks(void) {
     enum { POINTS = sizeof points / sizeof points[0] };
@@ -306,6 +365,26 @@ static void long_strings(void) {
             must(wtf8_compare_code_points(&other, &string) == -1 && wtf8_compare_with_units(&other, units, LETTERS) == -1, "the order of long strings");
             must(!wtf8_equal_units(&other, units, LETTERS) && wtf8_equal_units(&string, units, LETTERS), "the units of long strings");
             must(wtf8_hash(&string) != wtf8_hash(&other), "the hash of long strings");
+        }
+        for (int bit = 17; bit < 64; bit++) {
+            size_t far = (size_t)1 << bit, index = far + 5, position = far + 9, after = position;
+            uint16_t unit = 77;
+            uint32_t value = 77;
+            if (far < SIZE) index = LETTERS + 1, after = position = bytes + 1;
+            must(wtf8_unit_at(&string, index, &unit) == WTF8_BAD_POSITION && unit == 77, "a unit far after the end");
+            must(wtf8_position_at(&string, index, &len) == WTF8_BAD_POSITION, "a position far after the end");
+            must(wtf8_unit_before(&string, position) == LETTERS && !wtf8_is_boundary(&string, position), "a boundary far after the end");
+            must(wtf8_next_code_point(&string, &after, &value) == WTF8_BAD_POSITION && after == position, "a step far after the end");
+            must(wtf8_previous_code_point(&string, &after, &value) == WTF8_BAD_POSITION && after == position, "a step back from there");
+            must(wtf8_truncate_units(&string, index) == WTF8_BAD_POSITION, "a cut far after the end");
+            must(wtf8_truncate_bytes(&string, position) == WTF8_BAD_POSITION, "a cut by bytes far after the end");
+            must(wtf8_slice_units(&other, &string, 1, index) == WTF8_BAD_POSITION, "a slice to far after the end");
+            must(wtf8_slice_units(&other, &string, index, index) == WTF8_BAD_POSITION, "a slice far after the end");
+            must(wtf8_push_slice(&other, &string, 1, index) == WTF8_BAD_POSITION, "a part to far after the end");
+            must(wtf8_push_slice(&other, &string, index, index + 1) == WTF8_BAD_POSITION, "a part far after the end");
+            must(wtf8_copy_slice(&string, 1, index, NULL, 0, &len) == WTF8_BAD_POSITION, "units to far after the end");
+            must(wtf8_copy_slice(&string, index, index + 1, NULL, 0, &len) == WTF8_BAD_POSITION, "units far after the end");
+            must(wtf8_set_units(&other, units + 5, 1) == WTF8_OK && !wtf8_starts_with(&string, index, &other), "a unit at far after the end");
         }
         must(wtf8_unit_before(&string, SIZE_MAX) == LETTERS && wtf8_unit_before(&string, bytes + 1) == LETTERS, "after a long string's end");
         must(wtf8_set_string(&other, &string) == WTF8_OK && wtf8_equal(&string, &other), "long strings that are equal");
@@ -468,7 +547,7 @@ static void reserve(void) {
 /* A string is replaced in the room that it has, with each request refused. */
 static void replaced_in_place(void) {
     static const uint16_t units[] = {'a', 0xE9, 0x4E2D, 0xD83D, 0xDCA9, 0xDC00};
-    wtf8_string string = WTF8_EMPTY, other = WTF8_EMPTY;
+    wtf8_string string = WTF8_EMPTY, other = WTF8_EMPTY, none = WTF8_EMPTY;
     must(wtf8_capacity(&string) == 0, "the capacity of a string without a buffer");
     must(wtf8_reserve_bytes(&string, 100) == WTF8_OK && wtf8_capacity(&string) >= 100, "room to replace a string");
     must(wtf8_set_utf8(&other, letters, 100, NULL) == WTF8_OK, "another string");
@@ -480,6 +559,11 @@ static void replaced_in_place(void) {
     must(wtf8_set_utf8(&string, letters, 100, NULL) == WTF8_OK && wtf8_equal(&string, &other), "a text in place");
     must(wtf8_set_units(&string, units, 6) == WTF8_OK && wtf8_set_string(&string, &other) == WTF8_OK, "a string in place");
     must(wtf8_equal(&string, &other) && wtf8_capacity(&string) == capacity, "the string in place");
+    must(wtf8_set_units(&string, NULL, 0) == WTF8_OK && wtf8_unit_len(&string) == 0, "no units in place");
+    must(wtf8_set_utf8(&string, NULL, 0, NULL) == WTF8_OK && wtf8_set_string(&string, &none) == WTF8_OK, "no text in place");
+    must(wtf8_set_string(&string, &other) == WTF8_OK && wtf8_set_string(&string, &none) == WTF8_OK, "an empty string in place");
+    must(wtf8_unit_len(&string) == 0 && wtf8_capacity(&string) == capacity, "the capacity of an empty string in place");
+    must(wtf8_set_string(&string, &other) == WTF8_OK && wtf8_set_string(&string, &string) == WTF8_OK, "a string in place again");
     must(wtf8_set_utf8(&string, letters, capacity + 1, NULL) == WTF8_NO_MEMORY && wtf8_equal(&string, &other), "a longer text");
     must(requests == requested + 1, "requests in place");
     refuse_after = -1;
@@ -550,6 +634,8 @@ int main(void) {
     sip_vectors();
     hash();
     asked_units();
+    orders();
+    each_unit();
     walks();
     pushed_slices();
     indexes();

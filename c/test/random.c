@@ -58,13 +58,15 @@ static void append(struct pair *p, const uint16_t *units, size_t n) {
     p->n += n;
 }
 
-/* An index or a position for a length of `n`: at the ends more often, and some after the end. */
+/* An index or a position for a length of `n`: at the ends more often, and some after the end, also those of which 32, 63 or
+ * 62 bits are one within the string. */
 static size_t an_index(size_t n) {
-    switch (below(12)) {
+    switch (below(14)) {
         case 0: return 0;
         case 1: return SIZE_MAX - below(3);
         case 2: return n;
         case 3: return n + 1;
+        case 4: return ((size_t)1 << (below(2) ? 32 : 62 + below(2))) + below((uint32_t)n + 1);
         default: return below((uint32_t)n + 3);
     }
 }
@@ -136,6 +138,9 @@ static void step(enum call call, struct pair *p, struct pair *q) {
     wtf8_result code = WTF8_OK;
     int is_bad = below(8) == 0, needs_none = 0;
     long requested = requests, refused = refusals;
+    uint8_t string[sizeof p->string], other[sizeof q->string];
+    memcpy(string, &p->string, sizeof string);
+    memcpy(other, &q->string, sizeof other);
     for (size_t i = 0; i < n; i++) units[i] = a_unit();
     switch (call) {
         case SET_UNITS:
@@ -177,8 +182,10 @@ static void step(enum call call, struct pair *p, struct pair *q) {
             break;
         case RESERVE:
             more = 1 + below(6);
-            more = below(50) ? more * a_length() : SIZE_MAX - below(9);
+            more = below(50) ? more * a_length() : below(2) ? SIZE_MAX - below(9) : ((size_t)1 << (32 + below(32))) + below(99);
             needs_none = refuse_if_fits(p, more);
+            /* Gigabytes might be granted. */
+            if (UINT32_MAX < more) refuse_after = 0;
             code = wtf8_reserve_bytes(&p->string, more);
             must(code == WTF8_NO_MEMORY || more <= PTRDIFF_MAX, "reserve of more than a block can have");
             must(code == WTF8_NO_MEMORY || byte_len(p) + more <= wtf8_capacity(&p->string), "the capacity after reserve");
@@ -389,6 +396,8 @@ static void step(enum call call, struct pair *p, struct pair *q) {
     }
     must(code <= WTF8_END, "code");
     must(code != WTF8_NO_MEMORY || refused < refusals || more > PTRDIFF_MAX, "NO_MEMORY, but no request was refused");
+    if (UNIT_LEN <= call || (call == SLICE && p != q)) must( memcmp(string, &p->string, sizeof string) == 0, "the struct of a string that is read");
+    if (call != SLICE && call != ALIKE && call != STARTS_WITH) must(p == q || memcmp(other, &q->string, sizeof other) == 0, "the struct of another string");
     if (UNIT_LEN <= call || (CLEAR <= call && call <= FREE) || (TRUNCATE_UNITS <= call && call <= TRUNCATE_BYTES)) {
         must(call == COPY_LOSSY || requests == requested, "a call that cannot be refused requests memory");
         counts[call][code]++;
@@ -398,6 +407,7 @@ static void step(enum call call, struct pair *p, struct pair *q) {
     /* What adds units may ask for memory for marks, and does without it. */
     int may_ask_for_marks = p->is_marked && call != RESERVE;
     must(!needs_none || may_ask_for_marks || requests == requested, "a call that needs no memory requests it");
+    if (call <= SET_STRING && needs_none) must(wtf8_capacity(&p->string) == capacity, "the capacity of a string that is set in place");
     int is_append = PUSH_UNIT <= call && call <= PUSH_SLICE;
     if (is_append || call == MARK || call == RESERVE) {
         size_t now = wtf8_capacity(&p->string);
