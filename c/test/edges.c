@@ -197,6 +197,67 @@ static void orders(void) {
     }
 }
 
+/* Each number of units up to 300 is set, pushed, cut out and copied, of ASCII, of CJK, and of letters and pairs. */
+static void lengths(void) {
+    enum { MOST_UNITS = 300, KINDS = 3 };
+    static struct pair p;
+    static uint8_t text[4 * MOST_UNITS];
+    static uint16_t twice[2 * MOST_UNITS + 1];
+    wtf8_string string = WTF8_EMPTY, other = WTF8_EMPTY;
+    for (size_t kind = 0; kind < KINDS; kind++) {
+        size_t len = 0;
+        for (p.n = 0; p.n <= MOST_UNITS; p.n++) {
+            size_t n = p.n, taken = 0, got = 77;
+            uint16_t *units = array_of(p.units, 2 * n);
+            len = 0;
+            for (size_t i = 0; i < n; i += taken) {
+                uint32_t c = point_at(&p, i, &taken);
+                /* A lead at the end, the half of a pair, is no text. */
+                len += encode(is_lead((uint16_t)(c & 0xFFFF)) && c < 0x10000 ? 0xFFFD : c, text + len);
+            }
+            int is_text = is_utf8(&p);
+            memcpy(twice, p.units, 2 * n);
+            memcpy(twice + n, p.units, 2 * n);
+            must(wtf8_set_units(&string, n ? units : NULL, n) == WTF8_OK, "units that are set");
+            must_have(&string, p.units, n, "units that were set");
+            must(wtf8_push_units(&string, n ? units : NULL, n) == WTF8_OK, "units that are pushed");
+            must_have(&string, twice, 2 * n, "units that were pushed");
+            must(wtf8_slice_units(&other, &string, n, 2 * n) == WTF8_OK, "the back of a string");
+            must_have(&other, p.units, n, "the units of the back");
+            must(wtf8_push_slice(&other, &string, 0, n) == WTF8_OK, "the front of a string");
+            must_have(&other, twice, 2 * n, "the units of the front");
+            must(wtf8_equal(&string, &other) && wtf8_truncate_units(&other, n) == WTF8_OK, "equal units");
+            must(wtf8_set_string(&string, &other) == WTF8_OK && wtf8_push_string(&string, &other) == WTF8_OK, "a string that is set and pushed");
+            must_have(&string, twice, 2 * n, "the units of a string that was set and pushed");
+            must(wtf8_push_string(&other, &other) == WTF8_OK && wtf8_equal(&string, &other), "a string that is pushed to itself");
+            must(wtf8_slice_units(&other, &other, n, 2 * n) == WTF8_OK, "the back of a string in its place");
+            must_have(&other, p.units, n, "the units of the back in its place");
+            uint16_t *out = an_array(2 * n);
+            must(wtf8_copy_slice(&string, n, 2 * n, out, n, &got) == WTF8_OK && got == n, "units of the back that are copied");
+            must_begin(out, 2 * n, p.units, 2 * n, "the units of the back that were copied");
+            uint8_t *bytes = an_array(len);
+            must(wtf8_copy_lossy(&other, bytes, len, &got) == WTF8_OK && got == len, "a lossy text that is copied");
+            must_begin(bytes, len, text, len, "the lossy text that was copied");
+            bytes = an_array(len);
+            got = 77;
+            must(wtf8_copy_utf8(&other, bytes, len, &got) == (is_text ? WTF8_OK : WTF8_HAS_SURROGATE) && got == (is_text ? len : 77), "a text that is copied");
+            must_begin(bytes, len, text, is_text ? len : 0, "the text that was copied");
+            must(wtf8_hash(&other) == hash_of(&p) && wtf8_byte_len(&other) == len && wtf8_is_utf8(&other) == is_text, "the bytes of units");
+            if (is_text) {
+                bytes = array_of(text, len);
+                must(wtf8_set_utf8(&string, n ? bytes : NULL, len, NULL) == WTF8_OK && wtf8_equal(&string, &other), "a text that is set");
+                must(wtf8_push_utf8(&string, n ? bytes : NULL, len, NULL) == WTF8_OK, "a text that is pushed");
+                must_have(&string, twice, 2 * n, "the units of a text that was pushed");
+                must_begin(bytes, len, text, len, "the text itself");
+            }
+            must_begin(units, 2 * n, p.units, 2 * n, "the units themselves");
+            p.units[n] = (uint16_t)(kind == 0 ? 'a' + n % 26 : kind == 1 ? 0x4E00 + n : n % 5 == 3 ? 0xD83D : n % 5 == 4 ? 0xDC00 + n : 'a' + n % 26);
+        }
+    }
+    wtf8_free(&string);
+    wtf8_free(&other);
+}
+
 /* Each unit of a string counts: one that is another by one bit is noticed by each question of two. */
 static void each_unit(void) {
     enum { LONG = 300 };
@@ -635,6 +696,7 @@ int main(void) {
     hash();
     asked_units();
     orders();
+    lengths();
     each_unit();
     walks();
     pushed_slices();
