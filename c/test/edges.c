@@ -112,14 +112,16 @@ static const struct {
     {1, {0xD83D}, 0x643FA58BA1C9B89E},
     {16, {'s', 'i', 'x', 't', 'e', 'e', 'n', ' ', 'l', 'e', 't', 't', 'e', 'r', 's', '!'}, 0xF1BF75ED98DBA035}};
 
-/* The first and the last of the 64 vectors of SipHash-2-4 in its authors' vectors.h: the bytes are 00 to 3E, the key 00 to
- * 0F. */
+/* Three of the 64 vectors of SipHash-2-4 in its authors' vectors.h: the bytes are 00, 01 and so on, the key 00 to 0F. */
 static void sip_vectors(void) {
     uint8_t bytes[63];
     for (size_t i = 0; i < sizeof bytes; i++) bytes[i] = (uint8_t)i;
-    must(sip_hash(2, 4, 0x0706050403020100, 0x0F0E0D0C0B0A0908, bytes, 0) == 0x726FDB47DD0E0E31, "SipHash-2-4 of no byte");
-    must(sip_hash(2, 4, 0x0706050403020100, 0x0F0E0D0C0B0A0908, bytes, 15) == 0xA129CA6149BE45E5, "SipHash-2-4 of 15 bytes");
-    must(sip_hash(2, 4, 0x0706050403020100, 0x0F0E0D0C0B0A0908, bytes, 63) == 0x958A324CEB064572, "SipHash-2-4 of 63 bytes");
+    must(sip_hash(2, 4, 0x0706050403020100, 0x0F0E0D0C0B0A0908, bytes, 0) == 0x726FDB47DD0E0E31,
+         "SipHash-2-4 of no byte");
+    must(sip_hash(2, 4, 0x0706050403020100, 0x0F0E0D0C0B0A0908, bytes, 15) == 0xA129CA6149BE45E5,
+         "SipHash-2-4 of 15 bytes");
+    must(sip_hash(2, 4, 0x0706050403020100, 0x0F0E0D0C0B0A0908, bytes, 63) == 0x958A324CEB064572,
+         "SipHash-2-4 of 63 bytes");
 }
 
 static void hash(void) {
@@ -145,7 +147,8 @@ static void asked_units(void) {
         less[n]--;
         must(!wtf8_equal_units(&string, n ? units : NULL, n), "a front of the units");
         must(wtf8_compare_with_units(&string, n ? units : NULL, n) == 1, "a string after a front of its units");
-        must(!wtf8_equal_units(&string, less, 5) && wtf8_compare_with_units(&string, less, 5) == 1, "a unit that is less");
+        must(!wtf8_equal_units(&string, less, 5) && wtf8_compare_with_units(&string, less, 5) == 1,
+             "a unit that is less");
     }
     /* By units, as JavaScript compares: the lead D83D is less than E000. */
     must(wtf8_compare_with_units(&string, greater, 2) == -1 && !wtf8_equal_units(&string, greater, 2), "greater units");
@@ -154,12 +157,15 @@ static void asked_units(void) {
     for (size_t begin = 0; begin < 5; begin++) {
         for (size_t end = begin + 1; end <= 5; end++) {
             must(wtf8_set_units(&other, units + begin, end - begin) == WTF8_OK, "a part of a string");
-            for (size_t i = 0; i < 7; i++) must(wtf8_starts_with(&string, i, &other) == (i == begin), "the index of a part");
-            must(!wtf8_starts_with(&string, SIZE_MAX, &other) && !wtf8_starts_with(&none, 0, &other), "no index of a part");
+            for (size_t i = 0; i < 7; i++)
+                must(wtf8_starts_with(&string, i, &other) == (i == begin), "the index of a part");
+            must(!wtf8_starts_with(&string, SIZE_MAX, &other) && !wtf8_starts_with(&none, 0, &other),
+                 "no index of a part");
         }
     }
     for (size_t i = 0; i < 7; i++) must(wtf8_starts_with(&string, i, &none), "an empty string at an index");
-    must(wtf8_starts_with(&string, SIZE_MAX, &none) && wtf8_starts_with(&none, SIZE_MAX, &none), "an empty string after the end");
+    must(wtf8_starts_with(&string, SIZE_MAX, &none) && wtf8_starts_with(&none, SIZE_MAX, &none),
+         "an empty string after the end");
     for (size_t i = 0; i < 7; i++) must(wtf8_starts_with(&string, i, &string) == (i == 0), "a string within itself");
     must(requests == requested, "requests of questions");
     refuse_after = -1;
@@ -167,8 +173,8 @@ static void asked_units(void) {
     wtf8_free(&other);
 }
 
-/* The order of two code points, each after equal units and before a letter: by their values, which rise in `points`, and by
- * their units. */
+/* The order of two code points, each after equal units and before a letter: by their values, which rise in `points`, and
+ * by their units. */
 static void orders(void) {
     enum { POINTS = sizeof points / sizeof points[0], MOST_EQUAL = 40 };
     static const size_t fronts[] = {0, 1, 2, 7, 8, 15, 16, 17, 31, 32, 33, MOST_EQUAL};
@@ -189,7 +195,8 @@ static void orders(void) {
                 must(wtf8_compare_code_points(&p.string, &q.string) == (i < k ? -1 : i > k), "the order by code points");
                 must(wtf8_compare_units(&p.string, &q.string) == by_units, "the order by units");
                 must(wtf8_compare_with_units(&p.string, q.units, q.n) == by_units, "the order by units that are given");
-                must(wtf8_equal(&p.string, &q.string) == (i == k) && wtf8_equal_units(&p.string, q.units, q.n) == (i == k), "equal code points");
+                must(wtf8_equal(&p.string, &q.string) == (i == k) &&
+                     wtf8_equal_units(&p.string, q.units, q.n) == (i == k), "equal code points");
                 wtf8_free(&p.string);
                 wtf8_free(&q.string);
             }
@@ -227,31 +234,38 @@ static void lengths(void) {
             must(wtf8_push_slice(&other, &string, 0, n) == WTF8_OK, "the front of a string");
             must_have(&other, twice, 2 * n, "the units of the front");
             must(wtf8_equal(&string, &other) && wtf8_truncate_units(&other, n) == WTF8_OK, "equal units");
-            must(wtf8_set_string(&string, &other) == WTF8_OK && wtf8_push_string(&string, &other) == WTF8_OK, "a string that is set and pushed");
+            must(wtf8_set_string(&string, &other) == WTF8_OK && wtf8_push_string(&string, &other) == WTF8_OK,
+                 "a string that is set and pushed");
             must_have(&string, twice, 2 * n, "the units of a string that was set and pushed");
-            must(wtf8_push_string(&other, &other) == WTF8_OK && wtf8_equal(&string, &other), "a string that is pushed to itself");
+            must(wtf8_push_string(&other, &other) == WTF8_OK && wtf8_equal(&string, &other),
+                 "a string that is pushed to itself");
             must(wtf8_slice_units(&other, &other, n, 2 * n) == WTF8_OK, "the back of a string in its place");
             must_have(&other, p.units, n, "the units of the back in its place");
             uint16_t *out = an_array(2 * n);
-            must(wtf8_copy_slice(&string, n, 2 * n, out, n, &got) == WTF8_OK && got == n, "units of the back that are copied");
+            must(wtf8_copy_slice(&string, n, 2 * n, out, n, &got) == WTF8_OK && got == n,
+                 "units of the back that are copied");
             must_begin(out, 2 * n, p.units, 2 * n, "the units of the back that were copied");
             uint8_t *bytes = an_array(len);
             must(wtf8_copy_lossy(&other, bytes, len, &got) == WTF8_OK && got == len, "a lossy text that is copied");
             must_begin(bytes, len, text, len, "the lossy text that was copied");
             bytes = an_array(len);
             got = 77;
-            must(wtf8_copy_utf8(&other, bytes, len, &got) == (is_text ? WTF8_OK : WTF8_HAS_SURROGATE) && got == (is_text ? len : 77), "a text that is copied");
+            must(wtf8_copy_utf8(&other, bytes, len, &got) == (is_text ? WTF8_OK : WTF8_HAS_SURROGATE) &&
+                 got == (is_text ? len : 77), "a text that is copied");
             must_begin(bytes, len, text, is_text ? len : 0, "the text that was copied");
-            must(wtf8_hash(&other) == hash_of(&p) && wtf8_byte_len(&other) == len && wtf8_is_utf8(&other) == is_text, "the bytes of units");
+            must(wtf8_hash(&other) == hash_of(&p) && wtf8_byte_len(&other) == len && wtf8_is_utf8(&other) == is_text,
+                 "the bytes of units");
             if (is_text) {
                 bytes = array_of(text, len);
-                must(wtf8_set_utf8(&string, n ? bytes : NULL, len, NULL) == WTF8_OK && wtf8_equal(&string, &other), "a text that is set");
+                must(wtf8_set_utf8(&string, n ? bytes : NULL, len, NULL) == WTF8_OK && wtf8_equal(&string, &other),
+                     "a text that is set");
                 must(wtf8_push_utf8(&string, n ? bytes : NULL, len, NULL) == WTF8_OK, "a text that is pushed");
                 must_have(&string, twice, 2 * n, "the units of a text that was pushed");
                 must_begin(bytes, len, text, len, "the text itself");
             }
             must_begin(units, 2 * n, p.units, 2 * n, "the units themselves");
-            p.units[n] = (uint16_t)(kind == 0 ? 'a' + n % 26 : kind == 1 ? 0x4E00 + n : n % 5 == 3 ? 0xD83D : n % 5 == 4 ? 0xDC00 + n : 'a' + n % 26);
+            size_t pair = kind < 2 ? 0 : n % 5;
+            p.units[n] = (uint16_t)(kind == 1 ? 0x4E00 + n : pair == 3 ? 0xD83D : pair == 4 ? 0xDC00 + n : 'a' + n % 26);
         }
     }
     wtf8_free(&string);
@@ -272,14 +286,19 @@ static void each_unit(void) {
                 int order = units[i] & 1 ? -1 : 1;
                 must(wtf8_set_units(&other, units, n) == WTF8_OK, "a string with another unit");
                 must(!wtf8_equal(&string, &other) && !wtf8_equal_units(&string, units, n), "a unit counts");
-                must(wtf8_compare_units(&string, &other) == order && wtf8_compare_code_points(&string, &other) == order, "a unit orders");
-                must(wtf8_compare_with_units(&string, units, n) == order && !wtf8_starts_with(&string, 0, &other), "a unit that is given orders");
+                must(wtf8_compare_units(&string, &other) == order &&
+                     wtf8_compare_code_points(&string, &other) == order, "a unit orders");
+                must(wtf8_compare_with_units(&string, units, n) == order && !wtf8_starts_with(&string, 0, &other),
+                     "a unit that is given orders");
                 must(wtf8_hash(&string) != wtf8_hash(&other), "a unit is hashed");
                 units[i] ^= 1;
             }
-            must(wtf8_set_units(&other, units, n) == WTF8_OK && wtf8_equal(&string, &other) && wtf8_equal_units(&string, units, n), "the units themselves");
-            must(wtf8_compare_units(&string, &other) == 0 && wtf8_compare_code_points(&string, &other) == 0, "the order of the units themselves");
-            must(wtf8_compare_with_units(&string, units, n) == 0 && wtf8_starts_with(&string, 0, &other), "the units themselves that are given");
+            must(wtf8_set_units(&other, units, n) == WTF8_OK && wtf8_equal(&string, &other) &&
+                 wtf8_equal_units(&string, units, n), "the units themselves");
+            must(wtf8_compare_units(&string, &other) == 0 && wtf8_compare_code_points(&string, &other) == 0,
+                 "the order of the units themselves");
+            must(wtf8_compare_with_units(&string, units, n) == 0 && wtf8_starts_with(&string, 0, &other),
+                 "the units themselves that are given");
             must(wtf8_hash(&string) == wtf8_hash(&other), "the hash of the units themselves");
         }
     }
@@ -293,38 +312,46 @@ static void walks(void) {
     wtf8_string all = WTF8_EMPTY;
     size_t ends[POINTS], at = 0;
     uint32_t value = 77;
-    must(wtf8_next_code_point(&all, &at, &value) == WTF8_END && wtf8_previous_code_point(&all, &at, &value) == WTF8_END, "a walk of nothing");
+    must(wtf8_next_code_point(&all, &at, &value) == WTF8_END &&
+         wtf8_previous_code_point(&all, &at, &value) == WTF8_END, "a walk of nothing");
     must(at == 0 && value == 77, "the numbers of a walk of nothing");
     for (size_t i = 0; i < POINTS; i++) {
         /* A letter after each keeps leads and trails apart. */
         wtf8_string string = WTF8_EMPTY;
         must(wtf8_push_code_point(&string, points[i].value) == WTF8_OK, "a code point to walk over");
-        must(wtf8_push_code_point(&all, points[i].value) == WTF8_OK && wtf8_push_code_point(&all, 'a') == WTF8_OK, "more code points");
+        must(wtf8_push_code_point(&all, points[i].value) == WTF8_OK && wtf8_push_code_point(&all, 'a') == WTF8_OK,
+             "more code points");
         ends[i] = wtf8_byte_len(&all);
         for (size_t k = 0; k <= points[i].byte_len + 1; k++) {
             size_t next = k, previous = k;
             uint32_t after = 77, before = 77;
             wtf8_result past = k == points[i].byte_len ? WTF8_END : WTF8_BAD_POSITION;
-            must(wtf8_next_code_point(&string, &next, &after) == (k == 0 ? WTF8_OK : past), "the code point at a position");
-            must(next == (k == 0 ? points[i].byte_len : k) && after == (k == 0 ? points[i].value : 77), "a step of a walk");
+            must(wtf8_next_code_point(&string, &next, &after) == (k == 0 ? WTF8_OK : past),
+                 "the code point at a position");
+            must(next == (k == 0 ? points[i].byte_len : k) && after == (k == 0 ? points[i].value : 77),
+                 "a step of a walk");
             wtf8_result back = k == 0 ? WTF8_END : k == points[i].byte_len ? WTF8_OK : WTF8_BAD_POSITION;
             must(wtf8_previous_code_point(&string, &previous, &before) == back, "the code point before a position");
-            must(previous == (back == WTF8_OK ? 0 : k) && before == (back == WTF8_OK ? points[i].value : 77), "a step back of a walk");
+            must(previous == (back == WTF8_OK ? 0 : k) && before == (back == WTF8_OK ? points[i].value : 77),
+                 "a step back of a walk");
         }
         at = SIZE_MAX;
         must(wtf8_next_code_point(&string, &at, &value) == WTF8_BAD_POSITION, "a walk from far after the end");
-        must(wtf8_previous_code_point(&string, &at, &value) == WTF8_BAD_POSITION && at == SIZE_MAX, "a walk back from there");
+        must(wtf8_previous_code_point(&string, &at, &value) == WTF8_BAD_POSITION && at == SIZE_MAX,
+             "a walk back from there");
         wtf8_free(&string);
     }
     at = 0;
     for (size_t i = 0; i < POINTS; i++) {
-        must(wtf8_next_code_point(&all, &at, &value) == WTF8_OK && value == points[i].value && at == ends[i] - 1, "a walk");
+        must(wtf8_next_code_point(&all, &at, &value) == WTF8_OK && value == points[i].value && at == ends[i] - 1,
+             "a walk");
         must(wtf8_next_code_point(&all, &at, &value) == WTF8_OK && value == 'a' && at == ends[i], "a walk's letter");
     }
     must(wtf8_next_code_point(&all, &at, &value) == WTF8_END && at == ends[POINTS - 1], "the end of a walk");
     for (size_t i = POINTS; i-- > 0;) {
         must(wtf8_previous_code_point(&all, &at, &value) == WTF8_OK && value == 'a' && at == ends[i] - 1, "a walk back");
-        must(wtf8_previous_code_point(&all, &at, &value) == WTF8_OK && value == points[i].value, "a code point of a walk back");
+        must(wtf8_previous_code_point(&all, &at, &value) == WTF8_OK && value == points[i].value,
+             "a code point of a walk back");
         must(at == (i == 0 ? 0 : ends[i - 1]), "where a walk back is");
     }
     must(wtf8_previous_code_point(&all, &at, &value) == WTF8_END && at == 0, "the end of a walk back");
@@ -344,17 +371,21 @@ static void pushed_slices(void) {
             size_t n = end - begin;
             wtf8_string string = WTF8_EMPTY, same = WTF8_EMPTY;
             memcpy(both + 2, units + begin, 2 * n);
-            must(wtf8_set_units(&string, both, 2) == WTF8_OK && wtf8_set_units(&same, units, UNITS) == WTF8_OK, "strings to push to");
+            must(wtf8_set_units(&string, both, 2) == WTF8_OK && wtf8_set_units(&same, units, UNITS) == WTF8_OK,
+                 "strings to push to");
             must(wtf8_push_slice(&string, &other, begin, end) == WTF8_OK, "a part that is pushed");
             must_have(&string, both, n + 2, "a part that was pushed");
-            must(wtf8_push_slice(&string, &other, begin, UNITS + 1) == WTF8_BAD_POSITION, "a part that ends after the end");
-            must(wtf8_push_slice(&string, &other, end + 1, end) == WTF8_BAD_POSITION, "a part that ends before it begins");
+            must(wtf8_push_slice(&string, &other, begin, UNITS + 1) == WTF8_BAD_POSITION,
+                 "a part that ends after the end");
+            must(wtf8_push_slice(&string, &other, end + 1, end) == WTF8_BAD_POSITION,
+                 "a part that ends before it begins");
             must_have(&string, both, n + 2, "a string after parts that are none");
             memcpy(both, units, 2 * UNITS);
             memcpy(both + UNITS, units + begin, 2 * n);
             must(wtf8_push_slice(&same, &same, begin, end) == WTF8_OK, "a part of the string itself");
             must_have(&same, both, UNITS + n, "a part of the string itself that was pushed");
-            must(wtf8_push_slice(&same, &same, begin, SIZE_MAX) == WTF8_BAD_POSITION, "a part of the string itself that is none");
+            must(wtf8_push_slice(&same, &same, begin, SIZE_MAX) == WTF8_BAD_POSITION,
+                 "a part of the string itself that is none");
             wtf8_free(&string);
             wtf8_free(&same);
         }
@@ -387,14 +418,16 @@ static void long_strings(void) {
     enum { SIZE = 3 * LETTERS };
     static uint16_t units[LETTERS + 1];
     static uint8_t text[SIZE + 3];
-    const size_t pair_at = 65600, bytes = SIZE - 6 + 4, asked[] = {1, 127, 128, 129, 21845, 21846, 65535, 65536, 65537, 65664, LETTERS - 1};
+    const size_t asked[] = {1, 127, 128, 129, 21845, 21846, 65535, 65536, 65537, 65664, LETTERS - 1};
+    const size_t pair_at = 65600, bytes = SIZE - 6 + 4;
     wtf8_string string = WTF8_EMPTY, other = WTF8_EMPTY;
     size_t len = 0, valid = 77;
     for (size_t i = 0; i < LETTERS; i++) units[i] = (uint16_t)(0x3000 + i % 40000);
     units[pair_at] = 0xD83D;
     units[pair_at + 1] = 0xDCA9;
     for (int is_marked = 0; is_marked < 2; is_marked++) {
-        must(wtf8_set_units(&string, units, LETTERS) == WTF8_OK && (!is_marked || wtf8_mark(&string) == WTF8_OK), "a long string");
+        must(wtf8_set_units(&string, units, LETTERS) == WTF8_OK && (!is_marked || wtf8_mark(&string) == WTF8_OK),
+             "a long string");
         must(wtf8_unit_len(&string) == LETTERS && wtf8_byte_len(&string) == bytes, "a long string's lengths");
         must(bytes <= wtf8_capacity(&string) && wtf8_is_utf8(&string), "a long string's capacity");
         for (size_t k = 0; k < sizeof asked / sizeof asked[0]; k++) {
@@ -402,29 +435,41 @@ static void long_strings(void) {
             uint16_t unit = 0, out[4];
             uint32_t value = 77;
             must(wtf8_position_at(&string, i, &position) == WTF8_OK && position == at, "a position in a long string");
-            must(wtf8_unit_before(&string, at) == i && wtf8_unit_before(&string, at + 2) == i, "an index in a long string");
+            must(wtf8_unit_before(&string, at) == i && wtf8_unit_before(&string, at + 2) == i,
+                 "an index in a long string");
             must(wtf8_is_boundary(&string, at) && !wtf8_is_boundary(&string, at + 1), "a boundary in a long string");
             must(wtf8_unit_at(&string, i, &unit) == WTF8_OK && unit == units[i], "a unit in a long string");
             end = at;
-            must(wtf8_next_code_point(&string, &end, &value) == WTF8_OK && end == at + 3 && value == units[i], "a step in a long string");
-            must(wtf8_previous_code_point(&string, &end, &value) == WTF8_OK && end == at && value == units[i], "a step back in it");
+            must(wtf8_next_code_point(&string, &end, &value) == WTF8_OK && end == at + 3 && value == units[i],
+                 "a step in a long string");
+            must(wtf8_previous_code_point(&string, &end, &value) == WTF8_OK && end == at && value == units[i],
+                 "a step back in it");
             must(wtf8_slice_units(&other, &string, i, LETTERS) == WTF8_OK, "a slice of a long string");
             must_have(&other, units + i, LETTERS - i, "the units of a long string's slice");
-            must(wtf8_starts_with(&string, i, &other) && !wtf8_starts_with(&string, i - 1, &other), "a long string's back");
-            must(wtf8_set_units(&other, units + i, 1) == WTF8_OK && wtf8_starts_with(&string, i, &other), "a unit of a long string at its index");
+            must(wtf8_starts_with(&string, i, &other) && !wtf8_starts_with(&string, i - 1, &other),
+                 "a long string's back");
+            must(wtf8_set_units(&other, units + i, 1) == WTF8_OK && wtf8_starts_with(&string, i, &other),
+                 "a unit of a long string at its index");
             must(wtf8_push_slice(&other, &string, i - 1, i + 1) == WTF8_OK, "a part of a long string that is pushed");
-            must(wtf8_unit_at(&other, 1, &unit) == WTF8_OK && unit == units[i - 1], "a part of a long string that was pushed");
+            must(wtf8_unit_at(&other, 1, &unit) == WTF8_OK && unit == units[i - 1],
+                 "a part of a long string that was pushed");
             must(wtf8_copy_slice(&string, i - 1, i + 1, out, 4, &len) == WTF8_OK && len == 2, "a part of a long string");
             must(out[0] == units[i - 1] && out[1] == units[i], "the units of a long string's part");
-            must(wtf8_set_string(&other, &string) == WTF8_OK && wtf8_truncate_units(&other, i) == WTF8_OK, "a long string is cut");
+            must(wtf8_set_string(&other, &string) == WTF8_OK && wtf8_truncate_units(&other, i) == WTF8_OK,
+                 "a long string is cut");
             must_have(&other, units, i, "a long string's front");
-            must(wtf8_set_string(&other, &string) == WTF8_OK && wtf8_truncate_bytes(&other, at) == WTF8_OK, "a long string is cut by bytes");
+            must(wtf8_set_string(&other, &string) == WTF8_OK && wtf8_truncate_bytes(&other, at) == WTF8_OK,
+                 "a long string is cut by bytes");
             must_have(&other, units, i, "a long string's front by bytes");
             /* One unit differs. */
-            must(wtf8_push_unit(&other, 'x') == WTF8_OK && wtf8_push_slice(&other, &string, i + 1, LETTERS) == WTF8_OK, "a unit of a long string is another");
-            must(wtf8_unit_len(&other) == LETTERS && !wtf8_equal(&string, &other) && wtf8_compare_units(&string, &other) == 1, "long strings that differ");
-            must(wtf8_compare_code_points(&other, &string) == -1 && wtf8_compare_with_units(&other, units, LETTERS) == -1, "the order of long strings");
-            must(!wtf8_equal_units(&other, units, LETTERS) && wtf8_equal_units(&string, units, LETTERS), "the units of long strings");
+            must(wtf8_push_unit(&other, 'x') == WTF8_OK && wtf8_push_slice(&other, &string, i + 1, LETTERS) == WTF8_OK,
+                 "a unit of a long string is another");
+            must(wtf8_unit_len(&other) == LETTERS && !wtf8_equal(&string, &other) &&
+                 wtf8_compare_units(&string, &other) == 1, "long strings that differ");
+            must(wtf8_compare_code_points(&other, &string) == -1 &&
+                 wtf8_compare_with_units(&other, units, LETTERS) == -1, "the order of long strings");
+            must(!wtf8_equal_units(&other, units, LETTERS) && wtf8_equal_units(&string, units, LETTERS),
+                 "the units of long strings");
             must(wtf8_hash(&string) != wtf8_hash(&other), "the hash of long strings");
         }
         for (int bit = 17; bit < 64; bit++) {
@@ -434,9 +479,12 @@ static void long_strings(void) {
             if (far < SIZE) index = LETTERS + 1, after = position = bytes + 1;
             must(wtf8_unit_at(&string, index, &unit) == WTF8_BAD_POSITION && unit == 77, "a unit far after the end");
             must(wtf8_position_at(&string, index, &len) == WTF8_BAD_POSITION, "a position far after the end");
-            must(wtf8_unit_before(&string, position) == LETTERS && !wtf8_is_boundary(&string, position), "a boundary far after the end");
-            must(wtf8_next_code_point(&string, &after, &value) == WTF8_BAD_POSITION && after == position, "a step far after the end");
-            must(wtf8_previous_code_point(&string, &after, &value) == WTF8_BAD_POSITION && after == position, "a step back from there");
+            must(wtf8_unit_before(&string, position) == LETTERS && !wtf8_is_boundary(&string, position),
+                 "a boundary far after the end");
+            must(wtf8_next_code_point(&string, &after, &value) == WTF8_BAD_POSITION && after == position,
+                 "a step far after the end");
+            must(wtf8_previous_code_point(&string, &after, &value) == WTF8_BAD_POSITION && after == position,
+                 "a step back from there");
             must(wtf8_truncate_units(&string, index) == WTF8_BAD_POSITION, "a cut far after the end");
             must(wtf8_truncate_bytes(&string, position) == WTF8_BAD_POSITION, "a cut by bytes far after the end");
             must(wtf8_slice_units(&other, &string, 1, index) == WTF8_BAD_POSITION, "a slice to far after the end");
@@ -444,20 +492,26 @@ static void long_strings(void) {
             must(wtf8_push_slice(&other, &string, 1, index) == WTF8_BAD_POSITION, "a part to far after the end");
             must(wtf8_push_slice(&other, &string, index, index + 1) == WTF8_BAD_POSITION, "a part far after the end");
             must(wtf8_copy_slice(&string, 1, index, NULL, 0, &len) == WTF8_BAD_POSITION, "units to far after the end");
-            must(wtf8_copy_slice(&string, index, index + 1, NULL, 0, &len) == WTF8_BAD_POSITION, "units far after the end");
-            must(wtf8_set_units(&other, units + 5, 1) == WTF8_OK && !wtf8_starts_with(&string, index, &other), "a unit at far after the end");
+            must(wtf8_copy_slice(&string, index, index + 1, NULL, 0, &len) == WTF8_BAD_POSITION,
+                 "units far after the end");
+            must(wtf8_set_units(&other, units + 5, 1) == WTF8_OK && !wtf8_starts_with(&string, index, &other),
+                 "a unit at far after the end");
         }
-        must(wtf8_unit_before(&string, SIZE_MAX) == LETTERS && wtf8_unit_before(&string, bytes + 1) == LETTERS, "after a long string's end");
+        must(wtf8_unit_before(&string, SIZE_MAX) == LETTERS && wtf8_unit_before(&string, bytes + 1) == LETTERS,
+             "after a long string's end");
         must(wtf8_set_string(&other, &string) == WTF8_OK && wtf8_equal(&string, &other), "long strings that are equal");
-        must(wtf8_compare_units(&string, &other) == 0 && wtf8_compare_code_points(&string, &other) == 0, "the order of equal long strings");
+        must(wtf8_compare_units(&string, &other) == 0 && wtf8_compare_code_points(&string, &other) == 0,
+             "the order of equal long strings");
         /* A lone trail at the end alone. */
         uint8_t *out = an_array(SIZE);
         must(wtf8_copy_utf8(&string, out, SIZE, &len) == WTF8_OK && len == bytes, "a long text");
         memcpy(text, out, bytes);
         must_begin(out, SIZE, text, bytes, "a long text's array");
-        must(wtf8_set_utf8(&other, text, bytes, NULL) == WTF8_OK && wtf8_equal(&string, &other), "a long text that is set");
+        must(wtf8_set_utf8(&other, text, bytes, NULL) == WTF8_OK && wtf8_equal(&string, &other),
+             "a long text that is set");
         must(wtf8_push_unit(&string, 0xDFFF) == WTF8_OK && !wtf8_is_utf8(&string), "a lone trail after a long text");
-        must(wtf8_copy_utf8(&string, text, SIZE, &len) == WTF8_HAS_SURROGATE && len == bytes, "a long text with a surrogate");
+        must(wtf8_copy_utf8(&string, text, SIZE, &len) == WTF8_HAS_SURROGATE && len == bytes,
+             "a long text with a surrogate");
         out = an_array(bytes + 3);
         memcpy(text + bytes, "\xEF\xBF\xBD", 3);
         must(wtf8_copy_lossy(&string, out, bytes + 3, &len) == WTF8_OK && len == bytes + 3, "a long lossy text");
@@ -472,7 +526,8 @@ static void long_strings(void) {
         text[at] = 0xFF;
         must(wtf8_set_utf8(&other, text, SIZE, &valid) == WTF8_NOT_UTF8 && valid == at, "a long text's bad byte");
         valid = 77;
-        must(wtf8_push_utf8(&other, text, SIZE, &valid) == WTF8_NOT_UTF8 && valid == at, "the bad byte of a long text that is pushed");
+        must(wtf8_push_utf8(&other, text, SIZE, &valid) == WTF8_NOT_UTF8 && valid == at,
+             "the bad byte of a long text that is pushed");
     }
     wtf8_free(&other);
 }
@@ -487,17 +542,23 @@ static void empty_strings(void) {
         must(has_buffer == (wtf8_capacity(&string) != 0), "the capacity of an empty string");
         refuse_after = 0;
         must(wtf8_unit_len(&string) == 0 && wtf8_byte_len(&string) == 0 && wtf8_is_utf8(&string), "an empty string");
-        must(wtf8_position_at(&string, 0, &position) == WTF8_OK && position == 0, "the position of an empty string's end");
+        must(wtf8_position_at(&string, 0, &position) == WTF8_OK && position == 0,
+             "the position of an empty string's end");
         position = 77;
         must(wtf8_position_at(&string, 1, &position) == WTF8_BAD_POSITION && position == 77, "the position of no unit");
-        must(wtf8_unit_before(&string, 0) == 0 && wtf8_unit_before(&string, SIZE_MAX) == 0, "the units before any position");
+        must(wtf8_unit_before(&string, 0) == 0 && wtf8_unit_before(&string, SIZE_MAX) == 0,
+             "the units before any position");
         must(wtf8_unit_at(&string, 0, &unit) == WTF8_BAD_POSITION && unit == 0xABCD, "a unit of an empty string");
         must(wtf8_is_boundary(&string, 0) && !wtf8_is_boundary(&string, 1), "the boundary of an empty string");
-        must(wtf8_equal(&string, &none) && wtf8_equal(&none, &string) && wtf8_equal(&string, &string), "empty strings are equal");
-        must(wtf8_compare_units(&string, &none) == 0 && wtf8_compare_code_points(&none, &string) == 0, "the order of empty strings");
+        must(wtf8_equal(&string, &none) && wtf8_equal(&none, &string) && wtf8_equal(&string, &string),
+             "empty strings are equal");
+        must(wtf8_compare_units(&string, &none) == 0 && wtf8_compare_code_points(&none, &string) == 0,
+             "the order of empty strings");
         must(wtf8_starts_with(&string, 0, &none) && wtf8_starts_with(&string, 1, &string), "an empty string within one");
-        must(wtf8_truncate_units(&string, 0) == WTF8_OK && wtf8_truncate_bytes(&string, 0) == WTF8_OK, "an empty string is cut");
-        must(wtf8_truncate_units(&string, 1) == WTF8_BAD_POSITION && wtf8_truncate_bytes(&string, 1) == WTF8_BAD_POSITION, "a cut after the end");
+        must(wtf8_truncate_units(&string, 0) == WTF8_OK && wtf8_truncate_bytes(&string, 0) == WTF8_OK,
+             "an empty string is cut");
+        must(wtf8_truncate_units(&string, 1) == WTF8_BAD_POSITION &&
+             wtf8_truncate_bytes(&string, 1) == WTF8_BAD_POSITION, "a cut after the end");
         must(wtf8_copy_units(&string, NULL, 0, &len) == WTF8_OK && len == 0, "no units");
         must(wtf8_copy_slice(&string, 0, 0, NULL, 0, &len) == WTF8_OK && len == 0, "no part");
         must(wtf8_copy_utf8(&string, NULL, 0, &len) == WTF8_OK && len == 0, "no text");
@@ -618,14 +679,19 @@ static void replaced_in_place(void) {
     must(wtf8_set_units(&string, units, 6) == WTF8_OK, "units in place");
     must(wtf8_unit_len(&string) == 6 && wtf8_byte_len(&string) == 1 + 2 + 3 + 4 + 3, "the units in place");
     must(wtf8_set_utf8(&string, letters, 100, NULL) == WTF8_OK && wtf8_equal(&string, &other), "a text in place");
-    must(wtf8_set_units(&string, units, 6) == WTF8_OK && wtf8_set_string(&string, &other) == WTF8_OK, "a string in place");
+    must(wtf8_set_units(&string, units, 6) == WTF8_OK && wtf8_set_string(&string, &other) == WTF8_OK,
+         "a string in place");
     must(wtf8_equal(&string, &other) && wtf8_capacity(&string) == capacity, "the string in place");
     must(wtf8_set_units(&string, NULL, 0) == WTF8_OK && wtf8_unit_len(&string) == 0, "no units in place");
-    must(wtf8_set_utf8(&string, NULL, 0, NULL) == WTF8_OK && wtf8_set_string(&string, &none) == WTF8_OK, "no text in place");
-    must(wtf8_set_string(&string, &other) == WTF8_OK && wtf8_set_string(&string, &none) == WTF8_OK, "an empty string in place");
+    must(wtf8_set_utf8(&string, NULL, 0, NULL) == WTF8_OK && wtf8_set_string(&string, &none) == WTF8_OK,
+         "no text in place");
+    must(wtf8_set_string(&string, &other) == WTF8_OK && wtf8_set_string(&string, &none) == WTF8_OK,
+         "an empty string in place");
     must(wtf8_unit_len(&string) == 0 && wtf8_capacity(&string) == capacity, "the capacity of an empty string in place");
-    must(wtf8_set_string(&string, &other) == WTF8_OK && wtf8_set_string(&string, &string) == WTF8_OK, "a string in place again");
-    must(wtf8_set_utf8(&string, letters, capacity + 1, NULL) == WTF8_NO_MEMORY && wtf8_equal(&string, &other), "a longer text");
+    must(wtf8_set_string(&string, &other) == WTF8_OK && wtf8_set_string(&string, &string) == WTF8_OK,
+         "a string in place again");
+    must(wtf8_set_utf8(&string, letters, capacity + 1, NULL) == WTF8_NO_MEMORY && wtf8_equal(&string, &other),
+         "a longer text");
     must(requests == requested + 1, "requests in place");
     refuse_after = -1;
     wtf8_free(&string);
@@ -678,7 +744,8 @@ static void growth(void) {
 
 /* Each code has a text of its own, with a word of its meaning, and so has what is no code. */
 static void texts_of_codes(void) {
-    static const char *const words[] = {"did", "memory", "position", "array", "surrogate", "not a code point", "UTF-8", "no further"};
+    static const char *const words[] = {
+        "did", "memory", "position", "array", "surrogate", "not a code point", "UTF-8", "no further"};
     for (int i = WTF8_OK; i <= WTF8_END; i++)
         must(strstr(wtf8_result_text((wtf8_result)i), words[i]) != NULL, "a word in the text of a code");
     must(wtf8_result_text((wtf8_result)(WTF8_END + 1)) != NULL, "a text of no code");

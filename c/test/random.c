@@ -58,8 +58,8 @@ static void append(struct pair *p, const uint16_t *units, size_t n) {
     p->n += n;
 }
 
-/* An index or a position for a length of `n`: at the ends more often, and some after the end, also those of which 32, 63 or
- * 62 bits are one within the string. */
+/* An index or a position for a length of `n`: at the ends more often, and now and then after the end, also where its low
+ * 32, 62 or 63 bits are an index within the string. */
 static size_t an_index(size_t n) {
     switch (below(14)) {
         case 0: return 0;
@@ -158,7 +158,8 @@ static void step(enum call call, struct pair *p, struct pair *q) {
             else needs_none = is_set ? is_set_in_place(p, len) : refuse_if_units_fit(p, units, n);
             bytes = array_of(text, len);
             size_t *asked_valid = below(4) ? &valid : NULL;
-            code = (is_set ? wtf8_set_utf8 : wtf8_push_utf8)(&p->string, len || below(2) ? bytes : NULL, len, asked_valid);
+            const uint8_t *given = len || below(2) ? bytes : NULL;
+            code = (is_set ? wtf8_set_utf8 : wtf8_push_utf8)(&p->string, given, len, asked_valid);
             must_begin(bytes, len, text, len, "the text");
             must(valid == (is_bad && asked_valid ? at : 77), "the first bad byte");
             must((code == WTF8_NOT_UTF8) == is_bad, "NOT_UTF8");
@@ -182,7 +183,8 @@ static void step(enum call call, struct pair *p, struct pair *q) {
             break;
         case RESERVE:
             more = 1 + below(6);
-            more = below(50) ? more * a_length() : below(2) ? SIZE_MAX - below(9) : ((size_t)1 << (32 + below(32))) + below(99);
+            at = (size_t)1 << (32 + below(32));
+            more = below(50) ? more * a_length() : below(2) ? SIZE_MAX - below(9) : at + below(99);
             needs_none = refuse_if_fits(p, more);
             /* Gigabytes might be granted. */
             if (UINT32_MAX < more) refuse_after = 0;
@@ -315,7 +317,9 @@ static void step(enum call call, struct pair *p, struct pair *q) {
         case IS_UTF8: must(wtf8_is_utf8(&p->string) == is_utf8(p), "is_utf8"); break;
         case EQUAL: must(wtf8_equal(&p->string, &q->string) == (compare_units(p, q) == 0), "equal"); break;
         case ORDER_UNITS: must(wtf8_compare_units(&p->string, &q->string) == compare_units(p, q), "compare_units"); break;
-        case ORDER_POINTS: must(wtf8_compare_code_points(&p->string, &q->string) == compare_points(p, q), "compare_code_points"); break;
+        case ORDER_POINTS:
+            must(wtf8_compare_code_points(&p->string, &q->string) == compare_points(p, q), "compare_code_points");
+            break;
         case HASH: must(wtf8_hash(&p->string) == hash_of(p), "hash"); break;
         case EQUAL_UNITS:
         case ORDER_WITH_UNITS: {
@@ -396,8 +400,10 @@ static void step(enum call call, struct pair *p, struct pair *q) {
     }
     must(code <= WTF8_END, "code");
     must(code != WTF8_NO_MEMORY || refused < refusals || more > PTRDIFF_MAX, "NO_MEMORY, but no request was refused");
-    if (UNIT_LEN <= call || (call == SLICE && p != q)) must( memcmp(string, &p->string, sizeof string) == 0, "the struct of a string that is read");
-    if (call != SLICE && call != ALIKE && call != STARTS_WITH) must(p == q || memcmp(other, &q->string, sizeof other) == 0, "the struct of another string");
+    if (UNIT_LEN <= call || (call == SLICE && p != q))
+        must(memcmp(string, &p->string, sizeof string) == 0, "the struct of a string that is read");
+    if (p != q && call != SLICE && call != ALIKE && call != STARTS_WITH)
+        must(memcmp(other, &q->string, sizeof other) == 0, "the struct of another string");
     if (UNIT_LEN <= call || (CLEAR <= call && call <= FREE) || (TRUNCATE_UNITS <= call && call <= TRUNCATE_BYTES)) {
         must(call == COPY_LOSSY || requests == requested, "a call that cannot be refused requests memory");
         counts[call][code]++;
@@ -407,7 +413,8 @@ static void step(enum call call, struct pair *p, struct pair *q) {
     /* What adds units may ask for memory for marks, and does without it. */
     int may_ask_for_marks = p->is_marked && call != RESERVE;
     must(!needs_none || may_ask_for_marks || requests == requested, "a call that needs no memory requests it");
-    if (call <= SET_STRING && needs_none) must(wtf8_capacity(&p->string) == capacity, "the capacity of a string that is set in place");
+    int is_in_place = call <= SET_STRING && needs_none;
+    must(!is_in_place || wtf8_capacity(&p->string) == capacity, "the capacity of a string that is set in place");
     int is_append = PUSH_UNIT <= call && call <= PUSH_SLICE;
     if (is_append || call == MARK || call == RESERVE) {
         size_t now = wtf8_capacity(&p->string);
