@@ -532,6 +532,71 @@ static void long_strings(void) {
     wtf8_free(&other);
 }
 
+/* Each code point by itself: its units, its text, and steps over it. */
+static void each_code_point(void) {
+    wtf8_string string = WTF8_EMPTY, other = WTF8_EMPTY;
+    must(wtf8_reserve_bytes(&string, 8) == WTF8_OK && wtf8_reserve_bytes(&other, 8) == WTF8_OK, "room for a code point");
+    refuse_after = 0;
+    for (uint32_t c = 0; c <= 0x10FFFF; c++) {
+        uint16_t units[2], out[2];
+        uint8_t text[4], lossy[4];
+        uint32_t value = 77;
+        size_t n = units_of(c, units), len = encode(c, text), at = 0, got = 77;
+        int is_surrogate = 0xD800 <= c && c < 0xE000;
+        wtf8_clear(&string);
+        wtf8_clear(&other);
+        must(wtf8_push_code_point(&string, c) == WTF8_OK && wtf8_unit_len(&string) == n, "each code point is pushed");
+        must(wtf8_copy_units(&string, out, 2, &got) == WTF8_OK && got == n, "the units of each code point are copied");
+        must(out[0] == units[0] && (n == 1 || out[1] == units[1]), "the units of each code point");
+        must(wtf8_next_code_point(&string, &at, &value) == WTF8_OK && value == c && at == len, "a step over each");
+        value = 77;
+        must(wtf8_previous_code_point(&string, &at, &value) == WTF8_OK && value == c && at == 0, "a step back over each");
+        for (size_t i = 0; i < n; i++) must(wtf8_push_unit(&other, units[i]) == WTF8_OK, "each unit is pushed");
+        must(wtf8_equal(&string, &other) && wtf8_equal_units(&string, units, n), "each code point by its units");
+        must(wtf8_is_utf8(&string) != is_surrogate && wtf8_byte_len(&string) == len, "whether each is UTF-8");
+        must(wtf8_set_units(&string, units, n) == WTF8_OK && wtf8_equal(&string, &other), "the units of each are set");
+        wtf8_clear(&string);
+        must(wtf8_push_units(&string, units, n) == WTF8_OK && wtf8_equal(&string, &other), "the units of each are pushed");
+        must(wtf8_set_utf8(&string, text, len, NULL) == (is_surrogate ? WTF8_NOT_UTF8 : WTF8_OK), "each text is set");
+        must(wtf8_equal(&string, &other), "the text of each that was set");
+        if (is_surrogate) continue;
+        wtf8_clear(&string);
+        must(wtf8_push_utf8(&string, text, len, NULL) == WTF8_OK && wtf8_equal(&string, &other), "each text is pushed");
+        must(wtf8_copy_utf8(&string, lossy, 4, &got) == WTF8_OK && got == len, "each text is copied");
+        must(memcmp(lossy, text, len) == 0, "the text of each");
+        must(wtf8_copy_lossy(&string, lossy, 4, &got) == WTF8_OK && got == len && memcmp(lossy, text, len) == 0, "a lossy text");
+    }
+    refuse_after = -1;
+    wtf8_free(&string);
+    wtf8_free(&other);
+}
+
+/* Long strings that are appended to long ones. */
+static void long_appends(void) {
+    static uint16_t units[6 * LETTERS];
+    static uint8_t text[3 * LETTERS];
+    wtf8_string string = WTF8_EMPTY, other = WTF8_EMPTY;
+    for (size_t i = 0; i < LETTERS; i++) {
+        units[i] = (uint16_t)(0x4E00 + i % 20000);
+        encode(units[i], text + 3 * i);
+    }
+    for (size_t k = 1; k < 6; k++) memcpy(units + k * LETTERS, units, 2 * LETTERS);
+    must(wtf8_push_units(&string, units, LETTERS) == WTF8_OK && wtf8_set_string(&other, &string) == WTF8_OK, "long units");
+    must(wtf8_push_units(&string, units, LETTERS) == WTF8_OK, "long units after long ones");
+    must_have(&string, units, 2 * LETTERS, "long units that were pushed");
+    must(wtf8_push_utf8(&string, text, sizeof text, NULL) == WTF8_OK, "a long text after long units");
+    must_have(&string, units, 3 * LETTERS, "a long text that was pushed");
+    must(wtf8_truncate_units(&string, 2 * LETTERS) == WTF8_OK && wtf8_push_string(&string, &other) == WTF8_OK, "a long string");
+    must_have(&string, units, 3 * LETTERS, "a long string that was pushed");
+    must(wtf8_push_string(&string, &string) == WTF8_OK, "a long string that is pushed to itself");
+    must_have(&string, units, 6 * LETTERS, "a long string that was pushed to itself");
+    must(wtf8_truncate_bytes(&string, 6 * LETTERS) == WTF8_OK, "a long string that is cut");
+    must(wtf8_push_slice(&string, &string, LETTERS, 2 * LETTERS) == WTF8_OK, "a long part that is pushed to its string");
+    must_have(&string, units, 3 * LETTERS, "a long part that was pushed to its string");
+    wtf8_free(&string);
+    wtf8_free(&other);
+}
+
 /* What a string without a buffer answers, and one that is empty but has one. */
 static void empty_strings(void) {
     for (int has_buffer = 0; has_buffer < 2; has_buffer++) {
@@ -658,6 +723,8 @@ static void reserve(void) {
             for (size_t k = 0; k < 4; k++)
                 must(wtf8_reserve_bytes(&string, SIZE_MAX - k * (SIZE_MAX / 8)) == WTF8_NO_MEMORY, "reserve of too much");
             refuse_after = 0;
+            for (int bit = 17; bit < 64; bit++)
+                must(wtf8_reserve_bytes(&string, ((size_t)1 << bit) + 1) == WTF8_NO_MEMORY, "reserve that is refused");
             must(wtf8_reserve_bytes(&string, sizes[i]) == WTF8_OK, "reserve of what fits");
             must_take(&string, sizes[i], "what was reserved");
             must(wtf8_byte_len(&string) == len + sizes[i], "the length after reserve");
@@ -769,6 +836,8 @@ int main(void) {
     pushed_slices();
     indexes();
     long_strings();
+    long_appends();
+    each_code_point();
     empty_strings();
     marks();
     reserve();

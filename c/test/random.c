@@ -111,13 +111,74 @@ static void alike(struct pair *to, const struct pair *from) {
     size_t n = from->n, i = n > 0 && below(3) ? below((uint32_t)n) : n - 1;
     uint16_t unit = a_unit();
     replace(to, from->units, n);
-    switch (n > 0 ? below(5) : 3) {
+    switch (n > 0 ? below(6) : 3) {
         case 0: to->units[i] = unit; break;
         case 1: to->units[i] ^= (uint16_t)(1u << below(16)); break;
         case 2: to->n -= 1 + below(2) % n; break;
         case 3: to->units[to->n++] = unit; break;
+        case 4:
+            unit = to->units[i];
+            to->units[i] = to->units[i / 2];
+            to->units[i / 2] = unit;
+            break;
         default: break;
     }
+}
+
+/* Gives the string `n` letters. The result is 0 if memory is refused. */
+static int letters_to(struct pair *p, size_t n) {
+    uint16_t letters[LONGEST];
+    for (size_t i = 0; i < n; i++) letters[i] = 'f';
+    if (wtf8_set_units(&p->string, letters, n) != WTF8_OK) return 0;
+    replace(p, letters, n);
+    return 1;
+}
+
+/* Takes the room that is left, or the whole capacity, by one of the calls that do, without a request. */
+static void fill(struct pair *p, struct pair *q) {
+    enum { WAYS = 10, SETS = 3 };
+    static const uint8_t f = 'f';
+    uint16_t units[LONGEST];
+    uint8_t text[LONGEST];
+    uint32_t way = below(WAYS);
+    size_t capacity = p->capacity, room = way < SETS ? capacity : capacity - byte_len(p);
+    if (capacity == 0 || LONGEST < room || (way == 0 && room % 3 != 0)) return;
+    int has_other = p != q && letters_to(q, room);
+    if (!has_other && (way == 2 || 8 <= way)) return;
+    long requested = requests;
+    memset(text, 'f', room);
+    for (size_t i = 0; i < room; i++) units[i] = 'f';
+    refuse_after = 0;
+    switch (way) {
+        case 0:
+            for (size_t i = 0; i < room; i++) units[i] = 0x4E2D;
+            must(wtf8_set_units(&p->string, units, room / 3) == WTF8_OK, "units as long as the capacity");
+            replace(p, units, room / 3);
+            break;
+        case 1: must(wtf8_set_utf8(&p->string, text, room, NULL) == WTF8_OK, "a text as long as the capacity"); break;
+        case 2: must(wtf8_set_string(&p->string, &q->string) == WTF8_OK, "a string as long as the capacity"); break;
+        case 3: must(wtf8_push_utf8(&p->string, text, room, NULL) == WTF8_OK, "a text that fills the capacity"); break;
+        case 4: must(wtf8_push_units(&p->string, units, room) == WTF8_OK, "units that fill the capacity"); break;
+        case 5:
+            for (size_t i = 0; i < room; i++) must(wtf8_push_unit(&p->string, 'f') == WTF8_OK, "a unit that fits");
+            break;
+        case 6:
+            for (size_t i = 0; i < room; i++) must(wtf8_push_code_point(&p->string, 'f') == WTF8_OK, "a code point that fits");
+            break;
+        case 7:
+            must(wtf8_reserve_bytes(&p->string, room) == WTF8_OK, "reserve of the room that is left");
+            for (size_t i = 0; i < room; i++) must(wtf8_push_utf8(&p->string, &f, 1, NULL) == WTF8_OK, "a letter that fits");
+            break;
+        case 8: must(wtf8_push_string(&p->string, &q->string) == WTF8_OK, "a string that fills the capacity"); break;
+        default: must(wtf8_push_slice(&p->string, &q->string, 0, room) == WTF8_OK, "a part that fills the capacity"); break;
+    }
+    if (way == 1 || way == 2) replace(p, units, room);
+    else if (way != 0) append(p, units, room);
+    must(p->is_marked || requests == requested, "requests to fill the capacity");
+    must(wtf8_capacity(&p->string) == capacity, "the capacity that is filled");
+    refuse_after = 0;
+    must(wtf8_push_unit(&p->string, 'f') == WTF8_NO_MEMORY, "a letter more than fits");
+    must(wtf8_capacity(&p->string) == capacity, "the capacity after a refusal");
 }
 
 /* All that two strings are asked. */
@@ -237,20 +298,7 @@ static void step(enum call call, struct pair *p, struct pair *q) {
             must(code == WTF8_OK || capacity == 0, "mark of a string with a buffer");
             if (code == WTF8_OK) p->is_marked = 1;
             break;
-        case FILL:
-            /* The room that is left takes letters without a request, and one letter more takes one. */
-            len = capacity - byte_len(p);
-            if (capacity == 0 || LONGEST < len) break;
-            memset(text, 'f', len);
-            for (size_t i = 0; i < len; i++) units[i] = 'f';
-            refuse_after = 0;
-            must(wtf8_push_utf8(&p->string, text, len, NULL) == WTF8_OK, "a text that fills the capacity");
-            must(p->is_marked || requests == requested, "requests to fill the capacity");
-            append(p, units, len);
-            must(wtf8_capacity(&p->string) == capacity, "the capacity that is filled");
-            must(wtf8_push_unit(&p->string, 'f') == WTF8_NO_MEMORY, "a letter more than fits");
-            must(wtf8_capacity(&p->string) == capacity, "the capacity after a refusal");
-            break;
+        case FILL: fill(p, q); break;
         case TRUNCATE_UNITS:
             at = an_index(p->n);
             code = wtf8_truncate_units(&p->string, at);
@@ -399,10 +447,13 @@ static void step(enum call call, struct pair *p, struct pair *q) {
         default: must(0, "no call"); break;
     }
     must(code <= WTF8_END, "code");
+    /* Units may be refused after the string has grown for the first of them. */
+    int is_kept = code != WTF8_OK && call != PUSH_UNITS;
+    must(!is_kept || wtf8_capacity(&p->string) == capacity, "the capacity after a code that is not OK");
     must(code != WTF8_NO_MEMORY || refused < refusals || more > PTRDIFF_MAX, "NO_MEMORY, but no request was refused");
     if (UNIT_LEN <= call || (call == SLICE && p != q))
         must(memcmp(string, &p->string, sizeof string) == 0, "the struct of a string that is read");
-    if (p != q && call != SLICE && call != ALIKE && call != STARTS_WITH)
+    if (p != q && call != FILL && call != SLICE && call != ALIKE && call != STARTS_WITH)
         must(memcmp(other, &q->string, sizeof other) == 0, "the struct of another string");
     if (UNIT_LEN <= call || (CLEAR <= call && call <= FREE) || (TRUNCATE_UNITS <= call && call <= TRUNCATE_BYTES)) {
         must(call == COPY_LOSSY || requests == requested, "a call that cannot be refused requests memory");
@@ -434,6 +485,7 @@ int main(int count, char **words) {
         if (p->n + q->n > MOST) { wtf8_clear(&p->string); p->n = 0; }
         if (p->n + q->n > MOST) { wtf8_clear(&q->string); q->n = 0; }
         refuse_after = below(10) ? -1 : (long)below(4);
+        refuse_once = (int)below(2);
         step(call, p, q);
         refuse_after = -1;
         check(p);

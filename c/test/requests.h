@@ -11,6 +11,7 @@
 #include <sys/mman.h>
 
 static long refuse_after = -1; /* the number of requests that are granted before all are refused; -1: all are granted */
+static int refuse_once; /* whether one request is refused then, and all are granted after it */
 static long requests;
 static long refusals;
 static long blocks; /* the number of blocks that were granted and not freed */
@@ -22,7 +23,10 @@ void __real_free(void *at);
 static int is_refused(void) {
     requests++;
     if (refuse_after > 0) refuse_after--;
-    else if (refuse_after == 0) return 1;
+    else if (refuse_after == 0) {
+        if (refuse_once) refuse_after = -1;
+        return 1;
+    }
     return 0;
 }
 
@@ -47,7 +51,7 @@ void __wrap_free(void *at) {
 
 /* Arrays end where a page begins that can be neither read nor written, so that a call that reads or writes after an array
  * ends the test. The bytes before an array are compared. */
-enum { ARRAYS = 4, ARRAY_PAGES = 64, PAGE = 4096, BEFORE = 16 };
+enum { ARRAYS = 4, ARRAY_PAGES = 256, PAGE = 4096, BEFORE = 16 };
 
 static uint8_t *array_pages;
 static int is_taken[ARRAYS];
