@@ -204,6 +204,136 @@ static void orders(void) {
     }
 }
 
+enum { ALPHABET = 5, SHORT = 5, SHORT_IN_TWO = 3, SHORT_STRINGS = 1 + 5 + 25 + 125 };
+
+/* The string of `n` letters of an alphabet with this number among all. */
+static void nth_string(struct pair *p, size_t n, size_t number) {
+    static const uint16_t alphabet[ALPHABET] = {'a', 0xE9, 0xE000, 0xD83D, 0xDCA9};
+    p->n = n;
+    for (size_t i = 0; i < n; i++, number /= ALPHABET) p->units[i] = alphabet[number % ALPHABET];
+}
+
+/* All answers about a short string are those of the model. */
+static void must_answer(const struct pair *p, wtf8_string *other) {
+    const wtf8_string *string = &p->string;
+    size_t len = byte_len(p), got = 77, taken = 0, k = 0;
+    uint8_t lossy[3 * SHORT], text[3 * SHORT];
+    must(wtf8_unit_len(string) == p->n && wtf8_byte_len(string) == len, "the lengths of a short string");
+    must(wtf8_is_utf8(string) == is_utf8(p) && wtf8_hash(string) == hash_of(p), "whether a short string is UTF-8");
+    for (size_t i = 0; i <= p->n + 1; i++) {
+        uint16_t unit = 77;
+        wtf8_result code = wtf8_position_at(string, i, &got);
+        must(code == (i <= p->n ? WTF8_OK : WTF8_BAD_POSITION), "a position in a short string");
+        must(i > p->n || got == position_of(p, i), "the position in a short string");
+        must(wtf8_unit_at(string, i, &unit) == (i < p->n ? WTF8_OK : WTF8_BAD_POSITION), "a unit of a short string");
+        must(unit == (i < p->n ? p->units[i] : 77), "the unit of a short string");
+        must(wtf8_set_string(other, string) == WTF8_OK, "a short string to cut");
+        must(wtf8_truncate_units(other, i) == (i <= p->n ? WTF8_OK : WTF8_BAD_POSITION), "a short string is cut");
+        must_have(other, p->units, i <= p->n ? i : p->n, "a short string that was cut");
+        for (size_t end = 0; end <= p->n + 1; end++) {
+            uint16_t out[SHORT];
+            code = i <= end && end <= p->n ? WTF8_OK : WTF8_BAD_POSITION;
+            must(wtf8_copy_slice(string, i, end, out, SHORT, &got) == code, "a part of a short string");
+            must(code != WTF8_OK || (got == end - i && memcmp(out, p->units + i, 2 * got) == 0),
+                 "the part of a short string");
+            must(wtf8_slice_units(other, string, i, end) == code, "a slice of a short string");
+            if (code == WTF8_OK) must_have(other, p->units + i, end - i, "the slice of a short string");
+        }
+    }
+    for (size_t position = 0; position <= len + 1; position++) {
+        size_t at = position, must_be_at = position;
+        uint32_t value = 77, must_be = 77;
+        int is_at_boundary = is_boundary(p, position);
+        must(wtf8_is_boundary(string, position) == is_at_boundary, "a boundary of a short string");
+        must(wtf8_unit_before(string, position) == units_before(p, position), "an index in a short string");
+        must(wtf8_next_code_point(string, &at, &value) == next_point(p, &must_be_at, &must_be),
+             "a step in a short string");
+        must(at == must_be_at && value == must_be, "where a step in a short string ends");
+        at = must_be_at = position;
+        value = must_be = 77;
+        must(wtf8_previous_code_point(string, &at, &value) == previous_point(p, &must_be_at, &must_be),
+             "a step back in it");
+        must(at == must_be_at && value == must_be, "where a step back ends");
+        must(wtf8_set_string(other, string) == WTF8_OK, "a short string to cut by bytes");
+        must(wtf8_truncate_bytes(other, position) == (is_at_boundary ? WTF8_OK : WTF8_BAD_POSITION),
+             "it is cut by bytes");
+        must_have(other, p->units, is_at_boundary ? units_before(p, position) : p->n,
+            "a short string that was cut by bytes");
+    }
+    for (size_t i = 0; i < p->n; i += taken) {
+        uint32_t c = point_at(p, i, &taken);
+        k += encode(0xD800 <= c && c < 0xE000 ? 0xFFFD : c, lossy + k);
+    }
+    must(wtf8_copy_lossy(string, text, sizeof text, &got) == WTF8_OK && got == len, "a short string's lossy text");
+    must(memcmp(lossy, text, len) == 0, "the lossy text of a short string");
+}
+
+/* Each string of at most five letters of an alphabet with both halves of a pair is made of two parts in each way. */
+static void short_strings(void) {
+    static struct pair p, back;
+    wtf8_string other = WTF8_EMPTY;
+    for (size_t n = 0, strings = 1; n <= SHORT; n++, strings *= ALPHABET) {
+        for (size_t number = 0; number < strings; number++) {
+            nth_string(&p, n, number);
+            must(wtf8_set_units(&p.string, p.units, n) == WTF8_OK, "a short string");
+            must_answer(&p, &other);
+            for (size_t front = 0; front <= n; front++) {
+                back.n = n - front;
+                memcpy(back.units, p.units + front, 2 * back.n);
+                for (int way = 0; way < 5; way++) {
+                    size_t taken = 0;
+                    must(wtf8_set_units(&other, p.units, front) == WTF8_OK, "the front of a short string");
+                    must(wtf8_set_units(&back.string, back.units, back.n) == WTF8_OK, "the back of a short string");
+                    wtf8_result code = way == 0 ? wtf8_push_units(&other, back.units, back.n)
+                                     : way == 1 ? wtf8_push_string(&other, &back.string)
+                                     : way == 2 ? wtf8_push_slice(&other, &p.string, front, n) : WTF8_OK;
+                    for (size_t i = 0; way == 3 && i < back.n; i++)
+                        if (code == WTF8_OK) code = wtf8_push_unit(&other, back.units[i]);
+                    for (size_t i = 0; way == 4 && i < back.n; i += taken) {
+                        uint32_t c = point_at(&back, i, &taken);
+                        if (code == WTF8_OK) code = wtf8_push_code_point(&other, c);
+                    }
+                    must(code == WTF8_OK && wtf8_equal(&other, &p.string), "the back after the front");
+                    must_have(&other, p.units, n, "the front and the back of a short string");
+                }
+            }
+        }
+    }
+    wtf8_free(&p.string);
+    wtf8_free(&back.string);
+    wtf8_free(&other);
+}
+
+/* All questions of two short strings. */
+static void short_strings_in_two(void) {
+    static struct pair all[SHORT_STRINGS];
+    size_t count = 0;
+    for (size_t n = 0, strings = 1; n <= SHORT_IN_TWO; n++, strings *= ALPHABET) {
+        for (size_t number = 0; number < strings; number++) {
+            nth_string(&all[count], n, number);
+            must(wtf8_set_units(&all[count].string, all[count].units, n) == WTF8_OK, "a short string of two");
+            count++;
+        }
+    }
+    must(count == SHORT_STRINGS, "the number of short strings");
+    for (size_t i = 0; i < count; i++) {
+        for (size_t k = 0; k < count; k++) {
+            const struct pair *p = &all[i], *q = &all[k];
+            int order = compare_units(p, q);
+            must(wtf8_equal(&p->string, &q->string) == (i == k) &&
+                 wtf8_equal_units(&p->string, q->units, q->n) == (i == k), "two short strings");
+            must(wtf8_compare_units(&p->string, &q->string) == order &&
+                 wtf8_compare_with_units(&p->string, q->units, q->n) == order, "the order of two");
+            must(wtf8_compare_code_points(&p->string, &q->string) == compare_points(p, q),
+                 "the order of two by code points");
+            must((wtf8_hash(&p->string) == wtf8_hash(&q->string)) == (i == k), "the hashes of two");
+            for (size_t at = 0; at <= p->n + 1; at++)
+                must(wtf8_starts_with(&p->string, at, &q->string) == has_at(p, at, q), "a short string within another");
+        }
+    }
+    for (size_t i = 0; i < count; i++) wtf8_free(&all[i].string);
+}
+
 /* Each number of units up to 300 is set, pushed, cut out and copied, of ASCII, of CJK, and of letters and pairs. */
 static void lengths(void) {
     enum { MOST_UNITS = 300, KINDS = 3 };
@@ -556,7 +686,8 @@ static void each_code_point(void) {
         must(wtf8_is_utf8(&string) != is_surrogate && wtf8_byte_len(&string) == len, "whether each is UTF-8");
         must(wtf8_set_units(&string, units, n) == WTF8_OK && wtf8_equal(&string, &other), "the units of each are set");
         wtf8_clear(&string);
-        must(wtf8_push_units(&string, units, n) == WTF8_OK && wtf8_equal(&string, &other), "the units of each are pushed");
+        must(wtf8_push_units(&string, units, n) == WTF8_OK && wtf8_equal(&string, &other),
+             "the units of each are pushed");
         must(wtf8_set_utf8(&string, text, len, NULL) == (is_surrogate ? WTF8_NOT_UTF8 : WTF8_OK), "each text is set");
         must(wtf8_equal(&string, &other), "the text of each that was set");
         if (is_surrogate) continue;
@@ -564,7 +695,8 @@ static void each_code_point(void) {
         must(wtf8_push_utf8(&string, text, len, NULL) == WTF8_OK && wtf8_equal(&string, &other), "each text is pushed");
         must(wtf8_copy_utf8(&string, lossy, 4, &got) == WTF8_OK && got == len, "each text is copied");
         must(memcmp(lossy, text, len) == 0, "the text of each");
-        must(wtf8_copy_lossy(&string, lossy, 4, &got) == WTF8_OK && got == len && memcmp(lossy, text, len) == 0, "a lossy text");
+        must(wtf8_copy_lossy(&string, lossy, 4, &got) == WTF8_OK && got == len && memcmp(lossy, text, len) == 0,
+             "a lossy text");
     }
     refuse_after = -1;
     wtf8_free(&string);
@@ -581,12 +713,14 @@ static void long_appends(void) {
         encode(units[i], text + 3 * i);
     }
     for (size_t k = 1; k < 6; k++) memcpy(units + k * LETTERS, units, 2 * LETTERS);
-    must(wtf8_push_units(&string, units, LETTERS) == WTF8_OK && wtf8_set_string(&other, &string) == WTF8_OK, "long units");
+    must(wtf8_push_units(&string, units, LETTERS) == WTF8_OK && wtf8_set_string(&other, &string) == WTF8_OK,
+         "long units");
     must(wtf8_push_units(&string, units, LETTERS) == WTF8_OK, "long units after long ones");
     must_have(&string, units, 2 * LETTERS, "long units that were pushed");
     must(wtf8_push_utf8(&string, text, sizeof text, NULL) == WTF8_OK, "a long text after long units");
     must_have(&string, units, 3 * LETTERS, "a long text that was pushed");
-    must(wtf8_truncate_units(&string, 2 * LETTERS) == WTF8_OK && wtf8_push_string(&string, &other) == WTF8_OK, "a long string");
+    must(wtf8_truncate_units(&string, 2 * LETTERS) == WTF8_OK && wtf8_push_string(&string, &other) == WTF8_OK,
+         "a long string");
     must_have(&string, units, 3 * LETTERS, "a long string that was pushed");
     must(wtf8_push_string(&string, &string) == WTF8_OK, "a long string that is pushed to itself");
     must_have(&string, units, 6 * LETTERS, "a long string that was pushed to itself");
@@ -830,6 +964,8 @@ int main(void) {
     hash();
     asked_units();
     orders();
+    short_strings();
+    short_strings_in_two();
     lengths();
     each_unit();
     walks();

@@ -1,4 +1,4 @@
-/* Bytes that are not UTF-8 from the first of them on, whatever stands before or after them. */
+/* Bytes that are not UTF-8 from the first of them on, whatever text stands before and after them. */
 #ifndef NO_TEXTS_H
 #define NO_TEXTS_H
 

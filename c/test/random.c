@@ -14,7 +14,7 @@ enum call {
     ORDER_POINTS, HASH, EQUAL_UNITS, ORDER_WITH_UNITS, STARTS_WITH, COPY_UNITS, COPY_SLICE, COPY_UTF8, COPY_LOSSY, CALLS
 };
 
-enum { STRINGS = 4, CODES = WTF8_END + 1, TEXT_LONGEST = 4 * LONGEST + LONGEST_NO_TEXT };
+enum { STRINGS = 4, CODES = WTF8_END + 1, TEXT_LONGEST = 4 * LONGEST + 2 * LONGEST_NO_TEXT };
 
 static struct pair pairs[STRINGS];
 static long counts[CALLS][CODES];
@@ -71,9 +71,13 @@ static size_t an_index(size_t n) {
     }
 }
 
-/* A length of an array for `n` elements: the very length more often, 0, shorter, longer. */
+/* A length of an array for `n` elements: the very length more often, 0, shorter, longer, much longer. */
 static size_t a_size(size_t n) {
-    return below(3) ? below((uint32_t)n + 5) : n;
+    switch (below(6)) {
+        case 0: case 1: return n;
+        case 2: return n + below(LONGEST);
+        default: return below((uint32_t)n + 5);
+    }
 }
 
 /* Returns 1 and has each request refused from now on, if `more` bytes fit the capacity, so that the call that follows
@@ -163,14 +167,17 @@ static void fill(struct pair *p, struct pair *q) {
             for (size_t i = 0; i < room; i++) must(wtf8_push_unit(&p->string, 'f') == WTF8_OK, "a unit that fits");
             break;
         case 6:
-            for (size_t i = 0; i < room; i++) must(wtf8_push_code_point(&p->string, 'f') == WTF8_OK, "a code point that fits");
+            for (size_t i = 0; i < room; i++) must(wtf8_push_code_point(&p->string, 'f') == WTF8_OK,
+                                                   "a code point that fits");
             break;
         case 7:
             must(wtf8_reserve_bytes(&p->string, room) == WTF8_OK, "reserve of the room that is left");
-            for (size_t i = 0; i < room; i++) must(wtf8_push_utf8(&p->string, &f, 1, NULL) == WTF8_OK, "a letter that fits");
+            for (size_t i = 0; i < room; i++) must(wtf8_push_utf8(&p->string, &f, 1, NULL) == WTF8_OK,
+                                                   "a letter that fits");
             break;
         case 8: must(wtf8_push_string(&p->string, &q->string) == WTF8_OK, "a string that fills the capacity"); break;
-        default: must(wtf8_push_slice(&p->string, &q->string, 0, room) == WTF8_OK, "a part that fills the capacity"); break;
+        default: must(wtf8_push_slice(&p->string, &q->string, 0, room) == WTF8_OK,
+                      "a part that fills the capacity"); break;
     }
     if (way == 1 || way == 2) replace(p, units, room);
     else if (way != 0) append(p, units, room);
@@ -192,17 +199,19 @@ static void must_relate(const struct pair *p, const struct pair *q) {
 }
 
 static void step(enum call call, struct pair *p, struct pair *q) {
-    uint16_t units[2 * LONGEST], unit = 0xABCD, *array = NULL;
+    uint16_t units[2 * LONGEST], unit, *array = NULL;
     uint8_t text[TEXT_LONGEST], *bytes = NULL;
     static struct pair asked;
-    size_t n = a_length(), len, at = 0, more = 0, valid = 77, capacity = p->capacity;
+    /* Numbers that calls write are arrays too, so that a write of fewer or more bytes is noticed. */
+    size_t n = a_length(), len, at = 0, more = 0, capacity = p->capacity, *written = NULL;
     wtf8_result code = WTF8_OK;
     int is_bad = below(8) == 0, needs_none = 0;
     long requested = requests, refused = refusals;
     uint8_t string[sizeof p->string], other[sizeof q->string];
     memcpy(string, &p->string, sizeof string);
     memcpy(other, &q->string, sizeof other);
-    for (size_t i = 0; i < n; i++) units[i] = a_unit();
+    int only_surrogates = below(8) == 0;
+    for (size_t i = 0; i < n; i++) units[i] = only_surrogates ? (uint16_t)(0xD800 + below(0x800)) : a_unit();
     switch (call) {
         case SET_UNITS:
             needs_none = is_set_in_place(p, 3 * n);
@@ -215,14 +224,16 @@ static void step(enum call call, struct pair *p, struct pair *q) {
         case PUSH_UTF8: {
             int is_set = call == SET_UTF8;
             len = a_text(text, units, &n, &at);
+            if (is_bad && at < len && below(2)) len = spoiled(text, len, len);
             if (is_bad) len = spoiled(text, len, at);
             else needs_none = is_set ? is_set_in_place(p, len) : refuse_if_units_fit(p, units, n);
             bytes = array_of(text, len);
-            size_t *asked_valid = below(4) ? &valid : NULL;
+            written = an_array(sizeof *written);
+            size_t *asked_valid = below(4) ? written : NULL;
             const uint8_t *given = len || below(2) ? bytes : NULL;
             code = (is_set ? wtf8_set_utf8 : wtf8_push_utf8)(&p->string, given, len, asked_valid);
             must_begin(bytes, len, text, len, "the text");
-            must(valid == (is_bad && asked_valid ? at : 77), "the first bad byte");
+            must_begin(written, sizeof at, &at, is_bad && asked_valid ? sizeof at : 0, "the first bad byte");
             must((code == WTF8_NOT_UTF8) == is_bad, "NOT_UTF8");
             if (code == WTF8_OK && is_set) replace(p, units, n);
             else if (code == WTF8_OK) append(p, units, n);
@@ -332,10 +343,11 @@ static void step(enum call call, struct pair *p, struct pair *q) {
         case CAPACITY: must(wtf8_capacity(&p->string) == capacity, "the capacity asked again"); break;
         case POSITION_AT:
             at = an_index(p->n);
-            len = 77;
-            code = wtf8_position_at(&p->string, at, &len);
+            written = an_array(sizeof *written);
+            code = wtf8_position_at(&p->string, at, written);
             must(code == (at <= p->n ? WTF8_OK : WTF8_BAD_POSITION), "position_at");
-            must(len == (at <= p->n ? position_of(p, at) : 77), "the position");
+            len = position_of(p, at);
+            must_begin(written, sizeof len, &len, code == WTF8_OK ? sizeof len : 0, "the position");
             break;
         case UNIT_BEFORE:
             at = an_index(byte_len(p));
@@ -343,9 +355,10 @@ static void step(enum call call, struct pair *p, struct pair *q) {
             break;
         case UNIT_AT:
             at = an_index(p->n);
-            code = wtf8_unit_at(&p->string, at, &unit);
+            array = an_array(sizeof *array);
+            code = wtf8_unit_at(&p->string, at, array);
             must(code == (at < p->n ? WTF8_OK : WTF8_BAD_POSITION), "unit_at");
-            must(unit == (at < p->n ? p->units[at] : 0xABCD), "the unit");
+            must_begin(array, 2, p->units + (at < p->n ? at : 0), code == WTF8_OK ? 2 : 0, "the unit");
             break;
         case IS_BOUNDARY:
             at = an_index(byte_len(p));
@@ -354,12 +367,13 @@ static void step(enum call call, struct pair *p, struct pair *q) {
         case NEXT:
         case PREVIOUS: {
             at = an_index(byte_len(p));
-            size_t must_be_at = at;
-            uint32_t value = 77, must_be = 77;
+            uint32_t value = 77, *point = an_array(sizeof *point);
+            written = array_of(&at, sizeof at);
             refuse_after = 0;
-            code = (call == NEXT ? wtf8_next_code_point : wtf8_previous_code_point)(&p->string, &at, &value);
-            must(code == (call == NEXT ? next_point : previous_point)(p, &must_be_at, &must_be), "a step of a walk");
-            must(at == must_be_at && value == must_be, "what a step of a walk writes");
+            code = (call == NEXT ? wtf8_next_code_point : wtf8_previous_code_point)(&p->string, written, point);
+            must(code == (call == NEXT ? next_point : previous_point)(p, &at, &value), "a step of a walk");
+            must_begin(written, sizeof at, &at, sizeof at, "where a walk is");
+            must_begin(point, sizeof value, &value, code == WTF8_OK ? sizeof value : 0, "the code point of a walk");
             break;
         }
         case IS_UTF8: must(wtf8_is_utf8(&p->string) == is_utf8(p), "is_utf8"); break;
@@ -400,11 +414,11 @@ static void step(enum call call, struct pair *p, struct pair *q) {
         case COPY_UNITS:
             n = a_size(p->n);
             array = an_array(2 * n);
-            len = 77;
+            written = an_array(sizeof *written);
             if (below(2)) refuse_after = 0;
-            code = wtf8_copy_units(&p->string, n || below(2) ? array : NULL, n, &len);
+            code = wtf8_copy_units(&p->string, n || below(2) ? array : NULL, n, written);
             must(code == (n < p->n ? WTF8_ARRAY_TOO_SHORT : WTF8_OK), "copy_units");
-            must(len == p->n, "copy_units, length");
+            must_begin(written, sizeof len, &p->n, sizeof len, "copy_units, length");
             must_begin(array, 2 * n, p->units, code == WTF8_OK ? 2 * p->n : 0, "copy_units, array");
             break;
         case COPY_SLICE: {
@@ -412,12 +426,13 @@ static void step(enum call call, struct pair *p, struct pair *q) {
             int in_range = a <= b && b <= p->n;
             n = in_range ? a_size(b - a) : below(5);
             array = an_array(2 * n);
-            len = 77;
+            written = an_array(sizeof *written);
+            len = b - a;
             if (below(2)) refuse_after = 0;
-            code = wtf8_copy_slice(&p->string, a, b, n || below(2) ? array : NULL, n, &len);
+            code = wtf8_copy_slice(&p->string, a, b, n || below(2) ? array : NULL, n, written);
             must((code == WTF8_BAD_POSITION) == !in_range, "copy_slice, position");
             must((code == WTF8_ARRAY_TOO_SHORT) == (in_range && n < b - a), "copy_slice, short");
-            must(len == (in_range ? b - a : 77), "copy_slice, length");
+            must_begin(written, sizeof len, &len, in_range ? sizeof len : 0, "copy_slice, length");
             must_begin(array, 2 * n, p->units + (in_range ? a : 0), code == WTF8_OK ? 2 * len : 0, "copy_slice, array");
             break;
         }
@@ -432,14 +447,15 @@ static void step(enum call call, struct pair *p, struct pair *q) {
             }
             n = a_size(needed);
             bytes = an_array(n);
-            len = 77;
+            written = an_array(sizeof *written);
             needs_none = !has_surrogate && needed <= n;
             if (below(2)) refuse_after = 0;
-            code = (is_lossy ? wtf8_copy_lossy : wtf8_copy_utf8)(&p->string, n || below(2) ? bytes : NULL, n, &len);
+            code = (is_lossy ? wtf8_copy_lossy : wtf8_copy_utf8)(&p->string, n || below(2) ? bytes : NULL, n, written);
             must((code == WTF8_HAS_SURROGATE) == (!is_lossy && has_surrogate), "copy_utf8, surrogate");
             must(code != WTF8_NO_MEMORY || (is_lossy && has_surrogate && needed <= n), "copy_lossy, NO_MEMORY");
             must((code == WTF8_ARRAY_TOO_SHORT) == (n < needed && code != WTF8_HAS_SURROGATE), "copy_text, short");
-            must(len == (code == WTF8_HAS_SURROGATE || code == WTF8_NO_MEMORY ? 77 : needed), "copy_text, length");
+            len = code == WTF8_OK || code == WTF8_ARRAY_TOO_SHORT ? sizeof needed : 0;
+            must_begin(written, sizeof needed, &needed, len, "copy_text, length");
             must_begin(bytes, n, right, code == WTF8_OK ? needed : 0, "copy_text, array");
             must((is_lossy && has_surrogate) || requests == requested, "copy_text requests memory");
             break;
