@@ -71,6 +71,7 @@ DECLARE(wtf8_result, set_string, wtf8_string *, wtf8_string *)
 DECLARE(void, clear, wtf8_string *)
 DECLARE(void, free, wtf8_string *)
 DECLARE(wtf8_result, reserve_bytes, wtf8_string *, size_t)
+DECLARE(void, shrink, wtf8_string *)
 DECLARE(wtf8_result, mark, wtf8_string *)
 DECLARE(wtf8_result, push_unit, wtf8_string *, uint16_t)
 DECLARE(wtf8_result, push_code_point, wtf8_string *, uint32_t)
@@ -89,7 +90,8 @@ DECLARE(bool, is_utf8, wtf8_string *)
 DECLARE(bool, equal, wtf8_string *, wtf8_string *)
 DECLARE(int32_t, compare_units, wtf8_string *, wtf8_string *)
 DECLARE(int32_t, compare_code_points, wtf8_string *, wtf8_string *)
-DECLARE(uint64_t, hash, wtf8_string *)
+DECLARE(uint64_t, hash, wtf8_string *, uint64_t, uint64_t)
+DECLARE(uint64_t, hash_units, const uint16_t *, size_t, uint64_t, uint64_t)
 DECLARE(wtf8_result, next_code_point, wtf8_string *, size_t *, uint32_t *)
 DECLARE(wtf8_result, previous_code_point, wtf8_string *, size_t *, uint32_t *)
 DECLARE(bool, equal_units, wtf8_string *, const uint16_t *, size_t)
@@ -97,6 +99,7 @@ DECLARE(int32_t, compare_with_units, wtf8_string *, const uint16_t *, size_t)
 DECLARE(bool, starts_with, wtf8_string *, size_t, wtf8_string *)
 DECLARE(wtf8_result, truncate_bytes, wtf8_string *, size_t)
 DECLARE(wtf8_result, truncate_units, wtf8_string *, size_t)
+DECLARE(wtf8_result, pop, wtf8_string *, uint32_t *)
 DECLARE(wtf8_result, slice_units, wtf8_string *, wtf8_string *, size_t, size_t)
 DECLARE(wtf8_result, copy_units, wtf8_string *, uint16_t *, size_t, size_t *)
 DECLARE(wtf8_result, copy_slice, wtf8_string *, size_t, size_t, uint16_t *, size_t, size_t *)
@@ -131,6 +134,10 @@ void wtf8_free(wtf8_string *string) {
 
 wtf8_result wtf8_reserve_bytes(wtf8_string *string, size_t additional) {
     return PROVED(reserve_bytes)(string, additional);
+}
+
+void wtf8_shrink(wtf8_string *string) {
+    PROVED(shrink)(string);
 }
 
 wtf8_result wtf8_mark(wtf8_string *string) {
@@ -229,9 +236,13 @@ int32_t wtf8_compare_code_points(const wtf8_string *string, const wtf8_string *o
     return string == other ? 0 : PROVED(compare_code_points)(&copy, &others);
 }
 
-uint64_t wtf8_hash(const wtf8_string *string) {
+uint64_t wtf8_hash(const wtf8_string *string, uint64_t seed_0, uint64_t seed_1) {
     wtf8_string copy = *string;
-    return PROVED(hash)(&copy);
+    return PROVED(hash)(&copy, seed_0, seed_1);
+}
+
+uint64_t wtf8_hash_units(const uint16_t *units, size_t n, uint64_t seed_0, uint64_t seed_1) {
+    return PROVED(hash_units)(n ? units : nothing, n, seed_0, seed_1);
 }
 
 wtf8_result wtf8_next_code_point(const wtf8_string *string, size_t *position, uint32_t *code_point) {
@@ -266,6 +277,10 @@ wtf8_result wtf8_truncate_bytes(wtf8_string *string, size_t position) {
 
 wtf8_result wtf8_truncate_units(wtf8_string *string, size_t n) {
     return PROVED(truncate_units)(string, n);
+}
+
+wtf8_result wtf8_pop(wtf8_string *string, uint32_t *code_point) {
+    return PROVED(pop)(string, code_point);
 }
 
 wtf8_result wtf8_slice_units(wtf8_string *into, const wtf8_string *string, size_t begin, size_t end) {

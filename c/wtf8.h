@@ -73,7 +73,7 @@ typedef enum wtf8_result {
     WTF8_HAS_SURROGATE = 4,   /* the string holds a surrogate, so it is not a text in UTF-8 */
     WTF8_BAD_CODE_POINT = 5,  /* the number is greater than 10FFFF */
     WTF8_NOT_UTF8 = 6,        /* the bytes are not UTF-8 */
-    WTF8_END = 7              /* a walk is at the end or the start: there is no further code point */
+    WTF8_END = 7              /* there is no further code point: a walk is at its end, or the string is empty */
 } wtf8_result;
 
 /* The code in words, for a message. The text is static. */
@@ -108,6 +108,9 @@ void wtf8_free(wtf8_string *string);
  * 0 bytes for a string without a buffer may be. Codes: OK, NO_MEMORY. */
 WTF8_CODE wtf8_result wtf8_reserve_bytes(wtf8_string *string, size_t additional);
 
+/* Gives the capacity back that the string does not use. If memory for the smaller block is refused, it keeps the capacity. */
+void wtf8_shrink(wtf8_string *string);
+
 /* ---- Marks ----
  *
  * Calls that find a unit by its index take constant time in a string of ASCII. Else they count units: at most 129 of them
@@ -123,8 +126,8 @@ WTF8_CODE wtf8_result wtf8_mark(wtf8_string *string);
 /* ---- Appending ---- */
 
 /* Each appends to the string. A trail after a lead completes the pair. A call whose bytes fit the capacity is never
- * refused, except as wtf8_push_string and wtf8_push_slice say, and that to append nothing to a string without a buffer may
- * be. */
+ * refused, except as wtf8_push_string and wtf8_push_slice say of one string passed twice, and that to append nothing to a
+ * string without a buffer may be. */
 
 /* One unit. Never refused if it fits. Codes: OK, NO_MEMORY. */
 WTF8_CODE wtf8_result wtf8_push_unit(wtf8_string *string, uint16_t unit);
@@ -141,9 +144,8 @@ WTF8_CODE wtf8_result wtf8_push_utf8(wtf8_string *string, const uint8_t *text, s
 /* Another string. Never refused if it fits, unless both are one string. Codes: OK, NO_MEMORY. */
 WTF8_CODE wtf8_result wtf8_push_string(wtf8_string *string, const wtf8_string *other);
 
-/* The units of `other` from `begin`, found by the marks, to before `end`. It may be refused although they fit if both are
- * one string, or if `begin` or `end` divides a pair: the part is copied first then. Codes: OK, NO_MEMORY, BAD_POSITION
- * (`begin` is greater than `end`, or `end` than the length). */
+/* The units of `other` from `begin`, found by the marks, to before `end`. Never refused if they fit, unless both are one
+ * string. Codes: OK, NO_MEMORY, BAD_POSITION (`begin` is greater than `end`, or `end` than the length). */
 WTF8_CODE wtf8_result wtf8_push_slice(wtf8_string *string, const wtf8_string *other, size_t begin, size_t end);
 
 /* ---- Asking ---- */
@@ -203,11 +205,19 @@ int32_t wtf8_compare_with_units(const wtf8_string *string, const uint16_t *units
  * at each index, also after the end. Linear in the length of `other`. */
 bool wtf8_starts_with(const wtf8_string *string, size_t index, const wtf8_string *other);
 
-/* A hash for tables: SipHash-1-3 under the key 0, which everybody knows, so it does not hold off strings that were
- * chosen to collide. Equal strings have equal hashes. Linear in the length. */
-uint64_t wtf8_hash(const wtf8_string *string);
+/* A hash for tables: SipHash-1-3 under the key 0 of the 16 bytes of the seed, the lowest byte of `seed_0` first, the bytes of
+ * the string, and one byte FE. A seed that nobody knows, made at the start of the program, keeps a table from strings that
+ * were chosen to collide. Equal strings have equal hashes under one seed; values may differ in another version of the
+ * library. Linear in the length. */
+uint64_t wtf8_hash(const wtf8_string *string, uint64_t seed_0, uint64_t seed_1);
 
-/* ---- Cutting ---- */
+/* The hash of the string with these `n` units, without a string of them, to look them up in a table of strings. */
+uint64_t wtf8_hash_units(const uint16_t *units, size_t n, uint64_t seed_0, uint64_t seed_1);
+
+/* ---- Cutting ----
+ *
+ * A string that is shortened keeps its capacity.
+ */
 
 /* Shortens the string to `n` units, found by the marks. A pair that this divides leaves its lead. Codes: OK, BAD_POSITION. */
 WTF8_CODE wtf8_result wtf8_truncate_units(wtf8_string *string, size_t n);
@@ -215,6 +225,10 @@ WTF8_CODE wtf8_result wtf8_truncate_units(wtf8_string *string, size_t n);
 /* Shortens the string to `position` bytes, a boundary. It counts the units before it from a mark, or from the start.
  * Codes: OK, BAD_POSITION. */
 WTF8_CODE wtf8_result wtf8_truncate_bytes(wtf8_string *string, size_t position);
+
+/* Takes the last code point off, and writes it to `*code_point`, a lone surrogate too. Constant. Codes: OK, END (the string
+ * is empty). */
+WTF8_CODE wtf8_result wtf8_pop(wtf8_string *string, uint32_t *code_point);
 
 /* Replaces `into` by the units of `string` from `begin`, found by the marks, to before `end`. Codes: OK, NO_MEMORY,
  * BAD_POSITION (`begin` is greater than `end`, or `end` than the length). */

@@ -1,6 +1,9 @@
-/* The edges: of code points, of UTF-8, of indexes, of capacities. The hash of four strings, the text of each code, how
- * often a string that grows asks for memory. Linked as requests.h says. */
+/* The edges: of code points, of UTF-8, of indexes, of capacities, of strings longer than 16 bits count. The hash of four
+ * strings, the text of each code, how often a string that grows asks for memory. Linked as requests.h says. */
+#define _DEFAULT_SOURCE
 #include "../wtf8.h"
+#include "model.h"
+#include "no_texts.h"
 #include "requests.h"
 
 enum { LETTERS = 70000 };
@@ -44,8 +47,6 @@ static void code_points(void) {
     }
 }
 
-#define TEXT(text) text, sizeof(text) - 1
-
 static const struct {
     const char *bytes;
     size_t len, n;
@@ -54,21 +55,13 @@ static const struct {
     {TEXT(""), 0, {0}}, {TEXT("\0"), 1, {0}}, {TEXT("a\0b"), 3, {'a', 0, 'b'}}, {TEXT("\x7F"), 1, {0x7F}},
     {TEXT("seventh"), 7, {'s', 'e', 'v', 'e', 'n', 't', 'h'}}, {TEXT("\xC2\x80"), 1, {0x80}},
     {TEXT("\xDF\xBF"), 1, {0x7FF}}, {TEXT("\xE0\xA0\x80"), 1, {0x800}}, {TEXT("\xED\x9F\xBF"), 1, {0xD7FF}},
-    {TEXT("\xEE\x80\x80"), 1, {0xE000}}, {TEXT("\xEF\xBF\xBF"), 1, {0xFFFF}},
-    {TEXT("\xF0\x90\x80\x80"), 2, {0xD800, 0xDC00}}, {TEXT("\xF4\x8F\xBF\xBF"), 2, {0xDBFF, 0xDFFF}}};
+    {TEXT("\xEE\x80\x80"), 1, {0xE000}}, {TEXT("\xEF\xBF\xBE"), 1, {0xFFFE}}, {TEXT("\xEF\xBF\xBF"), 1, {0xFFFF}},
+    {TEXT("\xF0\x90\x80\x80"), 2, {0xD800, 0xDC00}}, {TEXT("\xF4\x8F\xBF\xBF"), 2, {0xDBFF, 0xDFFF}},
+    {TEXT("\xEF\xBB\xBF" "a"), 2, {0xFEFF, 'a'}}, {TEXT("\r\n"), 2, {'\r', '\n'}}, {TEXT("e\xCC\x81"), 2, {'e', 0x301}}};
 
-static const struct {
-    const char *bytes;
-    size_t len;
-} no_texts[] = {
-    {TEXT("\x80")}, {TEXT("\xBF")}, {TEXT("\xC0\x80")}, {TEXT("\xC1\xBF")}, {TEXT("\xC3")}, {TEXT("\xC3" "a")},
-    {TEXT("\xE0\x9F\xBF")}, {TEXT("\xE4\xB8")}, {TEXT("\xE4\xB8" "a")}, {TEXT("\xED\xA0\x80")}, {TEXT("\xED\xBF\xBF")},
-    {TEXT("\xED\xA0\xBD\xED\xB2\xA9")}, {TEXT("\xF0\x8F\xBF\xBF")}, {TEXT("\xF0\x9F\x92")}, {TEXT("\xF0\x9F\x92" "a")},
-    {TEXT("\xF4\x90\x80\x80")}, {TEXT("\xF5\x80\x80\x80")}, {TEXT("\xF8\x88\x80\x80\x80")}, {TEXT("\xFE")}, {TEXT("\xFF")}};
-
-/* Texts after `front` letters, set and pushed. */
+/* Texts after `front` letters, set and pushed, and bytes that are none, before as many letters. */
 static void utf8_after(size_t front) {
-    uint8_t text[64];
+    uint8_t text[128];
     uint16_t units[128];
     wtf8_string string = WTF8_EMPTY;
     memcpy(text, letters, front);
@@ -79,19 +72,28 @@ static void utf8_after(size_t front) {
         memcpy(units + front, texts[i].units, 2 * texts[i].n);
         memcpy(units + n, units, 2 * n);
         size_t valid = 77;
-        must(wtf8_set_utf8(&string, len ? text : NULL, len, &valid) == WTF8_OK && valid == 77, "a text is set");
+        uint8_t *array = array_of(text, len);
+        must(wtf8_set_utf8(&string, len ? array : NULL, len, &valid) == WTF8_OK && valid == 77, "a text is set");
         must_have(&string, units, n, "a text that was set");
-        must(wtf8_push_utf8(&string, len ? text : NULL, len, NULL) == WTF8_OK, "a text is pushed");
+        must(wtf8_push_utf8(&string, len ? array : NULL, len, NULL) == WTF8_OK, "a text is pushed");
+        must_begin(array, len, text, len, "the text itself");
         must_have(&string, units, 2 * n, "a text that was pushed");
         must(wtf8_byte_len(&string) == 2 * len && wtf8_is_utf8(&string), "a text's length");
-        for (size_t k = 0; k < sizeof no_texts / sizeof no_texts[0]; k++) {
+        for (size_t k = 0; k < NO_TEXTS; k++) {
             memcpy(text + front, no_texts[k].bytes, no_texts[k].len);
-            /* Each of them is not UTF-8 from its first byte on. */
-            size_t set = 77, pushed = 77;
-            must(wtf8_set_utf8(&string, text, front + no_texts[k].len, &set) == WTF8_NOT_UTF8, "no text is set");
-            must(wtf8_push_utf8(&string, text, front + no_texts[k].len, &pushed) == WTF8_NOT_UTF8, "no text is pushed");
-            must(set == front && pushed == front, "the first byte that is not UTF-8");
-            must(wtf8_set_utf8(&string, text, front + no_texts[k].len, NULL) == WTF8_NOT_UTF8, "no text is set");
+            memcpy(text + front + no_texts[k].len, letters, front);
+            for (size_t back = 0; back <= front; back += front < 8 ? 1 : front) {
+                size_t set = 77, pushed = 77;
+                len = front + no_texts[k].len + back;
+                array = array_of(text, len);
+                must(wtf8_set_utf8(&string, array, len, &set) == WTF8_NOT_UTF8, "no text is set");
+                must(wtf8_push_utf8(&string, array, len, &pushed) == WTF8_NOT_UTF8, "no text is pushed");
+                must(set == front && pushed == front, "the first byte that is not UTF-8");
+                must(wtf8_set_utf8(&string, array, len, NULL) == WTF8_NOT_UTF8, "no text is set");
+                must(wtf8_push_utf8(&string, array, len, NULL) == WTF8_NOT_UTF8, "no text is pushed");
+                must_begin(array, len, text, len, "bytes that are no text");
+                if (front == 0) break;
+            }
         }
         must_have(&string, units, 2 * n, "a text after bytes that are none");
     }
@@ -109,6 +111,18 @@ static const struct {
     {1, {'a'}, 0x973594DBF3FE377B},
     {1, {0xD83D}, 0x643FA58BA1C9B89E},
     {16, {'s', 'i', 'x', 't', 'e', 'e', 'n', ' ', 'l', 'e', 't', 't', 'e', 'r', 's', '!'}, 0xF1BF75ED98DBA035}};
+
+/* Three of the 64 vectors of SipHash-2-4 in its authors' vectors.h: the bytes are 00, 01 and so on, the key 00 to 0F. */
+static void sip_vectors(void) {
+    uint8_t bytes[63];
+    for (size_t i = 0; i < sizeof bytes; i++) bytes[i] = (uint8_t)i;
+    must(sip_hash(2, 4, 0x0706050403020100, 0x0F0E0D0C0B0A0908, bytes, 0) == 0x726FDB47DD0E0E31,
+         "SipHash-2-4 of no byte");
+    must(sip_hash(2, 4, 0x0706050403020100, 0x0F0E0D0C0B0A0908, bytes, 15) == 0xA129CA6149BE45E5,
+         "SipHash-2-4 of 15 bytes");
+    must(sip_hash(2, 4, 0x0706050403020100, 0x0F0E0D0C0B0A0908, bytes, 63) == 0x958A324CEB064572,
+         "SipHash-2-4 of 63 bytes");
+}
 
 static void hash(void) {
     for (size_t i = 0; i < sizeof hashes / sizeof hashes[0]; i++) {
@@ -133,7 +147,8 @@ static void asked_units(void) {
         less[n]--;
         must(!wtf8_equal_units(&string, n ? units : NULL, n), "a front of the units");
         must(wtf8_compare_with_units(&string, n ? units : NULL, n) == 1, "a string after a front of its units");
-        must(!wtf8_equal_units(&string, less, 5) && wtf8_compare_with_units(&string, less, 5) == 1, "a unit that is less");
+        must(!wtf8_equal_units(&string, less, 5) && wtf8_compare_with_units(&string, less, 5) == 1,
+             "a unit that is less");
     }
     /* By units, as JavaScript compares: the lead D83D is less than E000. */
     must(wtf8_compare_with_units(&string, greater, 2) == -1 && !wtf8_equal_units(&string, greater, 2), "greater units");
@@ -142,15 +157,281 @@ static void asked_units(void) {
     for (size_t begin = 0; begin < 5; begin++) {
         for (size_t end = begin + 1; end <= 5; end++) {
             must(wtf8_set_units(&other, units + begin, end - begin) == WTF8_OK, "a part of a string");
-            for (size_t i = 0; i < 7; i++) must(wtf8_starts_with(&string, i, &other) == (i == begin), "the index of a part");
-            must(!wtf8_starts_with(&string, SIZE_MAX, &other) && !wtf8_starts_with(&none, 0, &other), "no index of a part");
+            for (size_t i = 0; i < 7; i++)
+                must(wtf8_starts_with(&string, i, &other) == (i == begin), "the index of a part");
+            must(!wtf8_starts_with(&string, SIZE_MAX, &other) && !wtf8_starts_with(&none, 0, &other),
+                 "no index of a part");
         }
     }
     for (size_t i = 0; i < 7; i++) must(wtf8_starts_with(&string, i, &none), "an empty string at an index");
-    must(wtf8_starts_with(&string, SIZE_MAX, &none) && wtf8_starts_with(&none, SIZE_MAX, &none), "an empty string after the end");
+    must(wtf8_starts_with(&string, SIZE_MAX, &none) && wtf8_starts_with(&none, SIZE_MAX, &none),
+         "an empty string after the end");
     for (size_t i = 0; i < 7; i++) must(wtf8_starts_with(&string, i, &string) == (i == 0), "a string within itself");
     must(requests == requested, "requests of questions");
     refuse_after = -1;
+    wtf8_free(&string);
+    wtf8_free(&other);
+}
+
+/* The order of two code points, each after equal units and before a letter: by their values, which rise in `points`, and
+ * by their units. */
+static void orders(void) {
+    enum { POINTS = sizeof points / sizeof points[0], MOST_EQUAL = 40 };
+    static const size_t fronts[] = {0, 1, 2, 7, 8, 15, 16, 17, 31, 32, 33, MOST_EQUAL};
+    for (size_t f = 0; f < sizeof fronts / sizeof fronts[0]; f++) {
+        for (size_t i = 0; i < POINTS; i++) {
+            for (size_t k = 0; k < POINTS; k++) {
+                static struct pair p, q;
+                struct pair *const both[] = {&p, &q};
+                for (int of = 0; of < 2; of++) {
+                    size_t point = of ? k : i;
+                    both[of]->n = 0;
+                    for (size_t m = 0; m < fronts[f]; m++) both[of]->units[both[of]->n++] = m % 3 ? 'a' : 0x4E2D;
+                    for (size_t m = 0; m < points[point].n; m++) both[of]->units[both[of]->n++] = points[point].units[m];
+                    both[of]->units[both[of]->n++] = 'z';
+                    must(wtf8_set_units(&both[of]->string, both[of]->units, both[of]->n) == WTF8_OK, "a string to order");
+                }
+                int by_units = compare_units(&p, &q);
+                must(wtf8_compare_code_points(&p.string, &q.string) == (i < k ? -1 : i > k), "the order by code points");
+                must(wtf8_compare_units(&p.string, &q.string) == by_units, "the order by units");
+                must(wtf8_compare_with_units(&p.string, q.units, q.n) == by_units, "the order by units that are given");
+                must(wtf8_equal(&p.string, &q.string) == (i == k) &&
+                     wtf8_equal_units(&p.string, q.units, q.n) == (i == k), "equal code points");
+                wtf8_free(&p.string);
+                wtf8_free(&q.string);
+            }
+        }
+    }
+}
+
+enum { ALPHABET = 5, SHORT = 5, SHORT_IN_TWO = 3, SHORT_STRINGS = 1 + 5 + 25 + 125 };
+
+/* The string of `n` letters of an alphabet with this number among all. */
+static void nth_string(struct pair *p, size_t n, size_t number) {
+    static const uint16_t alphabet[ALPHABET] = {'a', 0xE9, 0xE000, 0xD83D, 0xDCA9};
+    p->n = n;
+    for (size_t i = 0; i < n; i++, number /= ALPHABET) p->units[i] = alphabet[number % ALPHABET];
+}
+
+/* All answers about a short string are those of the model. */
+static void must_answer(const struct pair *p, wtf8_string *other) {
+    const wtf8_string *string = &p->string;
+    size_t len = byte_len(p), got = 77, taken = 0, k = 0;
+    uint8_t lossy[3 * SHORT], text[3 * SHORT];
+    must(wtf8_unit_len(string) == p->n && wtf8_byte_len(string) == len, "the lengths of a short string");
+    must(wtf8_is_utf8(string) == is_utf8(p) && wtf8_hash(string) == hash_of(p), "whether a short string is UTF-8");
+    for (size_t i = 0; i <= p->n + 1; i++) {
+        uint16_t unit = 77;
+        wtf8_result code = wtf8_position_at(string, i, &got);
+        must(code == (i <= p->n ? WTF8_OK : WTF8_BAD_POSITION), "a position in a short string");
+        must(i > p->n || got == position_of(p, i), "the position in a short string");
+        must(wtf8_unit_at(string, i, &unit) == (i < p->n ? WTF8_OK : WTF8_BAD_POSITION), "a unit of a short string");
+        must(unit == (i < p->n ? p->units[i] : 77), "the unit of a short string");
+        must(wtf8_set_string(other, string) == WTF8_OK, "a short string to cut");
+        must(wtf8_truncate_units(other, i) == (i <= p->n ? WTF8_OK : WTF8_BAD_POSITION), "a short string is cut");
+        must_have(other, p->units, i <= p->n ? i : p->n, "a short string that was cut");
+        for (size_t end = 0; end <= p->n + 1; end++) {
+            uint16_t out[SHORT];
+            code = i <= end && end <= p->n ? WTF8_OK : WTF8_BAD_POSITION;
+            must(wtf8_copy_slice(string, i, end, out, SHORT, &got) == code, "a part of a short string");
+            must(code != WTF8_OK || (got == end - i && memcmp(out, p->units + i, 2 * got) == 0),
+                 "the part of a short string");
+            must(wtf8_slice_units(other, string, i, end) == code, "a slice of a short string");
+            if (code == WTF8_OK) must_have(other, p->units + i, end - i, "the slice of a short string");
+        }
+    }
+    for (size_t position = 0; position <= len + 1; position++) {
+        size_t at = position, must_be_at = position;
+        uint32_t value = 77, must_be = 77;
+        int is_at_boundary = is_boundary(p, position);
+        must(wtf8_is_boundary(string, position) == is_at_boundary, "a boundary of a short string");
+        must(wtf8_unit_before(string, position) == units_before(p, position), "an index in a short string");
+        must(wtf8_next_code_point(string, &at, &value) == next_point(p, &must_be_at, &must_be),
+             "a step in a short string");
+        must(at == must_be_at && value == must_be, "where a step in a short string ends");
+        at = must_be_at = position;
+        value = must_be = 77;
+        must(wtf8_previous_code_point(string, &at, &value) == previous_point(p, &must_be_at, &must_be),
+             "a step back in it");
+        must(at == must_be_at && value == must_be, "where a step back ends");
+        must(wtf8_set_string(other, string) == WTF8_OK, "a short string to cut by bytes");
+        must(wtf8_truncate_bytes(other, position) == (is_at_boundary ? WTF8_OK : WTF8_BAD_POSITION),
+             "it is cut by bytes");
+        must_have(other, p->units, is_at_boundary ? units_before(p, position) : p->n,
+            "a short string that was cut by bytes");
+    }
+    for (size_t i = 0; i < p->n; i += taken) {
+        uint32_t c = point_at(p, i, &taken);
+        k += encode(0xD800 <= c && c < 0xE000 ? 0xFFFD : c, lossy + k);
+    }
+    must(wtf8_copy_lossy(string, text, sizeof text, &got) == WTF8_OK && got == len, "a short string's lossy text");
+    must(memcmp(lossy, text, len) == 0, "the lossy text of a short string");
+}
+
+/* Each string of at most five letters of an alphabet with both halves of a pair is made of two parts in each way. */
+static void short_strings(void) {
+    static struct pair p, back;
+    wtf8_string other = WTF8_EMPTY;
+    for (size_t n = 0, strings = 1; n <= SHORT; n++, strings *= ALPHABET) {
+        for (size_t number = 0; number < strings; number++) {
+            nth_string(&p, n, number);
+            must(wtf8_set_units(&p.string, p.units, n) == WTF8_OK, "a short string");
+            must_answer(&p, &other);
+            for (size_t front = 0; front <= n; front++) {
+                back.n = n - front;
+                memcpy(back.units, p.units + front, 2 * back.n);
+                for (int way = 0; way < 5; way++) {
+                    size_t taken = 0;
+                    must(wtf8_set_units(&other, p.units, front) == WTF8_OK, "the front of a short string");
+                    must(wtf8_set_units(&back.string, back.units, back.n) == WTF8_OK, "the back of a short string");
+                    wtf8_result code = way == 0 ? wtf8_push_units(&other, back.units, back.n)
+                                     : way == 1 ? wtf8_push_string(&other, &back.string)
+                                     : way == 2 ? wtf8_push_slice(&other, &p.string, front, n) : WTF8_OK;
+                    for (size_t i = 0; way == 3 && i < back.n; i++)
+                        if (code == WTF8_OK) code = wtf8_push_unit(&other, back.units[i]);
+                    for (size_t i = 0; way == 4 && i < back.n; i += taken) {
+                        uint32_t c = point_at(&back, i, &taken);
+                        if (code == WTF8_OK) code = wtf8_push_code_point(&other, c);
+                    }
+                    must(code == WTF8_OK && wtf8_equal(&other, &p.string), "the back after the front");
+                    must_have(&other, p.units, n, "the front and the back of a short string");
+                }
+            }
+        }
+    }
+    wtf8_free(&p.string);
+    wtf8_free(&back.string);
+    wtf8_free(&other);
+}
+
+/* All questions of two short strings. */
+static void short_strings_in_two(void) {
+    static struct pair all[SHORT_STRINGS];
+    size_t count = 0;
+    for (size_t n = 0, strings = 1; n <= SHORT_IN_TWO; n++, strings *= ALPHABET) {
+        for (size_t number = 0; number < strings; number++) {
+            nth_string(&all[count], n, number);
+            must(wtf8_set_units(&all[count].string, all[count].units, n) == WTF8_OK, "a short string of two");
+            count++;
+        }
+    }
+    must(count == SHORT_STRINGS, "the number of short strings");
+    for (size_t i = 0; i < count; i++) {
+        for (size_t k = 0; k < count; k++) {
+            const struct pair *p = &all[i], *q = &all[k];
+            int order = compare_units(p, q);
+            must(wtf8_equal(&p->string, &q->string) == (i == k) &&
+                 wtf8_equal_units(&p->string, q->units, q->n) == (i == k), "two short strings");
+            must(wtf8_compare_units(&p->string, &q->string) == order &&
+                 wtf8_compare_with_units(&p->string, q->units, q->n) == order, "the order of two");
+            must(wtf8_compare_code_points(&p->string, &q->string) == compare_points(p, q),
+                 "the order of two by code points");
+            must((wtf8_hash(&p->string) == wtf8_hash(&q->string)) == (i == k), "the hashes of two");
+            for (size_t at = 0; at <= p->n + 1; at++)
+                must(wtf8_starts_with(&p->string, at, &q->string) == has_at(p, at, q), "a short string within another");
+        }
+    }
+    for (size_t i = 0; i < count; i++) wtf8_free(&all[i].string);
+}
+
+/* Each number of units up to 300 is set, pushed, cut out and copied, of ASCII, of CJK, and of letters and pairs. */
+static void lengths(void) {
+    enum { MOST_UNITS = 300, KINDS = 3 };
+    static struct pair p;
+    static uint8_t text[4 * MOST_UNITS];
+    static uint16_t twice[2 * MOST_UNITS + 1];
+    wtf8_string string = WTF8_EMPTY, other = WTF8_EMPTY;
+    for (size_t kind = 0; kind < KINDS; kind++) {
+        size_t len = 0;
+        for (p.n = 0; p.n <= MOST_UNITS; p.n++) {
+            size_t n = p.n, taken = 0, got = 77;
+            uint16_t *units = array_of(p.units, 2 * n);
+            len = 0;
+            for (size_t i = 0; i < n; i += taken) {
+                uint32_t c = point_at(&p, i, &taken);
+                /* A lead at the end, the half of a pair, is no text. */
+                len += encode(is_lead((uint16_t)(c & 0xFFFF)) && c < 0x10000 ? 0xFFFD : c, text + len);
+            }
+            int is_text = is_utf8(&p);
+            memcpy(twice, p.units, 2 * n);
+            memcpy(twice + n, p.units, 2 * n);
+            must(wtf8_set_units(&string, n ? units : NULL, n) == WTF8_OK, "units that are set");
+            must_have(&string, p.units, n, "units that were set");
+            must(wtf8_push_units(&string, n ? units : NULL, n) == WTF8_OK, "units that are pushed");
+            must_have(&string, twice, 2 * n, "units that were pushed");
+            must(wtf8_slice_units(&other, &string, n, 2 * n) == WTF8_OK, "the back of a string");
+            must_have(&other, p.units, n, "the units of the back");
+            must(wtf8_push_slice(&other, &string, 0, n) == WTF8_OK, "the front of a string");
+            must_have(&other, twice, 2 * n, "the units of the front");
+            must(wtf8_equal(&string, &other) && wtf8_truncate_units(&other, n) == WTF8_OK, "equal units");
+            must(wtf8_set_string(&string, &other) == WTF8_OK && wtf8_push_string(&string, &other) == WTF8_OK,
+                 "a string that is set and pushed");
+            must_have(&string, twice, 2 * n, "the units of a string that was set and pushed");
+            must(wtf8_push_string(&other, &other) == WTF8_OK && wtf8_equal(&string, &other),
+                 "a string that is pushed to itself");
+            must(wtf8_slice_units(&other, &other, n, 2 * n) == WTF8_OK, "the back of a string in its place");
+            must_have(&other, p.units, n, "the units of the back in its place");
+            uint16_t *out = an_array(2 * n);
+            must(wtf8_copy_slice(&string, n, 2 * n, out, n, &got) == WTF8_OK && got == n,
+                 "units of the back that are copied");
+            must_begin(out, 2 * n, p.units, 2 * n, "the units of the back that were copied");
+            uint8_t *bytes = an_array(len);
+            must(wtf8_copy_lossy(&other, bytes, len, &got) == WTF8_OK && got == len, "a lossy text that is copied");
+            must_begin(bytes, len, text, len, "the lossy text that was copied");
+            bytes = an_array(len);
+            got = 77;
+            must(wtf8_copy_utf8(&other, bytes, len, &got) == (is_text ? WTF8_OK : WTF8_HAS_SURROGATE) &&
+                 got == (is_text ? len : 77), "a text that is copied");
+            must_begin(bytes, len, text, is_text ? len : 0, "the text that was copied");
+            must(wtf8_hash(&other) == hash_of(&p) && wtf8_byte_len(&other) == len && wtf8_is_utf8(&other) == is_text,
+                 "the bytes of units");
+            if (is_text) {
+                bytes = array_of(text, len);
+                must(wtf8_set_utf8(&string, n ? bytes : NULL, len, NULL) == WTF8_OK && wtf8_equal(&string, &other),
+                     "a text that is set");
+                must(wtf8_push_utf8(&string, n ? bytes : NULL, len, NULL) == WTF8_OK, "a text that is pushed");
+                must_have(&string, twice, 2 * n, "the units of a text that was pushed");
+                must_begin(bytes, len, text, len, "the text itself");
+            }
+            must_begin(units, 2 * n, p.units, 2 * n, "the units themselves");
+            size_t pair = kind < 2 ? 0 : n % 5;
+            p.units[n] = (uint16_t)(kind == 1 ? 0x4E00 + n : pair == 3 ? 0xD83D : pair == 4 ? 0xDC00 + n : 'a' + n % 26);
+        }
+    }
+    wtf8_free(&string);
+    wtf8_free(&other);
+}
+
+/* Each unit of a string counts: one that is another by one bit is noticed by each question of two. */
+static void each_unit(void) {
+    enum { LONG = 300 };
+    uint16_t units[LONG];
+    wtf8_string string = WTF8_EMPTY, other = WTF8_EMPTY;
+    for (size_t n = 1; n <= LONG; n += n < 36 ? 1 : n < 62 || n > 66 ? n / 3 : 1) {
+        for (int kind = 0; kind < 2; kind++) {
+            for (size_t i = 0; i < n; i++) units[i] = (uint16_t)(kind ? 0x4E00 + i : 'a' + i % 16);
+            must(wtf8_set_units(&string, units, n) == WTF8_OK, "a string of units that count");
+            for (size_t i = 0; i < n; i++) {
+                units[i] ^= 1;
+                int order = units[i] & 1 ? -1 : 1;
+                must(wtf8_set_units(&other, units, n) == WTF8_OK, "a string with another unit");
+                must(!wtf8_equal(&string, &other) && !wtf8_equal_units(&string, units, n), "a unit counts");
+                must(wtf8_compare_units(&string, &other) == order &&
+                     wtf8_compare_code_points(&string, &other) == order, "a unit orders");
+                must(wtf8_compare_with_units(&string, units, n) == order && !wtf8_starts_with(&string, 0, &other),
+                     "a unit that is given orders");
+                must(wtf8_hash(&string) != wtf8_hash(&other), "a unit is hashed");
+                units[i] ^= 1;
+            }
+            must(wtf8_set_units(&other, units, n) == WTF8_OK && wtf8_equal(&string, &other) &&
+                 wtf8_equal_units(&string, units, n), "the units themselves");
+            must(wtf8_compare_units(&string, &other) == 0 && wtf8_compare_code_points(&string, &other) == 0,
+                 "the order of the units themselves");
+            must(wtf8_compare_with_units(&string, units, n) == 0 && wtf8_starts_with(&string, 0, &other),
+                 "the units themselves that are given");
+            must(wtf8_hash(&string) == wtf8_hash(&other), "the hash of the units themselves");
+        }
+    }
     wtf8_free(&string);
     wtf8_free(&other);
 }
@@ -161,38 +442,46 @@ static void walks(void) {
     wtf8_string all = WTF8_EMPTY;
     size_t ends[POINTS], at = 0;
     uint32_t value = 77;
-    must(wtf8_next_code_point(&all, &at, &value) == WTF8_END && wtf8_previous_code_point(&all, &at, &value) == WTF8_END, "a walk of nothing");
+    must(wtf8_next_code_point(&all, &at, &value) == WTF8_END &&
+         wtf8_previous_code_point(&all, &at, &value) == WTF8_END, "a walk of nothing");
     must(at == 0 && value == 77, "the numbers of a walk of nothing");
     for (size_t i = 0; i < POINTS; i++) {
         /* A letter after each keeps leads and trails apart. */
         wtf8_string string = WTF8_EMPTY;
         must(wtf8_push_code_point(&string, points[i].value) == WTF8_OK, "a code point to walk over");
-        must(wtf8_push_code_point(&all, points[i].value) == WTF8_OK && wtf8_push_code_point(&all, 'a') == WTF8_OK, "more code points");
+        must(wtf8_push_code_point(&all, points[i].value) == WTF8_OK && wtf8_push_code_point(&all, 'a') == WTF8_OK,
+             "more code points");
         ends[i] = wtf8_byte_len(&all);
         for (size_t k = 0; k <= points[i].byte_len + 1; k++) {
             size_t next = k, previous = k;
             uint32_t after = 77, before = 77;
             wtf8_result past = k == points[i].byte_len ? WTF8_END : WTF8_BAD_POSITION;
-            must(wtf8_next_code_point(&string, &next, &after) == (k == 0 ? WTF8_OK : past), "the code point at a position");
-            must(next == (k == 0 ? points[i].byte_len : k) && after == (k == 0 ? points[i].value : 77), "a step of a walk");
+            must(wtf8_next_code_point(&string, &next, &after) == (k == 0 ? WTF8_OK : past),
+                 "the code point at a position");
+            must(next == (k == 0 ? points[i].byte_len : k) && after == (k == 0 ? points[i].value : 77),
+                 "a step of a walk");
             wtf8_result back = k == 0 ? WTF8_END : k == points[i].byte_len ? WTF8_OK : WTF8_BAD_POSITION;
             must(wtf8_previous_code_point(&string, &previous, &before) == back, "the code point before a position");
-            must(previous == (back == WTF8_OK ? 0 : k) && before == (back == WTF8_OK ? points[i].value : 77), "a step back of a walk");
+            must(previous == (back == WTF8_OK ? 0 : k) && before == (back == WTF8_OK ? points[i].value : 77),
+                 "a step back of a walk");
         }
         at = SIZE_MAX;
         must(wtf8_next_code_point(&string, &at, &value) == WTF8_BAD_POSITION, "a walk from far after the end");
-        must(wtf8_previous_code_point(&string, &at, &value) == WTF8_BAD_POSITION && at == SIZE_MAX, "a walk back from there");
+        must(wtf8_previous_code_point(&string, &at, &value) == WTF8_BAD_POSITION && at == SIZE_MAX,
+             "a walk back from there");
         wtf8_free(&string);
     }
     at = 0;
     for (size_t i = 0; i < POINTS; i++) {
-        must(wtf8_next_code_point(&all, &at, &value) == WTF8_OK && value == points[i].value && at == ends[i] - 1, "a walk");
+        must(wtf8_next_code_point(&all, &at, &value) == WTF8_OK && value == points[i].value && at == ends[i] - 1,
+             "a walk");
         must(wtf8_next_code_point(&all, &at, &value) == WTF8_OK && value == 'a' && at == ends[i], "a walk's letter");
     }
     must(wtf8_next_code_point(&all, &at, &value) == WTF8_END && at == ends[POINTS - 1], "the end of a walk");
     for (size_t i = POINTS; i-- > 0;) {
         must(wtf8_previous_code_point(&all, &at, &value) == WTF8_OK && value == 'a' && at == ends[i] - 1, "a walk back");
-        must(wtf8_previous_code_point(&all, &at, &value) == WTF8_OK && value == points[i].value, "a code point of a walk back");
+        must(wtf8_previous_code_point(&all, &at, &value) == WTF8_OK && value == points[i].value,
+             "a code point of a walk back");
         must(at == (i == 0 ? 0 : ends[i - 1]), "where a walk back is");
     }
     must(wtf8_previous_code_point(&all, &at, &value) == WTF8_END && at == 0, "the end of a walk back");
@@ -212,17 +501,21 @@ static void pushed_slices(void) {
             size_t n = end - begin;
             wtf8_string string = WTF8_EMPTY, same = WTF8_EMPTY;
             memcpy(both + 2, units + begin, 2 * n);
-            must(wtf8_set_units(&string, both, 2) == WTF8_OK && wtf8_set_units(&same, units, UNITS) == WTF8_OK, "strings to push to");
+            must(wtf8_set_units(&string, both, 2) == WTF8_OK && wtf8_set_units(&same, units, UNITS) == WTF8_OK,
+                 "strings to push to");
             must(wtf8_push_slice(&string, &other, begin, end) == WTF8_OK, "a part that is pushed");
             must_have(&string, both, n + 2, "a part that was pushed");
-            must(wtf8_push_slice(&string, &other, begin, UNITS + 1) == WTF8_BAD_POSITION, "a part that ends after the end");
-            must(wtf8_push_slice(&string, &other, end + 1, end) == WTF8_BAD_POSITION, "a part that ends before it begins");
+            must(wtf8_push_slice(&string, &other, begin, UNITS + 1) == WTF8_BAD_POSITION,
+                 "a part that ends after the end");
+            must(wtf8_push_slice(&string, &other, end + 1, end) == WTF8_BAD_POSITION,
+                 "a part that ends before it begins");
             must_have(&string, both, n + 2, "a string after parts that are none");
             memcpy(both, units, 2 * UNITS);
             memcpy(both + UNITS, units + begin, 2 * n);
             must(wtf8_push_slice(&same, &same, begin, end) == WTF8_OK, "a part of the string itself");
             must_have(&same, both, UNITS + n, "a part of the string itself that was pushed");
-            must(wtf8_push_slice(&same, &same, begin, SIZE_MAX) == WTF8_BAD_POSITION, "a part of the string itself that is none");
+            must(wtf8_push_slice(&same, &same, begin, SIZE_MAX) == WTF8_BAD_POSITION,
+                 "a part of the string itself that is none");
             wtf8_free(&string);
             wtf8_free(&same);
         }
@@ -247,6 +540,235 @@ static void indexes(void) {
     must_have(&string, units, 65537, "a long string's front");
     wtf8_free(&part);
     wtf8_free(&string);
+}
+
+/* A string of more bytes and units than 16 bits count: letters of three bytes, and one of four after unit 65536, where
+ * `pair_at` is. */
+static void long_strings(void) {
+    enum { SIZE = 3 * LETTERS };
+    static uint16_t units[LETTERS + 1];
+    static uint8_t text[SIZE + 3];
+    const size_t asked[] = {1, 127, 128, 129, 21845, 21846, 65535, 65536, 65537, 65664, LETTERS - 1};
+    const size_t pair_at = 65600, bytes = SIZE - 6 + 4;
+    wtf8_string string = WTF8_EMPTY, other = WTF8_EMPTY;
+    size_t len = 0, valid = 77;
+    for (size_t i = 0; i < LETTERS; i++) units[i] = (uint16_t)(0x3000 + i % 40000);
+    units[pair_at] = 0xD83D;
+    units[pair_at + 1] = 0xDCA9;
+    for (int is_marked = 0; is_marked < 2; is_marked++) {
+        must(wtf8_set_units(&string, units, LETTERS) == WTF8_OK && (!is_marked || wtf8_mark(&string) == WTF8_OK),
+             "a long string");
+        must(wtf8_unit_len(&string) == LETTERS && wtf8_byte_len(&string) == bytes, "a long string's lengths");
+        must(bytes <= wtf8_capacity(&string) && wtf8_is_utf8(&string), "a long string's capacity");
+        for (size_t k = 0; k < sizeof asked / sizeof asked[0]; k++) {
+            size_t i = asked[k], at = i < pair_at ? 3 * i : 3 * i - 2, position = 77, end;
+            uint16_t unit = 0, out[4];
+            uint32_t value = 77;
+            must(wtf8_position_at(&string, i, &position) == WTF8_OK && position == at, "a position in a long string");
+            must(wtf8_unit_before(&string, at) == i && wtf8_unit_before(&string, at + 2) == i,
+                 "an index in a long string");
+            must(wtf8_is_boundary(&string, at) && !wtf8_is_boundary(&string, at + 1), "a boundary in a long string");
+            must(wtf8_unit_at(&string, i, &unit) == WTF8_OK && unit == units[i], "a unit in a long string");
+            end = at;
+            must(wtf8_next_code_point(&string, &end, &value) == WTF8_OK && end == at + 3 && value == units[i],
+                 "a step in a long string");
+            must(wtf8_previous_code_point(&string, &end, &value) == WTF8_OK && end == at && value == units[i],
+                 "a step back in it");
+            must(wtf8_slice_units(&other, &string, i, LETTERS) == WTF8_OK, "a slice of a long string");
+            must_have(&other, units + i, LETTERS - i, "the units of a long string's slice");
+            must(wtf8_starts_with(&string, i, &other) && !wtf8_starts_with(&string, i - 1, &other),
+                 "a long string's back");
+            must(wtf8_set_units(&other, units + i, 1) == WTF8_OK && wtf8_starts_with(&string, i, &other),
+                 "a unit of a long string at its index");
+            must(wtf8_push_slice(&other, &string, i - 1, i + 1) == WTF8_OK, "a part of a long string that is pushed");
+            must(wtf8_unit_at(&other, 1, &unit) == WTF8_OK && unit == units[i - 1],
+                 "a part of a long string that was pushed");
+            must(wtf8_copy_slice(&string, i - 1, i + 1, out, 4, &len) == WTF8_OK && len == 2, "a part of a long string");
+            must(out[0] == units[i - 1] && out[1] == units[i], "the units of a long string's part");
+            must(wtf8_set_string(&other, &string) == WTF8_OK && wtf8_truncate_units(&other, i) == WTF8_OK,
+                 "a long string is cut");
+            must_have(&other, units, i, "a long string's front");
+            must(wtf8_set_string(&other, &string) == WTF8_OK && wtf8_truncate_bytes(&other, at) == WTF8_OK,
+                 "a long string is cut by bytes");
+            must_have(&other, units, i, "a long string's front by bytes");
+            /* One unit differs. */
+            must(wtf8_push_unit(&other, 'x') == WTF8_OK && wtf8_push_slice(&other, &string, i + 1, LETTERS) == WTF8_OK,
+                 "a unit of a long string is another");
+            must(wtf8_unit_len(&other) == LETTERS && !wtf8_equal(&string, &other) &&
+                 wtf8_compare_units(&string, &other) == 1, "long strings that differ");
+            must(wtf8_compare_code_points(&other, &string) == -1 &&
+                 wtf8_compare_with_units(&other, units, LETTERS) == -1, "the order of long strings");
+            must(!wtf8_equal_units(&other, units, LETTERS) && wtf8_equal_units(&string, units, LETTERS),
+                 "the units of long strings");
+            must(wtf8_hash(&string) != wtf8_hash(&other), "the hash of long strings");
+        }
+        for (int bit = 17; bit < 64; bit++) {
+            size_t far = (size_t)1 << bit, index = far + 5, position = far + 9, after = position;
+            uint16_t unit = 77;
+            uint32_t value = 77;
+            if (far < SIZE) index = LETTERS + 1, after = position = bytes + 1;
+            must(wtf8_unit_at(&string, index, &unit) == WTF8_BAD_POSITION && unit == 77, "a unit far after the end");
+            must(wtf8_position_at(&string, index, &len) == WTF8_BAD_POSITION, "a position far after the end");
+            must(wtf8_unit_before(&string, position) == LETTERS && !wtf8_is_boundary(&string, position),
+                 "a boundary far after the end");
+            must(wtf8_next_code_point(&string, &after, &value) == WTF8_BAD_POSITION && after == position,
+                 "a step far after the end");
+            must(wtf8_previous_code_point(&string, &after, &value) == WTF8_BAD_POSITION && after == position,
+                 "a step back from there");
+            must(wtf8_truncate_units(&string, index) == WTF8_BAD_POSITION, "a cut far after the end");
+            must(wtf8_truncate_bytes(&string, position) == WTF8_BAD_POSITION, "a cut by bytes far after the end");
+            must(wtf8_slice_units(&other, &string, 1, index) == WTF8_BAD_POSITION, "a slice to far after the end");
+            must(wtf8_slice_units(&other, &string, index, index) == WTF8_BAD_POSITION, "a slice far after the end");
+            must(wtf8_push_slice(&other, &string, 1, index) == WTF8_BAD_POSITION, "a part to far after the end");
+            must(wtf8_push_slice(&other, &string, index, index + 1) == WTF8_BAD_POSITION, "a part far after the end");
+            must(wtf8_copy_slice(&string, 1, index, NULL, 0, &len) == WTF8_BAD_POSITION, "units to far after the end");
+            must(wtf8_copy_slice(&string, index, index + 1, NULL, 0, &len) == WTF8_BAD_POSITION,
+                 "units far after the end");
+            must(wtf8_set_units(&other, units + 5, 1) == WTF8_OK && !wtf8_starts_with(&string, index, &other),
+                 "a unit at far after the end");
+        }
+        must(wtf8_unit_before(&string, SIZE_MAX) == LETTERS && wtf8_unit_before(&string, bytes + 1) == LETTERS,
+             "after a long string's end");
+        must(wtf8_set_string(&other, &string) == WTF8_OK && wtf8_equal(&string, &other), "long strings that are equal");
+        must(wtf8_compare_units(&string, &other) == 0 && wtf8_compare_code_points(&string, &other) == 0,
+             "the order of equal long strings");
+        /* A lone trail at the end alone. */
+        uint8_t *out = an_array(SIZE);
+        must(wtf8_copy_utf8(&string, out, SIZE, &len) == WTF8_OK && len == bytes, "a long text");
+        memcpy(text, out, bytes);
+        must_begin(out, SIZE, text, bytes, "a long text's array");
+        must(wtf8_set_utf8(&other, text, bytes, NULL) == WTF8_OK && wtf8_equal(&string, &other),
+             "a long text that is set");
+        must(wtf8_push_unit(&string, 0xDFFF) == WTF8_OK && !wtf8_is_utf8(&string), "a lone trail after a long text");
+        must(wtf8_copy_utf8(&string, text, SIZE, &len) == WTF8_HAS_SURROGATE && len == bytes,
+             "a long text with a surrogate");
+        out = an_array(bytes + 3);
+        memcpy(text + bytes, "\xEF\xBF\xBD", 3);
+        must(wtf8_copy_lossy(&string, out, bytes + 3, &len) == WTF8_OK && len == bytes + 3, "a long lossy text");
+        must_begin(out, bytes + 3, text, bytes + 3, "a long lossy text's array");
+        units[LETTERS] = 0xDFFF;
+        must_have(&string, units, LETTERS + 1, "a long string with a lone trail");
+        wtf8_free(&string);
+    }
+    /* A byte that is not UTF-8, far from the start. */
+    for (size_t at = 250; at < SIZE; at = at < 300 ? at + 1 : at * 3 - 7) {
+        memset(text, 'b', SIZE);
+        text[at] = 0xFF;
+        must(wtf8_set_utf8(&other, text, SIZE, &valid) == WTF8_NOT_UTF8 && valid == at, "a long text's bad byte");
+        valid = 77;
+        must(wtf8_push_utf8(&other, text, SIZE, &valid) == WTF8_NOT_UTF8 && valid == at,
+             "the bad byte of a long text that is pushed");
+    }
+    wtf8_free(&other);
+}
+
+/* Each code point by itself: its units, its text, and steps over it. */
+static void each_code_point(void) {
+    wtf8_string string = WTF8_EMPTY, other = WTF8_EMPTY;
+    must(wtf8_reserve_bytes(&string, 8) == WTF8_OK && wtf8_reserve_bytes(&other, 8) == WTF8_OK, "room for a code point");
+    refuse_after = 0;
+    for (uint32_t c = 0; c <= 0x10FFFF; c++) {
+        uint16_t units[2], out[2];
+        uint8_t text[4], lossy[4];
+        uint32_t value = 77;
+        size_t n = units_of(c, units), len = encode(c, text), at = 0, got = 77;
+        int is_surrogate = 0xD800 <= c && c < 0xE000;
+        wtf8_clear(&string);
+        wtf8_clear(&other);
+        must(wtf8_push_code_point(&string, c) == WTF8_OK && wtf8_unit_len(&string) == n, "each code point is pushed");
+        must(wtf8_copy_units(&string, out, 2, &got) == WTF8_OK && got == n, "the units of each code point are copied");
+        must(out[0] == units[0] && (n == 1 || out[1] == units[1]), "the units of each code point");
+        must(wtf8_next_code_point(&string, &at, &value) == WTF8_OK && value == c && at == len, "a step over each");
+        value = 77;
+        must(wtf8_previous_code_point(&string, &at, &value) == WTF8_OK && value == c && at == 0, "a step back over each");
+        for (size_t i = 0; i < n; i++) must(wtf8_push_unit(&other, units[i]) == WTF8_OK, "each unit is pushed");
+        must(wtf8_equal(&string, &other) && wtf8_equal_units(&string, units, n), "each code point by its units");
+        must(wtf8_is_utf8(&string) != is_surrogate && wtf8_byte_len(&string) == len, "whether each is UTF-8");
+        must(wtf8_set_units(&string, units, n) == WTF8_OK && wtf8_equal(&string, &other), "the units of each are set");
+        wtf8_clear(&string);
+        must(wtf8_push_units(&string, units, n) == WTF8_OK && wtf8_equal(&string, &other),
+             "the units of each are pushed");
+        must(wtf8_set_utf8(&string, text, len, NULL) == (is_surrogate ? WTF8_NOT_UTF8 : WTF8_OK), "each text is set");
+        must(wtf8_equal(&string, &other), "the text of each that was set");
+        if (is_surrogate) continue;
+        wtf8_clear(&string);
+        must(wtf8_push_utf8(&string, text, len, NULL) == WTF8_OK && wtf8_equal(&string, &other), "each text is pushed");
+        must(wtf8_copy_utf8(&string, lossy, 4, &got) == WTF8_OK && got == len, "each text is copied");
+        must(memcmp(lossy, text, len) == 0, "the text of each");
+        must(wtf8_copy_lossy(&string, lossy, 4, &got) == WTF8_OK && got == len && memcmp(lossy, text, len) == 0,
+             "a lossy text");
+    }
+    refuse_after = -1;
+    wtf8_free(&string);
+    wtf8_free(&other);
+}
+
+/* Long strings that are appended to long ones. */
+static void long_appends(void) {
+    static uint16_t units[6 * LETTERS];
+    static uint8_t text[3 * LETTERS];
+    wtf8_string string = WTF8_EMPTY, other = WTF8_EMPTY;
+    for (size_t i = 0; i < LETTERS; i++) {
+        units[i] = (uint16_t)(0x4E00 + i % 20000);
+        encode(units[i], text + 3 * i);
+    }
+    for (size_t k = 1; k < 6; k++) memcpy(units + k * LETTERS, units, 2 * LETTERS);
+    must(wtf8_push_units(&string, units, LETTERS) == WTF8_OK && wtf8_set_string(&other, &string) == WTF8_OK,
+         "long units");
+    must(wtf8_push_units(&string, units, LETTERS) == WTF8_OK, "long units after long ones");
+    must_have(&string, units, 2 * LETTERS, "long units that were pushed");
+    must(wtf8_push_utf8(&string, text, sizeof text, NULL) == WTF8_OK, "a long text after long units");
+    must_have(&string, units, 3 * LETTERS, "a long text that was pushed");
+    must(wtf8_truncate_units(&string, 2 * LETTERS) == WTF8_OK && wtf8_push_string(&string, &other) == WTF8_OK,
+         "a long string");
+    must_have(&string, units, 3 * LETTERS, "a long string that was pushed");
+    must(wtf8_push_string(&string, &string) == WTF8_OK, "a long string that is pushed to itself");
+    must_have(&string, units, 6 * LETTERS, "a long string that was pushed to itself");
+    must(wtf8_truncate_bytes(&string, 6 * LETTERS) == WTF8_OK, "a long string that is cut");
+    must(wtf8_push_slice(&string, &string, LETTERS, 2 * LETTERS) == WTF8_OK, "a long part that is pushed to its string");
+    must_have(&string, units, 3 * LETTERS, "a long part that was pushed to its string");
+    wtf8_free(&string);
+    wtf8_free(&other);
+}
+
+/* What a string without a buffer answers, and one that is empty but has one. */
+static void empty_strings(void) {
+    for (int has_buffer = 0; has_buffer < 2; has_buffer++) {
+        wtf8_string string = WTF8_EMPTY, none = WTF8_EMPTY;
+        size_t len = 77, position = 77, at = 0;
+        uint16_t unit = 0xABCD;
+        must(!has_buffer || wtf8_reserve_bytes(&string, 5) == WTF8_OK, "a buffer");
+        must(has_buffer == (wtf8_capacity(&string) != 0), "the capacity of an empty string");
+        refuse_after = 0;
+        must(wtf8_unit_len(&string) == 0 && wtf8_byte_len(&string) == 0 && wtf8_is_utf8(&string), "an empty string");
+        must(wtf8_position_at(&string, 0, &position) == WTF8_OK && position == 0,
+             "the position of an empty string's end");
+        position = 77;
+        must(wtf8_position_at(&string, 1, &position) == WTF8_BAD_POSITION && position == 77, "the position of no unit");
+        must(wtf8_unit_before(&string, 0) == 0 && wtf8_unit_before(&string, SIZE_MAX) == 0,
+             "the units before any position");
+        must(wtf8_unit_at(&string, 0, &unit) == WTF8_BAD_POSITION && unit == 0xABCD, "a unit of an empty string");
+        must(wtf8_is_boundary(&string, 0) && !wtf8_is_boundary(&string, 1), "the boundary of an empty string");
+        must(wtf8_equal(&string, &none) && wtf8_equal(&none, &string) && wtf8_equal(&string, &string),
+             "empty strings are equal");
+        must(wtf8_compare_units(&string, &none) == 0 && wtf8_compare_code_points(&none, &string) == 0,
+             "the order of empty strings");
+        must(wtf8_starts_with(&string, 0, &none) && wtf8_starts_with(&string, 1, &string), "an empty string within one");
+        must(wtf8_truncate_units(&string, 0) == WTF8_OK && wtf8_truncate_bytes(&string, 0) == WTF8_OK,
+             "an empty string is cut");
+        must(wtf8_truncate_units(&string, 1) == WTF8_BAD_POSITION &&
+             wtf8_truncate_bytes(&string, 1) == WTF8_BAD_POSITION, "a cut after the end");
+        must(wtf8_copy_units(&string, NULL, 0, &len) == WTF8_OK && len == 0, "no units");
+        must(wtf8_copy_slice(&string, 0, 0, NULL, 0, &len) == WTF8_OK && len == 0, "no part");
+        must(wtf8_copy_utf8(&string, NULL, 0, &len) == WTF8_OK && len == 0, "no text");
+        must(wtf8_copy_lossy(&string, NULL, 0, &len) == WTF8_OK && len == 0, "no lossy text");
+        must(wtf8_next_code_point(&string, &at, &(uint32_t){0}) == WTF8_END && at == 0, "no code point");
+        wtf8_clear(&string);
+        refuse_after = -1;
+        wtf8_free(&string);
+        wtf8_free(&string);
+        must(blocks == 0, "a block of an empty string");
+    }
 }
 
 enum { MARKED = 700, APPENDED = 300, SPACING = 128 };
@@ -335,6 +857,8 @@ static void reserve(void) {
             for (size_t k = 0; k < 4; k++)
                 must(wtf8_reserve_bytes(&string, SIZE_MAX - k * (SIZE_MAX / 8)) == WTF8_NO_MEMORY, "reserve of too much");
             refuse_after = 0;
+            for (int bit = 17; bit < 64; bit++)
+                must(wtf8_reserve_bytes(&string, ((size_t)1 << bit) + 1) == WTF8_NO_MEMORY, "reserve that is refused");
             must(wtf8_reserve_bytes(&string, sizes[i]) == WTF8_OK, "reserve of what fits");
             must_take(&string, sizes[i], "what was reserved");
             must(wtf8_byte_len(&string) == len + sizes[i], "the length after reserve");
@@ -346,7 +870,7 @@ static void reserve(void) {
 /* A string is replaced in the room that it has, with each request refused. */
 static void replaced_in_place(void) {
     static const uint16_t units[] = {'a', 0xE9, 0x4E2D, 0xD83D, 0xDCA9, 0xDC00};
-    wtf8_string string = WTF8_EMPTY, other = WTF8_EMPTY;
+    wtf8_string string = WTF8_EMPTY, other = WTF8_EMPTY, none = WTF8_EMPTY;
     must(wtf8_capacity(&string) == 0, "the capacity of a string without a buffer");
     must(wtf8_reserve_bytes(&string, 100) == WTF8_OK && wtf8_capacity(&string) >= 100, "room to replace a string");
     must(wtf8_set_utf8(&other, letters, 100, NULL) == WTF8_OK, "another string");
@@ -356,9 +880,19 @@ static void replaced_in_place(void) {
     must(wtf8_set_units(&string, units, 6) == WTF8_OK, "units in place");
     must(wtf8_unit_len(&string) == 6 && wtf8_byte_len(&string) == 1 + 2 + 3 + 4 + 3, "the units in place");
     must(wtf8_set_utf8(&string, letters, 100, NULL) == WTF8_OK && wtf8_equal(&string, &other), "a text in place");
-    must(wtf8_set_units(&string, units, 6) == WTF8_OK && wtf8_set_string(&string, &other) == WTF8_OK, "a string in place");
+    must(wtf8_set_units(&string, units, 6) == WTF8_OK && wtf8_set_string(&string, &other) == WTF8_OK,
+         "a string in place");
     must(wtf8_equal(&string, &other) && wtf8_capacity(&string) == capacity, "the string in place");
-    must(wtf8_set_utf8(&string, letters, capacity + 1, NULL) == WTF8_NO_MEMORY && wtf8_equal(&string, &other), "a longer text");
+    must(wtf8_set_units(&string, NULL, 0) == WTF8_OK && wtf8_unit_len(&string) == 0, "no units in place");
+    must(wtf8_set_utf8(&string, NULL, 0, NULL) == WTF8_OK && wtf8_set_string(&string, &none) == WTF8_OK,
+         "no text in place");
+    must(wtf8_set_string(&string, &other) == WTF8_OK && wtf8_set_string(&string, &none) == WTF8_OK,
+         "an empty string in place");
+    must(wtf8_unit_len(&string) == 0 && wtf8_capacity(&string) == capacity, "the capacity of an empty string in place");
+    must(wtf8_set_string(&string, &other) == WTF8_OK && wtf8_set_string(&string, &string) == WTF8_OK,
+         "a string in place again");
+    must(wtf8_set_utf8(&string, letters, capacity + 1, NULL) == WTF8_NO_MEMORY && wtf8_equal(&string, &other),
+         "a longer text");
     must(requests == requested + 1, "requests in place");
     refuse_after = -1;
     wtf8_free(&string);
@@ -384,19 +918,38 @@ static void kept_capacity(void) {
 
 /* A string that grows unit by unit asks for memory at most once for each doubling, beside its struct. */
 static void growth(void) {
-    wtf8_string string = WTF8_EMPTY;
-    long before = requests;
-    for (size_t i = 1; i <= LETTERS; i++) {
-        must(wtf8_push_unit(&string, 0x4E2D) == WTF8_OK, "a push that grows");
-        size_t doublings = 0;
-        for (size_t n = i; n > 0; n /= 2) doublings++;
-        must(requests - before <= 2 + (long)doublings, "the requests of a string that grows");
+    static uint16_t units[LETTERS];
+    for (int way = 0; way < 5; way++) {
+        wtf8_string string = WTF8_EMPTY, one = WTF8_EMPTY;
+        must(wtf8_push_unit(&one, 0x4E2D) == WTF8_OK, "a unit to push");
+        long before = requests;
+        for (size_t i = 1; i <= LETTERS; i++) {
+            const uint16_t unit = 0x4E2D;
+            units[i - 1] = unit;
+            wtf8_result code = way == 0 ? wtf8_push_unit(&string, unit)
+                             : way == 1 ? wtf8_push_code_point(&string, unit)
+                             : way == 2 ? wtf8_push_units(&string, &unit, 1)
+                             : way == 3 ? wtf8_push_utf8(&string, (const uint8_t *)"\xE4\xB8\xAD", 3, NULL)
+                                        : wtf8_push_string(&string, &one);
+            must(code == WTF8_OK, "a push that grows");
+            size_t doublings = 0;
+            for (size_t n = i; n > 0; n /= 2) doublings++;
+            must(requests - before <= 2 + (long)doublings, "the requests of a string that grows");
+        }
+        must(wtf8_byte_len(&string) == 3 * LETTERS, "the length of a string that grew");
+        must_have(&string, units, LETTERS, "the units of a string that grew");
+        wtf8_free(&string);
+        wtf8_free(&one);
     }
-    wtf8_free(&string);
 }
 
-/* Each code has a text of its own, and so has what is no code. */
+/* Each code has a text of its own, with a word of its meaning, and so has what is no code. */
 static void texts_of_codes(void) {
+    static const char *const words[] = {
+        "did", "memory", "position", "array", "surrogate", "not a code point", "UTF-8", "no further"};
+    for (int i = WTF8_OK; i <= WTF8_END; i++)
+        must(strstr(wtf8_result_text((wtf8_result)i), words[i]) != NULL, "a word in the text of a code");
+    must(wtf8_result_text((wtf8_result)(WTF8_END + 1)) != NULL, "a text of no code");
     for (int i = WTF8_OK; i <= WTF8_END + 1; i++)
         for (int k = WTF8_OK; k < i; k++)
             must(strcmp(wtf8_result_text((wtf8_result)i), wtf8_result_text((wtf8_result)k)) != 0, "the text of a code");
@@ -407,11 +960,21 @@ int main(void) {
     memset(letters, 'a', LETTERS);
     code_points();
     for (size_t front = 0; front < 48; front++) utf8_after(front);
+    sip_vectors();
     hash();
     asked_units();
+    orders();
+    short_strings();
+    short_strings_in_two();
+    lengths();
+    each_unit();
     walks();
     pushed_slices();
     indexes();
+    long_strings();
+    long_appends();
+    each_code_point();
+    empty_strings();
     marks();
     reserve();
     replaced_in_place();

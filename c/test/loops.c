@@ -1,8 +1,10 @@
-/* Makes a string of a text ("in"), copies its units out ("out"), empties it and appends an equal one ("append"),
- * compares it with an equal one by bytes ("equal") or by units ("order"), asks for its length ("length") or for the unit
- * in the middle ("unit"), or copies 64 units from there ("part"). "marked" before one of these marks the string. The
- * input says which, for which text, of how many units, at most 100,000, and how often. c/count and gate/instructions
- * count what it takes. */
+/* Makes a string of a text ("in"), copies its units out ("out"), empties it and appends an equal one ("append") or its
+ * units ("push"), compares it with an equal one by bytes ("equal") or by units ("order"), or with its units ("same",
+ * "with"), asks for its length ("length"), for the unit in the middle ("unit"), its position ("at") or the index of that
+ * ("before"), or whether 12 units stand there ("starts"), copies 64 units from there ("part") or appends them to an
+ * empty string ("slice"), or walks a step, from the start again after the end ("next"), or back ("back"). "marked" before
+ * one of these marks the string. The input says which, for which text, of how many units, at most 100,000, and how often.
+ * c/count and gate/instructions count what it takes. */
 #include "../wtf8.h"
 
 #include <stdio.h>
@@ -18,8 +20,9 @@ static uint16_t unit_of(const char *text, size_t i) {
     return (uint16_t)(0xD800 + i % 0x400); /* lone leads */
 }
 
-enum call { IN, OUT, APPEND, EQUAL, ORDER, LENGTH, UNIT, PART };
-static const char *const names[] = {"in", "out", "append", "equal", "order", "length", "unit", "part"};
+enum call { IN, OUT, APPEND, EQUAL, ORDER, LENGTH, UNIT, PART, PUSH, SAME, WITH, AT, BEFORE, STARTS, SLICE, NEXT, BACK };
+static const char *const names[] = {"in", "out", "append", "equal", "order", "length", "unit", "part", "push", "same", "with",
+                                    "at", "before", "starts", "slice", "next", "back"};
 
 /* A loop of its own, so that nothing but the call is in it. */
 #define REPEAT(is_bad) for (size_t i = 0; i < rounds; i++) if (is_bad) bad++; break
@@ -28,18 +31,22 @@ int main(void) {
     static uint16_t units[UNITS], out[UNITS];
     char word[8], text[16];
     uint16_t unit = 0;
-    size_t count, rounds, len = 0, bad = 0;
-    wtf8_string string = WTF8_EMPTY, equal = WTF8_EMPTY;
+    uint32_t value = 0;
+    size_t count, rounds, len = 0, bad = 0, at = 0, middle = 0;
+    wtf8_string string = WTF8_EMPTY, equal = WTF8_EMPTY, part = WTF8_EMPTY;
     if (scanf("%7s", word) != 1) return 1;
     int is_marked = strcmp(word, "marked") == 0;
     if (is_marked && scanf("%7s", word) != 1) return 1;
     if (scanf("%15s %zu %zu", text, &count, &rounds) != 3 || count > UNITS) return 1;
     enum call call = IN;
     while (strcmp(word, names[call]) != 0)
-        if (++call > PART) return 1;
+        if (++call > BACK) return 1;
     for (size_t i = 0; i < count; i++) units[i] = unit_of(text, i);
     bad += wtf8_set_units(&string, units, count) != WTF8_OK;
     bad += wtf8_set_units(&equal, units, count) != WTF8_OK;
+    bad += wtf8_set_units(&part, units + count / 2, count - count / 2 < 12 ? count - count / 2 : 12) != WTF8_OK;
+    bad += wtf8_position_at(&string, count / 2, &middle) != WTF8_OK;
+    len = wtf8_byte_len(&string);
     if (is_marked) bad += wtf8_mark(&string) != WTF8_OK;
     switch (call) {
         case IN: REPEAT(wtf8_set_units(&string, units, count) != WTF8_OK);
@@ -50,9 +57,19 @@ int main(void) {
         case LENGTH: REPEAT(wtf8_unit_len(&string) != count);
         case UNIT: REPEAT(wtf8_unit_at(&string, count / 2, &unit) != WTF8_OK);
         case PART: REPEAT(wtf8_copy_slice(&string, count / 2, count / 2 + 64, out, 64, &len) != WTF8_OK);
+        case PUSH: REPEAT((wtf8_clear(&string), wtf8_push_units(&string, units, count) != WTF8_OK));
+        case SAME: REPEAT(!wtf8_equal_units(&string, units, count));
+        case WITH: REPEAT(wtf8_compare_with_units(&string, units, count) != 0);
+        case AT: REPEAT(wtf8_position_at(&string, count / 2, &at) != WTF8_OK);
+        case BEFORE: REPEAT(wtf8_unit_before(&string, middle) != count / 2);
+        case STARTS: REPEAT(!wtf8_starts_with(&string, count / 2, &part));
+        case SLICE: REPEAT((wtf8_clear(&part), wtf8_push_slice(&part, &string, count / 2, count / 2 + 64) != WTF8_OK));
+        case NEXT: REPEAT((at = at < len ? at : 0, wtf8_next_code_point(&string, &at, &value) != WTF8_OK));
+        case BACK: REPEAT((at = 0 < at ? at : len, wtf8_previous_code_point(&string, &at, &value) != WTF8_OK));
     }
     bad += wtf8_unit_len(&string) != count;
     wtf8_free(&string);
     wtf8_free(&equal);
+    wtf8_free(&part);
     return bad != 0;
 }

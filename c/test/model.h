@@ -9,8 +9,7 @@
 
 enum { MOST = 800 };
 
-/* A string, the units that it must have, a number of bytes that it must have the capacity for, and whether it may have
- * marks. */
+/* A string, the units that it must have, the capacity that it was last asked for, and whether it may have marks. */
 struct pair {
     wtf8_string string;
     uint16_t units[4 * MOST];
@@ -25,13 +24,54 @@ static inline uint32_t below(uint32_t limit) {
     return (uint32_t)((state >> 33) % limit);
 }
 
-static inline uint16_t a_unit(void) {
+/* Code points at an edge of an encoding, and those of which a reader of text makes something else: a byte order mark, a
+ * line's end, a letter and its accent. */
+static const uint32_t edge_points[] = {
+    0, '\n', '\r', 'e', 0x7F, 0x80, 0x301, 0x7FF, 0x800, 0xD7FF, 0xE000, 0xFEFF, 0xFFFD, 0xFFFE, 0xFFFF,
+    0x10000, 0x103FF, 0x10400, 0x1FFFE, 0x10FC00, 0x10FFFF, 0xD800, 0xDBFF, 0xDC00, 0xDFFF};
+enum { EDGE_POINTS = sizeof edge_points / sizeof edge_points[0], SURROGATES = 4, SUPPLEMENTARY = 6 };
+
+/* A scalar value, and any code point. */
+static inline uint32_t a_scalar(void) {
     switch (below(6)) {
+        case 0: return edge_points[below(EDGE_POINTS - SURROGATES)];
+        case 1: return below(0xD800);
+        case 2: return 0xE000 + below(0x2000);
+        case 3: return 0x10000 + below(0x100000);
+        default: return below(0x80);
+    }
+}
+
+static inline uint32_t a_point(void) {
+    return below(4) ? a_scalar() : below(2) ? 0xD800 + below(0x800) : edge_points[below(EDGE_POINTS)];
+}
+
+static inline uint16_t an_edge_unit(void) {
+    uint32_t i = below(EDGE_POINTS - SUPPLEMENTARY), last = EDGE_POINTS - SURROGATES - SUPPLEMENTARY;
+    return (uint16_t)edge_points[i < last ? i : i + SUPPLEMENTARY];
+}
+
+static inline uint16_t a_unit(void) {
+    switch (below(7)) {
         case 0: return (uint16_t)(0xD800 + below(0x400));
         case 1: return (uint16_t)(0xDC00 + below(0x400));
         case 2: return (uint16_t)below(0x10000);
         case 3: return (uint16_t)below(0x800);
+        case 4: return an_edge_unit();
         default: return (uint16_t)below(0x80);
+    }
+}
+
+/* A number of units or bytes, at most LONGEST: mostly below 33, now and then any, or about a multiple of 64, where loops
+ * over blocks end. */
+enum { LONGEST = 300 };
+
+static inline size_t a_length(void) {
+    size_t block;
+    switch (below(16)) {
+        case 0: return below(LONGEST + 1);
+        case 1: block = 64 * (1 + below(4)); return block - 2 + below(5);
+        default: return below(33);
     }
 }
 
@@ -135,6 +175,39 @@ static inline int is_utf8(const struct pair *p) {
         if (c >= 0xD800 && c < 0xE000) return 0;
     }
     return 1;
+}
+
+static inline uint64_t rotated(uint64_t x, int by) { return x << by | x >> (64 - by); }
+
+static inline void sip_round(uint64_t v[4]) {
+    v[0] += v[1]; v[1] = rotated(v[1], 13) ^ v[0]; v[0] = rotated(v[0], 32);
+    v[2] += v[3]; v[3] = rotated(v[3], 16) ^ v[2];
+    v[0] += v[3]; v[3] = rotated(v[3], 21) ^ v[0];
+    v[2] += v[1]; v[1] = rotated(v[1], 17) ^ v[2]; v[2] = rotated(v[2], 32);
+}
+
+/* SipHash of bytes under a key, with a number of rounds for each 8 bytes and one at the end. */
+static inline uint64_t sip_hash(int rounds, int last_rounds, uint64_t key_0, uint64_t key_1, const uint8_t *bytes, size_t len) {
+    uint64_t v[4] = {key_0 ^ 0x736F6D6570736575, key_1 ^ 0x646F72616E646F6D, key_0 ^ 0x6C7967656E657261, key_1 ^ 0x7465646279746573};
+    for (size_t done = 0; done <= len; done += 8) {
+        uint64_t word = len - done < 8 ? (uint64_t)len << 56 : 0;
+        for (size_t i = 0; i < 8 && i < len - done; i++) word |= (uint64_t)bytes[done + i] << (8 * i);
+        v[3] ^= word;
+        for (int i = 0; i < rounds; i++) sip_round(v);
+        v[0] ^= word;
+    }
+    v[2] ^= 0xFF;
+    for (int i = 0; i < last_rounds; i++) sip_round(v);
+    return v[0] ^ v[1] ^ v[2] ^ v[3];
+}
+
+/* SipHash-1-3 under the key 0 of the WTF-8 and FE. */
+static inline uint64_t hash_of(const struct pair *p) {
+    uint8_t bytes[12 * MOST + 1];
+    size_t len = 0, taken = 0;
+    for (size_t i = 0; i < p->n; i += taken) len += encode(point_at(p, i, &taken), bytes + len);
+    bytes[len++] = 0xFE;
+    return sip_hash(1, 3, 0, 0, bytes, len);
 }
 
 static inline int compare_units(const struct pair *p, const struct pair *q) {

@@ -16,9 +16,9 @@ struct answers {
     uint8_t lossy[3 * MOST]; /* the text with U+FFFD in place of each surrogate */
 };
 
-/* The answers by the model; the hash is asked. */
+/* The answers by the model. */
 static inline struct answers answers_of(const struct pair *p, const struct pair *q) {
-    struct answers a = {byte_len(p), is_utf8(p), compare_units(p, q), compare_points(p, q), wtf8_hash(&p->string), {0}};
+    struct answers a = {byte_len(p), is_utf8(p), compare_units(p, q), compare_points(p, q), hash_of(p), {0}};
     size_t len = 0, taken = 0;
     for (size_t i = 0; i < p->n; i += taken) {
         uint32_t c = point_at(p, i, &taken);

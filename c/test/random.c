@@ -1,13 +1,23 @@
 /* Random calls against arrays of units, and each request for memory refused in turn.
  * Arguments: a seed and the number of steps. Linked as requests.h says. */
+#define _DEFAULT_SOURCE
 #include "../wtf8.h"
 #include "model.h"
+#include "no_texts.h"
 #include "requests.h"
 
-enum { STRINGS = 4, KINDS = 33 };
+enum call {
+    SET_UNITS, SET_UTF8, SET_STRING, CLEAR, FREE, RESERVE, PUSH_UNIT, PUSH_POINT, PUSH_UNITS, PUSH_UTF8, PUSH_STRING,
+    PUSH_SLICE, MARK, FILL, TRUNCATE_UNITS, TRUNCATE_BYTES, SLICE, ALIKE,
+    /* Calls that only read. */
+    UNIT_LEN, CAPACITY, POSITION_AT, UNIT_BEFORE, UNIT_AT, IS_BOUNDARY, NEXT, PREVIOUS, IS_UTF8, EQUAL, ORDER_UNITS,
+    ORDER_POINTS, HASH, EQUAL_UNITS, ORDER_WITH_UNITS, STARTS_WITH, COPY_UNITS, COPY_SLICE, COPY_UTF8, COPY_LOSSY, CALLS
+};
+
+enum { STRINGS = 4, CODES = WTF8_END + 1, TEXT_LONGEST = 4 * LONGEST + 2 * LONGEST_NO_TEXT };
 
 static struct pair pairs[STRINGS];
-static long counts[40][8];
+static long counts[CALLS][CODES];
 
 static void check(struct pair *p) {
     uint8_t *out = an_array(2 * p->n);
@@ -16,19 +26,31 @@ static void check(struct pair *p) {
     must(len == p->n, "length");
     must_begin(out, 2 * p->n, p->units, 2 * p->n, "units");
     must(wtf8_byte_len(&p->string) == bytes, "bytes");
-    if (p->capacity < bytes) p->capacity = bytes;
+    p->capacity = wtf8_capacity(&p->string);
+    must(bytes <= p->capacity, "the capacity is less than the length");
 }
 
-/* A text in UTF-8 of scalar values at `text`, and its units at `units`. */
-static size_t a_text(uint8_t *text, uint16_t *units, size_t *n) {
-    size_t len = 0;
+/* A text in UTF-8 of scalar values at `text`, and its units at `units`. In `*at` is the position of one of its code
+ * points, or of its end. */
+static size_t a_text(uint8_t *text, uint16_t *units, size_t *n, size_t *at) {
+    size_t len = 0, count = a_length() * 2 / 3, kind = below(4);
     *n = 0;
-    for (uint32_t k = below(20); k > 0; k--) {
-        uint32_t c = below(3) ? below(0x80) : below(2) ? below(0xD800) : 0x10000 + below(0x100000);
+    *at = 0;
+    for (size_t k = 0; k < count; k++) {
+        if (below((uint32_t)(count - k)) == 0 && *at == 0) *at = len;
+        uint32_t c = kind ? a_scalar() : below(0x80);
         len += encode(c, text + len);
         *n += units_of(c, units + *n);
     }
     return len;
+}
+
+/* Puts bytes that are not UTF-8 at a position of the text. The result is the length then. */
+static size_t spoiled(uint8_t *text, size_t len, size_t at) {
+    size_t k = below(NO_TEXTS);
+    memmove(text + at + no_texts[k].len, text + at, len - at);
+    memcpy(text + at, no_texts[k].bytes, no_texts[k].len);
+    return len + no_texts[k].len;
 }
 
 static void append(struct pair *p, const uint16_t *units, size_t n) {
@@ -36,12 +58,25 @@ static void append(struct pair *p, const uint16_t *units, size_t n) {
     p->n += n;
 }
 
-/* An index or a position for a length of `n`: at the ends more often, and some after the end. */
+/* An index or a position for a length of `n`: at the ends more often, and now and then after the end, also where its low
+ * 32, 62 or 63 bits are an index within the string. */
 static size_t an_index(size_t n) {
-    switch (below(10)) {
+    switch (below(14)) {
         case 0: return 0;
         case 1: return SIZE_MAX - below(3);
+        case 2: return n;
+        case 3: return n + 1;
+        case 4: return ((size_t)1 << (below(2) ? 32 : 62 + below(2))) + below((uint32_t)n + 1);
         default: return below((uint32_t)n + 3);
+    }
+}
+
+/* A length of an array for `n` elements: the very length more often, 0, shorter, longer, much longer. */
+static size_t a_size(size_t n) {
+    switch (below(6)) {
+        case 0: case 1: return n;
+        case 2: return n + below(LONGEST);
+        default: return below((uint32_t)n + 5);
     }
 }
 
@@ -70,64 +105,174 @@ static int is_set_in_place(const struct pair *p, size_t bytes) {
     return 1;
 }
 
-static void replace(struct pair *p, const uint16_t *units, size_t n, int is_in_place) {
+static void replace(struct pair *p, const uint16_t *units, size_t n) {
     p->n = 0;
-    if (!is_in_place) p->capacity = 0;
     append(p, units, n);
 }
 
-static void step(int kind, struct pair *p, struct pair *q) {
-    uint16_t units[64], unit = 0xABCD;
-    uint8_t text[128];
-    size_t n = below(33), len, more = 0, valid = 77;
+/* The units of one of the strings, of which one differs, is missing or is added now and then. */
+static void alike(struct pair *to, const struct pair *from) {
+    size_t n = from->n, i = n > 0 && below(3) ? below((uint32_t)n) : n - 1;
+    uint16_t unit = a_unit();
+    replace(to, from->units, n);
+    switch (n > 0 ? below(6) : 3) {
+        case 0: to->units[i] = unit; break;
+        case 1: to->units[i] ^= (uint16_t)(1u << below(16)); break;
+        case 2: to->n -= 1 + below(2) % n; break;
+        case 3: to->units[to->n++] = unit; break;
+        case 4:
+            unit = to->units[i];
+            to->units[i] = to->units[i / 2];
+            to->units[i / 2] = unit;
+            break;
+        default: break;
+    }
+}
+
+/* Gives the string `n` letters. The result is 0 if memory is refused. */
+static int letters_to(struct pair *p, size_t n) {
+    uint16_t letters[LONGEST];
+    for (size_t i = 0; i < n; i++) letters[i] = 'f';
+    if (wtf8_set_units(&p->string, letters, n) != WTF8_OK) return 0;
+    replace(p, letters, n);
+    return 1;
+}
+
+/* Takes the room that is left, or the whole capacity, by one of the calls that do, without a request. */
+static void fill(struct pair *p, struct pair *q) {
+    enum { WAYS = 10, SETS = 3 };
+    static const uint8_t f = 'f';
+    uint16_t units[LONGEST];
+    uint8_t text[LONGEST];
+    uint32_t way = below(WAYS);
+    size_t capacity = p->capacity, room = way < SETS ? capacity : capacity - byte_len(p);
+    if (capacity == 0 || LONGEST < room || (way == 0 && room % 3 != 0)) return;
+    int has_other = p != q && letters_to(q, room);
+    if (!has_other && (way == 2 || 8 <= way)) return;
+    long requested = requests;
+    memset(text, 'f', room);
+    for (size_t i = 0; i < room; i++) units[i] = 'f';
+    refuse_after = 0;
+    switch (way) {
+        case 0:
+            for (size_t i = 0; i < room; i++) units[i] = 0x4E2D;
+            must(wtf8_set_units(&p->string, units, room / 3) == WTF8_OK, "units as long as the capacity");
+            replace(p, units, room / 3);
+            break;
+        case 1: must(wtf8_set_utf8(&p->string, text, room, NULL) == WTF8_OK, "a text as long as the capacity"); break;
+        case 2: must(wtf8_set_string(&p->string, &q->string) == WTF8_OK, "a string as long as the capacity"); break;
+        case 3: must(wtf8_push_utf8(&p->string, text, room, NULL) == WTF8_OK, "a text that fills the capacity"); break;
+        case 4: must(wtf8_push_units(&p->string, units, room) == WTF8_OK, "units that fill the capacity"); break;
+        case 5:
+            for (size_t i = 0; i < room; i++) must(wtf8_push_unit(&p->string, 'f') == WTF8_OK, "a unit that fits");
+            break;
+        case 6:
+            for (size_t i = 0; i < room; i++) must(wtf8_push_code_point(&p->string, 'f') == WTF8_OK,
+                                                   "a code point that fits");
+            break;
+        case 7:
+            must(wtf8_reserve_bytes(&p->string, room) == WTF8_OK, "reserve of the room that is left");
+            for (size_t i = 0; i < room; i++) must(wtf8_push_utf8(&p->string, &f, 1, NULL) == WTF8_OK,
+                                                   "a letter that fits");
+            break;
+        case 8: must(wtf8_push_string(&p->string, &q->string) == WTF8_OK, "a string that fills the capacity"); break;
+        default: must(wtf8_push_slice(&p->string, &q->string, 0, room) == WTF8_OK,
+                      "a part that fills the capacity"); break;
+    }
+    if (way == 1 || way == 2) replace(p, units, room);
+    else if (way != 0) append(p, units, room);
+    must(p->is_marked || requests == requested, "requests to fill the capacity");
+    must(wtf8_capacity(&p->string) == capacity, "the capacity that is filled");
+    refuse_after = 0;
+    must(wtf8_push_unit(&p->string, 'f') == WTF8_NO_MEMORY, "a letter more than fits");
+    must(wtf8_capacity(&p->string) == capacity, "the capacity after a refusal");
+}
+
+/* All that two strings are asked. */
+static void must_relate(const struct pair *p, const struct pair *q) {
+    int order = compare_units(p, q);
+    must(wtf8_equal(&p->string, &q->string) == (order == 0), "equal");
+    must(wtf8_compare_units(&p->string, &q->string) == order, "compare_units");
+    must(wtf8_compare_code_points(&p->string, &q->string) == compare_points(p, q), "compare_code_points");
+    must((wtf8_hash(&p->string) == wtf8_hash(&q->string)) == (order == 0), "hashes of two");
+    must(wtf8_starts_with(&p->string, 0, &q->string) == has_at(p, 0, q), "starts_with at the start");
+}
+
+static void step(enum call call, struct pair *p, struct pair *q) {
+    uint16_t units[2 * LONGEST], unit, *array = NULL;
+    uint8_t text[TEXT_LONGEST], *bytes = NULL;
+    static struct pair asked;
+    /* Numbers that calls write are arrays too, so that a write of fewer or more bytes is noticed. */
+    size_t n = a_length(), len, at = 0, more = 0, capacity = p->capacity, *written = NULL;
     wtf8_result code = WTF8_OK;
     int is_bad = below(8) == 0, needs_none = 0;
     long requested = requests, refused = refusals;
-    for (size_t i = 0; i < n; i++) units[i] = a_unit();
-    switch (kind) {
-        case 0:
+    uint8_t string[sizeof p->string], other[sizeof q->string];
+    memcpy(string, &p->string, sizeof string);
+    memcpy(other, &q->string, sizeof other);
+    int only_surrogates = below(8) == 0;
+    for (size_t i = 0; i < n; i++) units[i] = only_surrogates ? (uint16_t)(0xD800 + below(0x800)) : a_unit();
+    switch (call) {
+        case SET_UNITS:
             needs_none = is_set_in_place(p, 3 * n);
-            code = wtf8_set_units(&p->string, n ? units : NULL, n);
-            if (code == WTF8_OK) replace(p, units, n, needs_none);
+            array = array_of(units, 2 * n);
+            code = wtf8_set_units(&p->string, n || below(2) ? array : NULL, n);
+            must_begin(array, 2 * n, units, 2 * n, "set_units, array");
+            if (code == WTF8_OK) replace(p, units, n);
             break;
-        case 1:
-            len = a_text(text, units, &n);
-            needs_none = !is_bad && is_set_in_place(p, len);
-            if (is_bad) text[len++] = 0xFF;
-            if (is_bad) more = len - 1;
-            code = wtf8_set_utf8(&p->string, len ? text : NULL, len, below(4) ? &valid : NULL);
-            must(valid == 77 || (is_bad && valid == more), "set_utf8, the first bad byte");
-            more = 0;
-            must((code == WTF8_NOT_UTF8) == is_bad, "set_utf8");
-            if (code == WTF8_OK) replace(p, units, n, needs_none);
+        case SET_UTF8:
+        case PUSH_UTF8: {
+            int is_set = call == SET_UTF8;
+            len = a_text(text, units, &n, &at);
+            if (is_bad && at < len && below(2)) len = spoiled(text, len, len);
+            if (is_bad) len = spoiled(text, len, at);
+            else needs_none = is_set ? is_set_in_place(p, len) : refuse_if_units_fit(p, units, n);
+            bytes = array_of(text, len);
+            written = an_array(sizeof *written);
+            size_t *asked_valid = below(4) ? written : NULL;
+            const uint8_t *given = len || below(2) ? bytes : NULL;
+            code = (is_set ? wtf8_set_utf8 : wtf8_push_utf8)(&p->string, given, len, asked_valid);
+            must_begin(bytes, len, text, len, "the text");
+            must_begin(written, sizeof at, &at, is_bad && asked_valid ? sizeof at : 0, "the first bad byte");
+            must((code == WTF8_NOT_UTF8) == is_bad, "NOT_UTF8");
+            if (code == WTF8_OK && is_set) replace(p, units, n);
+            else if (code == WTF8_OK) append(p, units, n);
             break;
-        case 2:
+        }
+        case SET_STRING:
             needs_none = p == q || is_set_in_place(p, byte_len(q));
+            if (p == q && below(2)) refuse_after = 0;
             code = wtf8_set_string(&p->string, &q->string);
-            if (code == WTF8_OK && p != q) replace(p, q->units, q->n, needs_none);
+            if (code == WTF8_OK && p != q) replace(p, q->units, q->n);
             break;
-        case 3: wtf8_clear(&p->string); p->n = 0; break;
-        case 4:
+        case CLEAR: wtf8_clear(&p->string); p->n = 0; break;
+        case FREE:
             wtf8_free(&p->string);
             if (below(2)) wtf8_free(&p->string);
-            replace(p, units, 0, 0);
+            p->n = 0;
             p->is_marked = 0;
+            must(wtf8_capacity(&p->string) == 0, "the capacity of a freed string");
             break;
-        case 5:
-            more = below(50) ? below(300) : SIZE_MAX - below(9);
+        case RESERVE:
+            more = 1 + below(6);
+            at = (size_t)1 << (32 + below(32));
+            more = below(50) ? more * a_length() : below(2) ? SIZE_MAX - below(9) : at + below(99);
             needs_none = refuse_if_fits(p, more);
+            /* Gigabytes might be granted. */
+            if (UINT32_MAX < more) refuse_after = 0;
             code = wtf8_reserve_bytes(&p->string, more);
             must(code == WTF8_NO_MEMORY || more <= PTRDIFF_MAX, "reserve of more than a block can have");
-            if (code == WTF8_OK && p->capacity < byte_len(p) + more) p->capacity = byte_len(p) + more;
+            must(code == WTF8_NO_MEMORY || byte_len(p) + more <= wtf8_capacity(&p->string), "the capacity after reserve");
             break;
-        case 6:
+        case PUSH_UNIT:
             unit = a_unit();
             needs_none = refuse_if_units_fit(p, &unit, 1);
             code = wtf8_push_unit(&p->string, unit);
             if (code == WTF8_OK) append(p, &unit, 1);
             break;
-        case 7: {
-            uint32_t c = below(4) ? below(0x120000) : a_unit();
+        case PUSH_POINT: {
+            uint32_t bit = below(2) ? (uint32_t)1 << (21 + below(11)) : 0;
+            uint32_t c = below(4) ? a_point() : below(2) ? below(0x120000) : 0x110000 + below(3) + bit;
             n = units_of(c, units);
             needs_none = c <= 0x10FFFF && refuse_if_units_fit(p, units, n);
             code = wtf8_push_code_point(&p->string, c);
@@ -135,168 +280,19 @@ static void step(int kind, struct pair *p, struct pair *q) {
             if (code == WTF8_OK) append(p, units, n);
             break;
         }
-        case 8:
+        case PUSH_UNITS:
             needs_none = refuse_if_units_fit(p, units, n);
-            code = wtf8_push_units(&p->string, n ? units : NULL, n);
+            array = array_of(units, 2 * n);
+            code = wtf8_push_units(&p->string, n || below(2) ? array : NULL, n);
+            must_begin(array, 2 * n, units, 2 * n, "push_units, array");
             if (code == WTF8_OK) append(p, units, n);
             break;
-        case 9:
-            len = a_text(text, units, &n);
-            needs_none = !is_bad && refuse_if_units_fit(p, units, n);
-            if (is_bad) text[len++] = 0x80;
-            code = wtf8_push_utf8(&p->string, len ? text : NULL, len, &valid);
-            must(valid == (is_bad ? len - 1 : 77), "push_utf8, the first bad byte");
-            must((code == WTF8_NOT_UTF8) == is_bad, "push_utf8");
-            if (code == WTF8_OK) append(p, units, n);
-            break;
-        case 10:
+        case PUSH_STRING:
             needs_none = p != q && refuse_if_units_fit(p, q->units, q->n);
             code = wtf8_push_string(&p->string, &q->string);
             if (code == WTF8_OK) append(p, q->units, q->n);
             break;
-        case 11: must(wtf8_unit_len(&p->string) == p->n, "unit_len"); break;
-        case 12: {
-            size_t i = an_index(p->n);
-            code = wtf8_unit_at(&p->string, i, &unit);
-            must(code == (i < p->n ? WTF8_OK : WTF8_BAD_POSITION), "unit_at");
-            must(unit == (i < p->n ? p->units[i] : 0xABCD), "the unit");
-            break;
-        }
-        case 13: {
-            size_t i = an_index(byte_len(p));
-            must(wtf8_is_boundary(&p->string, i) == is_boundary(p, i), "is_boundary");
-            break;
-        }
-        case 14: must(wtf8_is_utf8(&p->string) == is_utf8(p), "is_utf8"); break;
-        case 15: must(wtf8_equal(&p->string, &q->string) == (compare_units(p, q) == 0), "equal"); break;
-        case 16: must(wtf8_compare_units(&p->string, &q->string) == compare_units(p, q), "compare_units"); break;
-        case 17: must(wtf8_compare_code_points(&p->string, &q->string) == compare_points(p, q), "compare_code_points"); break;
-        case 18: {
-            size_t i = an_index(p->n);
-            code = wtf8_truncate_units(&p->string, i);
-            must(code == (i <= p->n ? WTF8_OK : WTF8_BAD_POSITION), "truncate_units");
-            if (code == WTF8_OK) p->n = i;
-            break;
-        }
-        case 19: {
-            size_t a = below((uint32_t)p->n + 2), b = an_index(p->n);
-            code = wtf8_slice_units(&q->string, &p->string, a, b);
-            must((code == WTF8_BAD_POSITION) == !(a <= b && b <= p->n), "slice_units");
-            if (code == WTF8_OK) replace(q, p->units + a, b - a, 0);
-            break;
-        }
-        case 20: {
-            size_t i = an_index(byte_len(p));
-            int at_boundary = is_boundary(p, i);
-            code = wtf8_truncate_bytes(&p->string, i);
-            must(code == (at_boundary ? WTF8_OK : WTF8_BAD_POSITION), "truncate");
-            if (code == WTF8_OK) {
-                uint8_t bytes[4];
-                size_t len_now = 0, taken = 0, k = 0;
-                for (; len_now < i; k += taken) len_now += encode(point_at(p, k, &taken), bytes);
-                p->n = k;
-            }
-            break;
-        }
-        case 21: {
-            int equal = compare_units(p, q) == 0;
-            must((wtf8_hash(&p->string) == wtf8_hash(&q->string)) == equal, "hash");
-            break;
-        }
-        case 22: {
-            size_t a = below((uint32_t)p->n + 2), b = an_index(p->n), size = below((uint32_t)p->n + 3);
-            int in_range = a <= b && b <= p->n;
-            uint16_t *out = an_array(2 * size);
-            len = 77;
-            needs_none = in_range && b - a <= size;
-            if (below(2)) refuse_after = 0;
-            code = wtf8_copy_slice(&p->string, a, b, size ? out : NULL, size, &len);
-            must((code == WTF8_BAD_POSITION) == !in_range, "copy_slice, position");
-            must((code == WTF8_ARRAY_TOO_SHORT) == (in_range && size < b - a), "copy_slice, short");
-            must(code == WTF8_BAD_POSITION ? len == 77 : len == b - a, "copy_slice, length");
-            must_begin(out, 2 * size, p->units + (in_range ? a : 0), code == WTF8_OK ? 2 * len : 0, "copy_slice, array");
-            break;
-        }
-        case 23:
-        case 24: {
-            static uint8_t bytes[16 * MOST];
-            size_t needed = 0, taken = 0, size;
-            int lossy = kind == 24, has_surrogate = !is_utf8(p);
-            for (size_t i = 0; i < p->n; i += taken) {
-                uint32_t c = point_at(p, i, &taken);
-                needed += encode(c >= 0xD800 && c < 0xE000 ? 0xFFFD : c, bytes + needed);
-            }
-            size = below(2) ? needed : below((uint32_t)needed + 3);
-            uint8_t *out = an_array(size);
-            len = 77;
-            needs_none = !has_surrogate && size >= needed;
-            if (needs_none && below(2)) refuse_after = 0;
-            code = (lossy ? wtf8_copy_lossy : wtf8_copy_utf8)(&p->string, size ? out : NULL, size, &len);
-            if (!lossy) must((code == WTF8_HAS_SURROGATE) == has_surrogate, "copy_utf8, surrogate");
-            if (code != WTF8_HAS_SURROGATE && code != WTF8_NO_MEMORY) must((code == WTF8_ARRAY_TOO_SHORT) == (size < needed), "copy_text, short");
-            must(code == WTF8_HAS_SURROGATE || code == WTF8_NO_MEMORY ? len == 77 : len == needed, "copy_text, length");
-            must_begin(out, size, bytes, code == WTF8_OK ? needed : 0, "copy_text, array");
-            break;
-        }
-        case 25: {
-            size_t size = below((uint32_t)p->n + 3);
-            uint16_t *out = an_array(2 * size);
-            len = 77;
-            needs_none = p->n <= size;
-            if (below(2)) refuse_after = 0;
-            code = wtf8_copy_units(&p->string, size ? out : NULL, size, &len);
-            must((code == WTF8_ARRAY_TOO_SHORT) == (size < p->n), "copy_units");
-            must(len == p->n, "copy_units, length");
-            must_begin(out, 2 * size, p->units, code == WTF8_OK ? 2 * p->n : 0, "copy_units, array");
-            break;
-        }
-        case 26:
-        case 27: {
-            /* Units of a string at hand, of which one differs or is missing now and then. */
-            const struct pair *from = below(2) ? p : q;
-            static struct pair asked;
-            asked.n = 0;
-            append(&asked, from->units, from->n);
-            if (asked.n > 0 && below(3) == 0) asked.units[below((uint32_t)asked.n)] = a_unit();
-            if (asked.n > 0 && below(3) == 0) asked.n -= 1 + below(2) % asked.n;
-            uint16_t *array = an_array(2 * asked.n);
-            memcpy(array, asked.units, 2 * asked.n);
-            int order = compare_units(p, &asked);
-            refuse_after = 0;
-            needs_none = 1;
-            if (kind == 26) must(wtf8_equal_units(&p->string, asked.n ? array : NULL, asked.n) == (order == 0), "equal_units");
-            else must(wtf8_compare_with_units(&p->string, asked.n ? array : NULL, asked.n) == order, "compare_with_units");
-            must_begin(array, 2 * asked.n, asked.units, 2 * asked.n, "units that were asked");
-            break;
-        }
-        case 28: {
-            size_t i = an_index(p->n);
-            /* A part of the string now and then, since strings seldom begin alike. */
-            if (p != q && below(2)) {
-                size_t first = i < p->n ? i : 0, most = p->n - first;
-                n = most < 12 ? most : below(12);
-                if (wtf8_set_units(&q->string, p->units + first, n) != WTF8_OK) break;
-                replace(q, p->units + first, n, 0);
-            }
-            refuse_after = 0;
-            requested = requests;
-            needs_none = 1;
-            must(wtf8_starts_with(&p->string, i, &q->string) == has_at(p, i, q), "starts_with");
-            break;
-        }
-        case 29:
-        case 30: {
-            size_t at = an_index(byte_len(p)), must_be_at;
-            uint32_t value = 77, must_be = 77;
-            must_be_at = at;
-            refuse_after = 0;
-            code = (kind == 29 ? wtf8_next_code_point : wtf8_previous_code_point)(&p->string, &at, &value);
-            must(code == (kind == 29 ? next_point : previous_point)(p, &must_be_at, &must_be), "a step of a walk");
-            must(at == must_be_at && value == must_be, "what a step of a walk writes");
-            must(requests == requested, "a step of a walk requests memory");
-            break;
-        }
-        case 31: {
+        case PUSH_SLICE: {
             size_t a = below((uint32_t)q->n + 2), b = an_index(q->n);
             int in_range = a <= b && b <= q->n;
             int divides = in_range && ((a > 0 && is_pair(q, a - 1)) || (b > 0 && is_pair(q, b - 1)));
@@ -307,20 +303,193 @@ static void step(int kind, struct pair *p, struct pair *q) {
             if (code == WTF8_OK) append(p, q->units + a, b - a);
             break;
         }
-        default:
+        case MARK:
             if (below(2)) refuse_after = 0;
             code = wtf8_mark(&p->string);
-            must(code == WTF8_OK || p->capacity == 0, "mark of a string with a buffer");
+            must(code == WTF8_OK || capacity == 0, "mark of a string with a buffer");
             if (code == WTF8_OK) p->is_marked = 1;
             break;
+        case FILL: fill(p, q); break;
+        case TRUNCATE_UNITS:
+            at = an_index(p->n);
+            code = wtf8_truncate_units(&p->string, at);
+            must(code == (at <= p->n ? WTF8_OK : WTF8_BAD_POSITION), "truncate_units");
+            if (code == WTF8_OK) p->n = at;
+            break;
+        case TRUNCATE_BYTES:
+            at = an_index(byte_len(p));
+            code = wtf8_truncate_bytes(&p->string, at);
+            must(code == (is_boundary(p, at) ? WTF8_OK : WTF8_BAD_POSITION), "truncate_bytes");
+            if (code == WTF8_OK) p->n = units_before(p, at);
+            break;
+        case SLICE: {
+            size_t a = below((uint32_t)p->n + 2), b = an_index(p->n);
+            code = wtf8_slice_units(&q->string, &p->string, a, b);
+            must((code == WTF8_BAD_POSITION) == !(a <= b && b <= p->n), "slice_units");
+            if (code == WTF8_OK) replace(q, p->units + a, b - a);
+            break;
+        }
+        case ALIKE:
+            /* Strings seldom begin alike by themselves. */
+            alike(&asked, p);
+            code = wtf8_set_units(&q->string, asked.units, asked.n);
+            if (code == WTF8_OK) replace(q, asked.units, asked.n);
+            requested = requests;
+            must_relate(p, q);
+            must_relate(q, p);
+            must(requests == requested, "requests of questions of two strings");
+            break;
+        case UNIT_LEN: must(wtf8_unit_len(&p->string) == p->n, "unit_len"); break;
+        case CAPACITY: must(wtf8_capacity(&p->string) == capacity, "the capacity asked again"); break;
+        case POSITION_AT:
+            at = an_index(p->n);
+            written = an_array(sizeof *written);
+            code = wtf8_position_at(&p->string, at, written);
+            must(code == (at <= p->n ? WTF8_OK : WTF8_BAD_POSITION), "position_at");
+            len = position_of(p, at);
+            must_begin(written, sizeof len, &len, code == WTF8_OK ? sizeof len : 0, "the position");
+            break;
+        case UNIT_BEFORE:
+            at = an_index(byte_len(p));
+            must(wtf8_unit_before(&p->string, at) == units_before(p, at), "unit_before");
+            break;
+        case UNIT_AT:
+            at = an_index(p->n);
+            array = an_array(sizeof *array);
+            code = wtf8_unit_at(&p->string, at, array);
+            must(code == (at < p->n ? WTF8_OK : WTF8_BAD_POSITION), "unit_at");
+            must_begin(array, 2, p->units + (at < p->n ? at : 0), code == WTF8_OK ? 2 : 0, "the unit");
+            break;
+        case IS_BOUNDARY:
+            at = an_index(byte_len(p));
+            must(wtf8_is_boundary(&p->string, at) == is_boundary(p, at), "is_boundary");
+            break;
+        case NEXT:
+        case PREVIOUS: {
+            at = an_index(byte_len(p));
+            uint32_t value = 77, *point = an_array(sizeof *point);
+            written = array_of(&at, sizeof at);
+            refuse_after = 0;
+            code = (call == NEXT ? wtf8_next_code_point : wtf8_previous_code_point)(&p->string, written, point);
+            must(code == (call == NEXT ? next_point : previous_point)(p, &at, &value), "a step of a walk");
+            must_begin(written, sizeof at, &at, sizeof at, "where a walk is");
+            must_begin(point, sizeof value, &value, code == WTF8_OK ? sizeof value : 0, "the code point of a walk");
+            break;
+        }
+        case IS_UTF8: must(wtf8_is_utf8(&p->string) == is_utf8(p), "is_utf8"); break;
+        case EQUAL: must(wtf8_equal(&p->string, &q->string) == (compare_units(p, q) == 0), "equal"); break;
+        case ORDER_UNITS: must(wtf8_compare_units(&p->string, &q->string) == compare_units(p, q), "compare_units"); break;
+        case ORDER_POINTS:
+            must(wtf8_compare_code_points(&p->string, &q->string) == compare_points(p, q), "compare_code_points");
+            break;
+        case HASH: must(wtf8_hash(&p->string) == hash_of(p), "hash"); break;
+        case EQUAL_UNITS:
+        case ORDER_WITH_UNITS: {
+            alike(&asked, below(4) ? p : q);
+            array = array_of(asked.units, 2 * asked.n);
+            const uint16_t *given = asked.n || below(2) ? array : NULL;
+            int order = compare_units(p, &asked);
+            refuse_after = 0;
+            if (call == EQUAL_UNITS) must(wtf8_equal_units(&p->string, given, asked.n) == (order == 0), "equal_units");
+            else must(wtf8_compare_with_units(&p->string, given, asked.n) == order, "compare_with_units");
+            must_begin(array, 2 * asked.n, asked.units, 2 * asked.n, "units that were asked");
+            break;
+        }
+        case STARTS_WITH:
+            at = an_index(p->n);
+            /* A part of the string now and then, also one that differs, up to its end or longer. */
+            if (p != q && below(4)) {
+                asked.n = 0;
+                if (at < p->n) append(&asked, p->units + at, below(3) && n < p->n - at ? n : p->n - at);
+                alike(q, &asked);
+                if (wtf8_set_units(&q->string, q->units, q->n) != WTF8_OK) {
+                    wtf8_clear(&q->string);
+                    q->n = 0;
+                }
+            }
+            refuse_after = 0;
+            requested = requests;
+            must(wtf8_starts_with(&p->string, at, &q->string) == has_at(p, at, q), "starts_with");
+            break;
+        case COPY_UNITS:
+            n = a_size(p->n);
+            array = an_array(2 * n);
+            written = an_array(sizeof *written);
+            if (below(2)) refuse_after = 0;
+            code = wtf8_copy_units(&p->string, n || below(2) ? array : NULL, n, written);
+            must(code == (n < p->n ? WTF8_ARRAY_TOO_SHORT : WTF8_OK), "copy_units");
+            must_begin(written, sizeof len, &p->n, sizeof len, "copy_units, length");
+            must_begin(array, 2 * n, p->units, code == WTF8_OK ? 2 * p->n : 0, "copy_units, array");
+            break;
+        case COPY_SLICE: {
+            size_t a = below((uint32_t)p->n + 2), b = an_index(p->n);
+            int in_range = a <= b && b <= p->n;
+            n = in_range ? a_size(b - a) : below(5);
+            array = an_array(2 * n);
+            written = an_array(sizeof *written);
+            len = b - a;
+            if (below(2)) refuse_after = 0;
+            code = wtf8_copy_slice(&p->string, a, b, n || below(2) ? array : NULL, n, written);
+            must((code == WTF8_BAD_POSITION) == !in_range, "copy_slice, position");
+            must((code == WTF8_ARRAY_TOO_SHORT) == (in_range && n < b - a), "copy_slice, short");
+            must_begin(written, sizeof len, &len, in_range ? sizeof len : 0, "copy_slice, length");
+            must_begin(array, 2 * n, p->units + (in_range ? a : 0), code == WTF8_OK ? 2 * len : 0, "copy_slice, array");
+            break;
+        }
+        case COPY_UTF8:
+        case COPY_LOSSY: {
+            static uint8_t right[16 * MOST];
+            size_t needed = 0, taken = 0;
+            int is_lossy = call == COPY_LOSSY, has_surrogate = !is_utf8(p);
+            for (size_t i = 0; i < p->n; i += taken) {
+                uint32_t c = point_at(p, i, &taken);
+                needed += encode(c >= 0xD800 && c < 0xE000 ? 0xFFFD : c, right + needed);
+            }
+            n = a_size(needed);
+            bytes = an_array(n);
+            written = an_array(sizeof *written);
+            needs_none = !has_surrogate && needed <= n;
+            if (below(2)) refuse_after = 0;
+            code = (is_lossy ? wtf8_copy_lossy : wtf8_copy_utf8)(&p->string, n || below(2) ? bytes : NULL, n, written);
+            must((code == WTF8_HAS_SURROGATE) == (!is_lossy && has_surrogate), "copy_utf8, surrogate");
+            must(code != WTF8_NO_MEMORY || (is_lossy && has_surrogate && needed <= n), "copy_lossy, NO_MEMORY");
+            must((code == WTF8_ARRAY_TOO_SHORT) == (n < needed && code != WTF8_HAS_SURROGATE), "copy_text, short");
+            len = code == WTF8_OK || code == WTF8_ARRAY_TOO_SHORT ? sizeof needed : 0;
+            must_begin(written, sizeof needed, &needed, len, "copy_text, length");
+            must_begin(bytes, n, right, code == WTF8_OK ? needed : 0, "copy_text, array");
+            must((is_lossy && has_surrogate) || requests == requested, "copy_text requests memory");
+            break;
+        }
+        default: must(0, "no call"); break;
     }
     must(code <= WTF8_END, "code");
-    must(code != WTF8_NO_MEMORY || refused < refusals || more > PTRDIFF_MAX, "MEMORY, but no request was refused");
+    /* Units may be refused after the string has grown for the first of them. */
+    int is_kept = code != WTF8_OK && call != PUSH_UNITS;
+    must(!is_kept || wtf8_capacity(&p->string) == capacity, "the capacity after a code that is not OK");
+    must(code != WTF8_NO_MEMORY || refused < refusals || more > PTRDIFF_MAX, "NO_MEMORY, but no request was refused");
+    if (UNIT_LEN <= call || (call == SLICE && p != q))
+        must(memcmp(string, &p->string, sizeof string) == 0, "the struct of a string that is read");
+    if (p != q && call != FILL && call != SLICE && call != ALIKE && call != STARTS_WITH)
+        must(memcmp(other, &q->string, sizeof other) == 0, "the struct of another string");
+    if (UNIT_LEN <= call || (CLEAR <= call && call <= FREE) || (TRUNCATE_UNITS <= call && call <= TRUNCATE_BYTES)) {
+        must(call == COPY_LOSSY || requests == requested, "a call that cannot be refused requests memory");
+        counts[call][code]++;
+        return;
+    }
     must(!needs_none || code == WTF8_OK, "a call that needs no memory is not done");
     /* What adds units may ask for memory for marks, and does without it. */
-    int may_ask_for_marks = p->is_marked && (kind <= 2 || (kind >= 6 && kind <= 10) || kind == 31);
+    int may_ask_for_marks = p->is_marked && call != RESERVE;
     must(!needs_none || may_ask_for_marks || requests == requested, "a call that needs no memory requests it");
-    counts[kind][code]++;
+    int is_in_place = call <= SET_STRING && needs_none;
+    must(!is_in_place || wtf8_capacity(&p->string) == capacity, "the capacity of a string that is set in place");
+    int is_append = PUSH_UNIT <= call && call <= PUSH_SLICE;
+    if (is_append || call == MARK || call == RESERVE) {
+        size_t now = wtf8_capacity(&p->string);
+        must(capacity <= now, "the capacity is less after a call that appends");
+        must(!is_append || now == capacity || 2 * capacity <= now, "an append takes less than twice the capacity");
+        must(now == capacity || requested < requests, "the capacity is greater without a request");
+    }
+    counts[call][code]++;
 }
 
 int main(int count, char **words) {
@@ -328,11 +497,12 @@ int main(int count, char **words) {
     long steps = count > 2 ? strtol(words[2], NULL, 10) : 20000;
     for (long i = 0; i < steps; i++) {
         struct pair *p = &pairs[below(STRINGS)], *q = &pairs[below(STRINGS)];
-        int kind = (int)below(KINDS);
+        enum call call = (enum call)below(CALLS);
         if (p->n + q->n > MOST) { wtf8_clear(&p->string); p->n = 0; }
         if (p->n + q->n > MOST) { wtf8_clear(&q->string); q->n = 0; }
         refuse_after = below(10) ? -1 : (long)below(4);
-        step(kind, p, q);
+        refuse_once = (int)below(2);
+        step(call, p, q);
         refuse_after = -1;
         check(p);
         check(q);
@@ -340,14 +510,17 @@ int main(int count, char **words) {
     for (int i = 0; i < STRINGS; i++) wtf8_free(&pairs[i].string);
     must(blocks == 0, "a block is not given back");
     static const int reached[][2] = {
-        {0, WTF8_NO_MEMORY}, {1, WTF8_NO_MEMORY}, {1, WTF8_NOT_UTF8}, {2, WTF8_NO_MEMORY}, {5, WTF8_NO_MEMORY}, {6, WTF8_NO_MEMORY},
-        {7, WTF8_NO_MEMORY}, {7, WTF8_BAD_CODE_POINT}, {8, WTF8_NO_MEMORY}, {9, WTF8_NO_MEMORY}, {9, WTF8_NOT_UTF8},
-        {10, WTF8_NO_MEMORY}, {12, WTF8_BAD_POSITION}, {18, WTF8_BAD_POSITION}, {19, WTF8_NO_MEMORY}, {19, WTF8_BAD_POSITION},
-        {20, WTF8_BAD_POSITION}, {22, WTF8_BAD_POSITION}, {22, WTF8_ARRAY_TOO_SHORT}, {23, WTF8_HAS_SURROGATE}, {23, WTF8_ARRAY_TOO_SHORT},
-        {24, WTF8_NO_MEMORY}, {24, WTF8_ARRAY_TOO_SHORT}, {25, WTF8_ARRAY_TOO_SHORT}, {29, WTF8_BAD_POSITION},
-        {29, WTF8_END}, {30, WTF8_BAD_POSITION}, {30, WTF8_END}, {31, WTF8_NO_MEMORY},
-        {31, WTF8_BAD_POSITION}, {32, WTF8_NO_MEMORY}};
-    for (int kind = 0; kind < KINDS; kind++) must(counts[kind][WTF8_OK] > 0 || steps < 25000, "a call is never done");
+        {SET_UNITS, WTF8_NO_MEMORY}, {SET_UTF8, WTF8_NO_MEMORY}, {SET_UTF8, WTF8_NOT_UTF8}, {SET_STRING, WTF8_NO_MEMORY},
+        {RESERVE, WTF8_NO_MEMORY}, {MARK, WTF8_NO_MEMORY}, {PUSH_UNIT, WTF8_NO_MEMORY}, {PUSH_POINT, WTF8_NO_MEMORY},
+        {PUSH_POINT, WTF8_BAD_CODE_POINT}, {PUSH_UNITS, WTF8_NO_MEMORY}, {PUSH_UTF8, WTF8_NO_MEMORY},
+        {PUSH_UTF8, WTF8_NOT_UTF8}, {PUSH_STRING, WTF8_NO_MEMORY}, {PUSH_SLICE, WTF8_NO_MEMORY},
+        {PUSH_SLICE, WTF8_BAD_POSITION}, {POSITION_AT, WTF8_BAD_POSITION}, {UNIT_AT, WTF8_BAD_POSITION},
+        {NEXT, WTF8_BAD_POSITION}, {NEXT, WTF8_END}, {PREVIOUS, WTF8_BAD_POSITION}, {PREVIOUS, WTF8_END},
+        {TRUNCATE_UNITS, WTF8_BAD_POSITION}, {TRUNCATE_BYTES, WTF8_BAD_POSITION}, {SLICE, WTF8_NO_MEMORY},
+        {SLICE, WTF8_BAD_POSITION}, {COPY_UNITS, WTF8_ARRAY_TOO_SHORT}, {COPY_SLICE, WTF8_BAD_POSITION},
+        {COPY_SLICE, WTF8_ARRAY_TOO_SHORT}, {COPY_UTF8, WTF8_HAS_SURROGATE}, {COPY_UTF8, WTF8_ARRAY_TOO_SHORT},
+        {COPY_LOSSY, WTF8_NO_MEMORY}, {COPY_LOSSY, WTF8_ARRAY_TOO_SHORT}};
+    for (int call = 0; call < CALLS; call++) must(counts[call][WTF8_OK] > 0 || steps < 25000, "a call is never done");
     for (size_t i = 0; i < sizeof reached / sizeof reached[0]; i++)
         must(counts[reached[i][0]][reached[i][1]] > 0 || steps < 25000, "a code is never reached");
     printf("random: %ld steps, %ld requests, no difference\n", steps, requests);

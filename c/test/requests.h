@@ -1,5 +1,5 @@
 /* The program's requests for memory, counted, and refused on demand; arrays of an exact size. Linked with
- * -Wl,--wrap=malloc,--wrap=realloc,--wrap=free. */
+ * -Wl,--wrap=malloc,--wrap=realloc,--wrap=free. A file that includes this defines _DEFAULT_SOURCE first, for mmap. */
 #ifndef REQUESTS_H
 #define REQUESTS_H
 
@@ -8,15 +8,10 @@
 #include <stdint.h>
 #include <stdlib.h>
 #include <string.h>
-
-/* The bytes after an array that must stay as they were. A sanitizer sees the first byte after a block itself. */
-#ifdef __SANITIZE_ADDRESS__
-enum { GUARD = 0 };
-#else
-enum { GUARD = 8 };
-#endif
+#include <sys/mman.h>
 
 static long refuse_after = -1; /* the number of requests that are granted before all are refused; -1: all are granted */
+static int refuse_once; /* whether one request is refused then, and all are granted after it */
 static long requests;
 static long refusals;
 static long blocks; /* the number of blocks that were granted and not freed */
@@ -28,7 +23,10 @@ void __real_free(void *at);
 static int is_refused(void) {
     requests++;
     if (refuse_after > 0) refuse_after--;
-    else if (refuse_after == 0) return 1;
+    else if (refuse_after == 0) {
+        if (refuse_once) refuse_after = -1;
+        return 1;
+    }
     return 0;
 }
 
@@ -51,20 +49,44 @@ void __wrap_free(void *at) {
     __real_free(at);
 }
 
-/* An array of `size` bytes, each 5A, that no test counts as a request. */
+/* Arrays end where a page begins that can be neither read nor written, so that a call that reads or writes after an array
+ * ends the test. The bytes before an array are compared. */
+enum { ARRAYS = 4, ARRAY_PAGES = 256, PAGE = 4096, BEFORE = 16 };
+
+static uint8_t *array_pages;
+static int is_taken[ARRAYS];
+
+/* An array of `size` bytes, each 5A, as is each byte before it that is compared. */
 static void *an_array(size_t size) {
-    void *out = __real_malloc(size + GUARD);
-    must(out != NULL, "no memory for the test");
-    memset(out, 0x5A, size + GUARD);
-    return out;
+    enum { SLOT = (ARRAY_PAGES + 1) * PAGE };
+    if (array_pages == NULL) {
+        array_pages = mmap(NULL, (size_t)ARRAYS * SLOT, PROT_READ | PROT_WRITE, MAP_PRIVATE | MAP_ANONYMOUS, -1, 0);
+        must(array_pages != MAP_FAILED, "no pages for the test");
+        for (int i = 0; i < ARRAYS; i++)
+            must(mprotect(array_pages + (i + 1) * SLOT - PAGE, PAGE, PROT_NONE) == 0, "pages that cannot be read");
+    }
+    int i = 0;
+    while (i < ARRAYS && is_taken[i]) i++;
+    must(i < ARRAYS && size + BEFORE <= ARRAY_PAGES * PAGE, "no array for the test");
+    is_taken[i] = 1;
+    uint8_t *end = array_pages + (i + 1) * SLOT - PAGE;
+    memset(end - size - BEFORE, 0x5A, size + BEFORE);
+    return end - size;
 }
 
-/* Frees the array. It must begin with the `len` bytes of `front`, and have what `an_array` wrote after them. */
+/* The array of these bytes. */
+static void *array_of(const void *bytes, size_t size) {
+    void *array = an_array(size);
+    return size > 0 ? memcpy(array, bytes, size) : array;
+}
+
+/* Frees the array. It must begin with the `len` bytes of `front`, and have what `an_array` wrote after and before them. */
 static void must_begin(void *array, size_t size, const void *front, size_t len, const char *what) {
     const uint8_t *bytes = array;
-    must(len <= size && memcmp(bytes, front, len) == 0, what);
-    for (size_t i = len; i < size + GUARD; i++) must(bytes[i] == 0x5A, what);
-    __real_free(array);
+    must(len <= size && (len == 0 || memcmp(bytes, front, len) == 0), what);
+    for (size_t i = len; i < size; i++) must(bytes[i] == 0x5A, what);
+    for (size_t i = 1; i <= BEFORE; i++) must(*(bytes - i) == 0x5A, what);
+    is_taken[(size_t)(bytes - array_pages) / ((ARRAY_PAGES + 1) * PAGE)] = 0;
 }
 
 #endif

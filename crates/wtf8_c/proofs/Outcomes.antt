@@ -44,7 +44,7 @@ on_err (Ok x) p e = cc
 on_err (Err x) p e = p
 
 -- the code that a call passes on as it got it: OK or NO_MEMORY
-same_code : {k z : ℤ} → mag k < 2147483648 → k ≡ z → to_z w32 (of_z w32 k) ≡ z
+pub same_code : {k z : ℤ} → mag k < 2147483648 → k ≡ z → to_z w32 (of_z w32 k) ≡ z
 same_code {k} fits e = to_z-of_z (sfits_of {w = w32} {z = k} fits) ∙ e
 
 pub if_code : {A : Type 0} {k z : ℤ} → mag k < 2147483648 → (k ≡ z → A) → to_z w32 (of_z w32 k) ≡ z → A

@@ -1,12 +1,13 @@
 -- Code points between boundaries.
-use Rattle.std.proofs.Common.{◌≡◌, ℕ, ◌+◌, ◌-◌, ◌<◌, ◌≤◌, ◌⊎◌, List, [], ◌∷◌, ◌++◌, length, inl, inr, refl, sym, ap, ◌∙◌, subst, arith}
+use Rattle.std.proofs.Common.{◌≡◌, ℕ, ◌+◌, ◌-◌, ◌<◌, ◌≤◌, ◌⊎◌, List, [], ◌∷◌, ◌++◌, length, take, inl, inr, refl, sym, ap, ◌∙◌, subst, arith}
 use Rattle.std.proofs.Common.{length-append, append_assoc}
 use Rattle.std.proofs.lemmas.Bool.{cases_lt}
-use Rattle.std.proofs.lemmas.List.{append-nil}
-use Rattle.wtf8.specs.Form.{Reads, bytes, encoding}
+use Rattle.std.proofs.lemmas.List.{append-nil, take_at}
+use Rattle.wtf8.specs.Form.{IsClean, IsForm, Reads, bytes, encoding}
 use Rattle.wtf8.specs.Position.{Splits, IsBoundary, IsBack}
-use Rattle.wtf8.proofs.lemmas.codec.Encoding.{length-encoding_bounds, bytes-pushed}
-use Rattle.wtf8.proofs.lemmas.codec.Readings.{reads_same}
+use Rattle.wtf8.specs.Unicode.{units, units_of}
+use Rattle.wtf8.proofs.lemmas.codec.Encoding.{length-encoding_bounds, bytes-append, bytes-pushed}
+use Rattle.wtf8.proofs.lemmas.codec.Readings.{clean-front, nil_from_bytes, reads_same, units-pushed}
 use Rattle.wtf8.proofs.lemmas.strings.Positions.{shorter_is_prefix}
 use Rattle.wtf8_c.specs.Walks.{IsPointBetween}
 
@@ -63,3 +64,34 @@ ends_at {u} {begin} {end} {p} q b l last =
       | inr m ↦ omega (arith, m, none_within q b l)
     ] in
     subst (λ k. IsPointBetween u begin k p) same q
+
+-- the code point before the end is the last one
+last_of : {w u : List ℕ} {begin p : ℕ} (f : IsForm w u) (q : IsPointBetween u begin (length w) p) → f.points ≡ q.front ++ p ∷ []
+last_of {w} {u} {begin} {p} f q =
+    let pushed = q.front ++ p ∷ [] in
+    let whole : f.points ≡ pushed ++ q.back = reads_same f.reads q.ends.reads in
+    let count : length (bytes q.back) ≡ 0 =
+    omega (arith, ap length f.encoded, ap (λ c. length (bytes c)) whole, ap length (bytes-append pushed q.back), length-append (bytes pushed) (bytes q.back), q.ends.front_len) in
+    whole ∙ ap (λ c. pushed ++ c) (nil_from_bytes q.back count) ∙ append-nil pushed
+
+-- the units before those of the last code point
+pub record IsBeforeLast (u : List ℕ) (p n : ℕ) (c : List ℕ) : Type 0 where
+  pub front : List ℕ
+  pub points : c ≡ front ++ p ∷ []
+  pub reads : Reads front (take (length u - n) u)
+  pub within : n ≤ length u
+
+pub before_last : {w u : List ℕ} {begin p n : ℕ} (f : IsForm w u) → IsPointBetween u begin (length w) p → n ≡ length (units_of p)
+    → IsBeforeLast u p n f.points
+before_last {w} {u} {begin} {p} {n} f q e =
+    let points = last_of f q in
+    let parts : u ≡ units q.front ++ units_of p = sym f.reads.same_units ∙ ap units points ∙ units-pushed q.front p in
+    let count : length u ≡ length (units q.front) + n = omega (arith, ap length parts, length-append (units q.front) (units_of p), e) in
+    let front : units q.front ≡ take (length u - n) u =
+    sym (take_at (units q.front) (units_of p) (length u - n) (omega (arith, count))) ∙ ap (λ v. take (length u - n) v) (sym parts) in
+    record {
+      front = q.front;
+      points = points;
+      reads = record { clean = clean-front q.front (p ∷ []) (subst IsClean points f.reads.clean); same_units = front };
+      within = omega (arith, count);
+    }

@@ -1,17 +1,19 @@
 // Calls that shorten a string, and that copy or append a part of one.
-ghost use Rattle.std.specs.Prelude.{◌≡◌, [], ◌⊎◌, ◌<◌, ◌≤◌, ◌↔◌, IfOk, OnOk, OnErr, length, take, drop};
-ghost use Rattle.wtf8.specs.Appending.{AppendsUnits, KeepsContents};
+ghost use Rattle.std.specs.Prelude.{◌≡◌, [], ◌∷◌, ◌++◌, ◌⊎◌, ◌<◌, ◌≤◌, ◌↔◌, IsTrue, length, take, drop};
+ghost use Rattle.wtf8.specs.Appending.{AppendsUnits, KeepsContents, HasRoomFor};
 ghost use Rattle.wtf8.specs.Position.{IsBoundary, IsFront};
+ghost use Rattle.wtf8.specs.Unicode.{units_of};
 ghost use Rattle.wtf8.specs.UnitPosition.{units_of_slice};
 ghost use Rattle.wtf8_c.specs.Contents.{contents, buffer_contents};
 
-use crate::codes::{BAD_POSITION, NO_MEMORY, OK, code_of};
+use crate::codes::{BAD_POSITION, END, NO_MEMORY, OK, code_of};
 use crate::handle::Wtf8String;
 use crate::making::replace;
 use crate::opening::{unit_len, view};
-use std::alloc::{AllocError, Global};
+use crate::walking::previous_of;
+use std::alloc::Global;
 use unit_text::IndexedBuf;
-use wtf8::{UnitSlice, Wtf8, Wtf8Buf};
+use wtf8::{UnitSlice, Wtf8};
 
 /// Shortens the string to `n` units.
 #[unsafe(no_mangle)]
@@ -20,6 +22,7 @@ pub extern "C" fn wtf8_truncate_units(alloc: Global, string: &mut Wtf8String, n:
     ensures position { result ≡ BAD_POSITION ↔ length (contents string.old).units < n }
     ensures ok { result ≡ OK → (contents string.new).units ≡ take n (contents string.old).units }
     ensures kept { result ≡ BAD_POSITION → contents string.new ≡ contents string.old }
+    ensures capacity { (contents string.new).capacity ≡ (contents string.old).capacity }
 {
     let held = string.take(alloc);
     if unit_len(&held) < n {
@@ -47,6 +50,7 @@ pub extern "C" fn wtf8_truncate_bytes(
     ensures position { result ≡ BAD_POSITION ↔ ¬ (IsBoundary (contents string.old).units position) }
     ensures ok { result ≡ OK → IsFront (contents string.old).units position (contents string.new).units }
     ensures kept { result ≡ BAD_POSITION → contents string.new ≡ contents string.old }
+    ensures capacity { (contents string.new).capacity ≡ (contents string.old).capacity }
 {
     let held = string.take(alloc);
     if !view(&held).is_code_point_boundary(position) {
@@ -63,7 +67,8 @@ fn truncated(
     position: usize,
 ) -> Option<Box<IndexedBuf<Global>, Global>>
     requires { IsBoundary (buffer_contents held).units position }
-    ensures { IsFront (buffer_contents held).units position (buffer_contents result).units }
+    ensures front { IsFront (buffer_contents held).units position (buffer_contents result).units }
+    ensures capacity { (buffer_contents result).capacity ≡ (buffer_contents held).capacity }
 {
     match held {
         Some(mut buf) => {
@@ -72,6 +77,54 @@ fn truncated(
         }
         None => None,
     }
+}
+
+/// Takes the last code point off, and writes it to `code_point`.
+#[unsafe(no_mangle)]
+pub extern "C" fn wtf8_pop(alloc: Global, string: &mut Wtf8String, code_point: &mut u32) -> i32
+    ensures code { (result ≡ OK) ⊎ (result ≡ END) }
+    ensures end { result ≡ END ↔ (contents string.old).units ≡ [] }
+    ensures ok { result ≡ OK → (contents string.old).form.points ≡ (contents string.new).form.points ++ code_point.new ∷ [] }
+    ensures kept { result ≡ END → contents string.new ≡ contents string.old }
+    ensures code_point { result ≡ END → code_point.new ≡ code_point.old }
+    ensures capacity { (contents string.new).capacity ≡ (contents string.old).capacity }
+{
+    let held = string.take(alloc);
+    match held {
+        Some(mut buf) => {
+            let code = pop_of(&mut buf, code_point);
+            string.put(buf);
+            code
+        }
+        None => END,
+    }
+}
+
+/// Takes the last code point off the buffer, as `wtf8_pop` does off a string. A cut after a number of units is found
+/// from the end, a cut at a position from the start or a mark.
+fn pop_of(buf: &mut IndexedBuf<Global>, code_point: &mut u32) -> i32
+    ensures code { (result ≡ OK) ⊎ (result ≡ END) }
+    ensures end { result ≡ END ↔ buf.old.units ≡ [] }
+    ensures ok { result ≡ OK → buf.old.form.points ≡ buf.new.form.points ++ code_point.new ∷ [] }
+    ensures kept { result ≡ END → buf.new ≡ buf.old }
+    ensures code_point { result ≡ END → code_point.new ≡ code_point.old }
+    ensures capacity { buf.new.capacity ≡ buf.old.capacity }
+{
+    let len = buf.unit_len();
+    let mut position = buf.as_wtf8().len();
+    let code = previous_of(buf.as_wtf8(), &mut position, code_point);
+    if code != OK {
+        return END;
+    }
+    buf.truncate_units(len - unit_count(*code_point));
+    OK
+}
+
+/// The number of units of a code point.
+fn unit_count(code_point: u32) -> usize
+    ensures { result ≡ length (units_of code_point) }
+{
+    if code_point < 0x10000 { 1 } else { 2 }
 }
 
 /// Replaces `into` by the units of `string` from index `begin` to before `end`.
@@ -94,10 +147,11 @@ pub extern "C" fn wtf8_slice_units(
         string.put_back(held);
         return BAD_POSITION;
     }
-    let copied = copy_of_slice(alloc, slice_of(&held, begin, end));
+    let mut made = IndexedBuf::new(alloc);
+    let pushed = made.push_unit_slice(slice_of(&held, begin, end));
     string.put_back(held);
-    match copied {
-        Ok(made) => replace(alloc, into, made),
+    match pushed {
+        Ok(()) => replace(alloc, into, made),
         Err(_) => NO_MEMORY,
     }
 }
@@ -115,6 +169,7 @@ pub extern "C" fn wtf8_push_slice(
     ensures position { result ≡ BAD_POSITION ↔ ¬ ((begin ≤ end) × (end ≤ length (contents other.old).units)) }
     ensures ok { result ≡ OK → AppendsUnits (contents string.old) (drop begin (take end (contents other.old).units)) (contents string.new) }
     ensures kept { ¬ (result ≡ OK) → KeepsContents (contents string.old) (contents string.new) }
+    ensures room { IsTrue string.old.full → (begin ≤ end) × (end ≤ length (contents other.old).units) → HasRoomFor (contents string.old) (drop begin (take end (contents other.old).units)) → result ≡ OK }
     ensures other { contents other.new ≡ contents other.old }
     ensures capacity { (contents string.old).capacity ≤ (contents string.new).capacity }
 {
@@ -133,37 +188,15 @@ fn push_part(alloc: Global, string: &mut Wtf8String, slice: UnitSlice<'_>) -> i3
     ensures code { (result ≡ OK) ⊎ (result ≡ NO_MEMORY) }
     ensures ok { result ≡ OK → AppendsUnits (contents string.old) (units_of_slice slice.entry) (contents string.new) }
     ensures kept { result ≡ NO_MEMORY → KeepsContents (contents string.old) (contents string.new) }
+    ensures room { IsTrue string.old.full → HasRoomFor (contents string.old) (units_of_slice slice.entry) → result ≡ OK }
     ensures capacity { (contents string.old).capacity ≤ (contents string.new).capacity }
 {
     let Ok(mut buf) = string.open(alloc) else {
         return NO_MEMORY;
     };
-    let pushed = push_to(alloc, &mut buf, slice);
+    let pushed = buf.push_unit_slice(slice);
     string.put(buf);
     code_of(pushed)
-}
-
-/// Appends a slice to the buffer. A slice with half a pair at an end is copied first.
-fn push_to(
-    alloc: Global,
-    buf: &mut IndexedBuf<Global>,
-    slice: UnitSlice<'_>,
-) -> Result<(), AllocError>
-    ensures ok { OnOk result (AppendsUnits buf.old (units_of_slice slice.entry) buf.new) }
-    ensures kept { OnErr result (KeepsContents buf.old buf.new) }
-    ensures capacity { buf.old.capacity ≤ buf.new.capacity }
-{
-    match slice {
-        UnitSlice {
-            trail: None,
-            whole,
-            lead: None,
-        } => buf.push_wtf8(whole),
-        _ => {
-            let copied = copy_of_slice(alloc, slice)?;
-            buf.push_wtf8(copied.as_wtf8())
-        }
-    }
 }
 
 /// The part of the buffer's string from unit `begin` to before unit `end`.
@@ -180,13 +213,4 @@ fn slice_of(
         Some(buf) => buf.slice_units(begin, end),
         None => Wtf8::from_str("").slice_units(begin, end),
     }
-}
-
-/// A copy of a slice.
-fn copy_of_slice(alloc: Global, slice: UnitSlice<'_>) -> Result<IndexedBuf<Global>, AllocError>
-    ensures { IfOk result (λ b. b.units ≡ units_of_slice slice.entry) }
-{
-    let mut made = Wtf8Buf::new(alloc);
-    made.push_unit_slice(slice)?;
-    Ok(IndexedBuf::from_buf(made))
 }

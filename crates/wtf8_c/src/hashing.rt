@@ -14,12 +14,7 @@ use wtf8::CodePoint;
 
 /// The hash of the string under a seed of 128 bits, for tables.
 #[unsafe(no_mangle)]
-pub extern "C" fn wtf8_hash(
-    alloc: Global,
-    string: &mut Wtf8String,
-    seed_0: u64,
-    seed_1: u64,
-) -> u64
+pub extern "C" fn wtf8_hash(alloc: Global, string: &mut Wtf8String, seed_0: u64, seed_1: u64) -> u64
     ensures hash { result ≡ hash_of seed_0 seed_1 (contents string.old).bytes }
     ensures kept { contents string.new ≡ contents string.old }
 {
@@ -36,10 +31,11 @@ pub extern "C" fn wtf8_hash_units(units: &[u16], seed_0: u64, seed_1: u64) -> u6
     ensures { (w : List ℕ) → IsForm w units.now → result ≡ hash_of seed_0 seed_1 w }
 {
     let mut hasher = seeded(seed_0, seed_1);
+    let mut scratch = [0; 64];
     let mut at = 0;
     while at < units.len() {
-        let (point, end) = point_at(units, at);
-        hasher.write(&encoded(point)[..point.encoded_len()]);
+        let (len, end) = encode_some(units, at, &mut scratch);
+        hasher.write(&scratch[..len]);
         at = end;
     }
     // The byte that the hash of a view ends with.
@@ -55,6 +51,44 @@ fn seeded(seed_0: u64, seed_1: u64) -> DefaultHasher
     hasher.write_u64(seed_0);
     hasher.write_u64(seed_1);
     hasher
+}
+
+/// Writes the bytes of the code points from index `at` on to the front of `scratch`, until there is no room for four more.
+/// Returns the number of the bytes, and the index after the code points.
+fn encode_some(units: &[u16], at: usize, scratch: &mut [u8; 64]) -> (usize, usize)
+    requires { at < length units.now }
+    ensures order { at < result.1 }
+    ensures within { result.1 ≤ length units.now }
+    ensures len { result.0 ≤ 64 }
+    ensures form { (w : List ℕ) → IsForm w (drop result.1 units.now) → IsForm (take result.0 scratch.new ++ w) (drop at units.now) }
+{
+    let mut len = 0;
+    let mut end = at;
+    while end < units.len() && len <= 60 {
+        let (bytes, count, next) = encode_at(units, end);
+        scratch[len..len + 4].copy_from_slice(&bytes);
+        len += count;
+        end = next;
+    }
+    (len, end)
+}
+
+/// The bytes of the code point at index `at`, at the front of an array, their number, and the index after the code point.
+#[inline(always)]
+fn encode_at(units: &[u16], at: usize) -> ([u8; 4], usize, usize)
+    requires { at < length units.now }
+    ensures count { result.1 ≤ 4 }
+    ensures order { at < result.2 }
+    ensures within { result.2 ≤ length units.now }
+    ensures form { (w : List ℕ) → IsForm w (drop result.2 units.now) → IsForm (take result.1 result.0 ++ w) (drop at units.now) }
+{
+    let unit = units[at];
+    if unit < 0x80 {
+        // Most units, without the steps below.
+        return ([unit as u8, 0, 0, 0], 1, at + 1);
+    }
+    let (point, end) = point_at(units, at);
+    (encoded(point), point.encoded_len(), end)
 }
 
 /// The code point of the unit at index `at`, or of the pair that begins there, and the index after it.
@@ -99,7 +133,12 @@ fn encoded(point: CodePoint) -> [u8; 4]
     } else if value < 0x800 {
         [(0xC0 + value / 64) as u8, last, 0, 0]
     } else if value < 0x10000 {
-        [(0xE0 + value / 4096) as u8, (0x80 + value / 64 % 64) as u8, last, 0]
+        [
+            (0xE0 + value / 4096) as u8,
+            (0x80 + value / 64 % 64) as u8,
+            last,
+            0,
+        ]
     } else {
         let second = (0x80 + value / 4096 % 64) as u8;
         let third = (0x80 + value / 64 % 64) as u8;

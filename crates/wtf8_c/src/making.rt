@@ -151,6 +151,22 @@ pub extern "C" fn wtf8_reserve_bytes(
     code_of(reserved)
 }
 
+/// Gives back the capacity that the string does not use.
+#[unsafe(no_mangle)]
+pub extern "C" fn wtf8_shrink(alloc: Global, string: &mut Wtf8String)
+    ensures kept { KeepsContents (contents string.old) (contents string.new) }
+    ensures capacity { (contents string.new).capacity ≤ (contents string.old).capacity }
+    ensures empty { (contents string.old).bytes ≡ [] → (contents string.new).capacity ≡ 0 }
+{
+    match string.take(alloc) {
+        Some(mut buf) => {
+            buf.shrink_to_fit();
+            string.put(buf);
+        }
+        None => (),
+    }
+}
+
 /// Keeps marks of the string, from which its units are found. A mark without memory is left out.
 #[unsafe(no_mangle)]
 pub extern "C" fn wtf8_mark(alloc: Global, string: &mut Wtf8String) -> i32

@@ -81,7 +81,7 @@ fn next_of(text: Wtf8<'_>, position: &mut usize, code_point: &mut u32) -> i32
 }
 
 /// The code point of `text` before `position`, as `wtf8_previous_code_point` writes it.
-fn previous_of(text: Wtf8<'_>, position: &mut usize, code_point: &mut u32) -> i32
+pub(crate) fn previous_of(text: Wtf8<'_>, position: &mut usize, code_point: &mut u32) -> i32
     ensures code { (result ≡ OK) ⊎ ((result ≡ BAD_POSITION) ⊎ (result ≡ END)) }
     ensures position { result ≡ BAD_POSITION ↔ ¬ (IsBoundary (view_units text.entry) position.old) }
     ensures end { result ≡ END ↔ position.old ≡ 0 }

@@ -1,18 +1,14 @@
-use Rattle.std.proofs.Common.{rules, refl, inr, to_z, of_z, w32}
+use Rattle.std.proofs.Common.{rules, to_z, of_z, w32}
+use Rattle.wtf8.specs.UnitPosition.{units_of_slice}
 use Rattle.wtf8_c.specs.Contents.{contents}
-use Rattle.wtf8_c.proofs.Outcomes.{other_code, IsCodeOf, returned, ok_or_no_memory, Opened, opened, kept, kept_same, capacity_kept}
-use Rattle.wtf8_c.proofs.Outcomes.{capacity_same}
+use Rattle.wtf8_c.proofs.Outcomes.{IsCodeOf, returned, ok_or_no_memory, Opened, opened, kept, capacity_kept}
+use Rattle.wtf8_c.proofs.Outcomes.{room}
 use Rattle.wtf8_c.proofs.cutting.push_part.Goals as goal
 
 pub returns-in_default : goal.returns-in_default
-returns-in_default c = record {
-  code = inr refl;
-  ok = other_code _ _ refl;
-  kept = λ _. kept_same c.in_default.ensures.kept;
-  capacity = capacity_same c.in_default.ensures.kept;
-}
+returns-in_default c = search rules
 
-code : (c : goal.After-code_of) → IsCodeOf c.push_to-pushed.result (to_z w32 (of_z w32 c.code_of.result))
+code : (c : goal.After-code_of) → IsCodeOf c.push_unit_slice-pushed.result (to_z w32 (of_z w32 c.code_of.result))
 code c = returned c.code_of.type_inv c.code_of.ensures.ok c.code_of.ensures.memory
 
 taken : (c : goal.After-code_of) → Opened (contents c.args.string.now) c.deref_mut.result.now c.args.string.now.full
@@ -26,7 +22,10 @@ pub returns-clause-ok : goal.returns-clause-ok
 returns-clause-ok c = search rules
 
 pub returns-clause-kept : goal.returns-clause-kept
-returns-clause-kept c = kept (code c) (taken c) c.put.ensures.contents c.push_to-pushed.ensures.kept
+returns-clause-kept c = kept (code c) (taken c) c.put.ensures.contents c.push_unit_slice-pushed.ensures.kept
+
+pub returns-clause-room : goal.returns-clause-room
+returns-clause-room c = room (units_of_slice c.args.slice) (code c) (taken c) c.push_unit_slice-pushed.ensures.room
 
 pub returns-clause-capacity : goal.returns-clause-capacity
-returns-clause-capacity c = capacity_kept (taken c) c.put.ensures.contents c.push_to-pushed.ensures.capacity
+returns-clause-capacity c = capacity_kept (taken c) c.put.ensures.contents c.push_unit_slice-pushed.ensures.capacity

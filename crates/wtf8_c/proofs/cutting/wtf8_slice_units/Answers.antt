@@ -1,4 +1,5 @@
-use Rattle.std.proofs.Common.{rules, refl, inl, inr, ap, ◌∙◌, length, drop, take, arith}
+use Rattle.std.proofs.Common.{rules, refl, inl, inr, ap, ◌∙◌, ◌++◌, length, drop, take, arith}
+use Rattle.wtf8.specs.UnitPosition.{units_of_slice}
 use Rattle.wtf8_c.proofs.Outcomes.{other_code, ok_or_no_memory_as, no_greater, if_code, unless_ok, or_third}
 use Rattle.wtf8_c.proofs.cutting.wtf8_slice_units.Goals as goal
 
@@ -34,7 +35,8 @@ returns-in-Ok-clause-position c =
 
 pub returns-in-Ok-clause-ok : goal.returns-in-Ok-clause-ok
 returns-in-Ok-clause-ok c =
-    if_code c.replace.type_inv (λ e. ap (λ x. x.units) (c.replace.ensures.ok e) ∙ c.in-Ok.ensures ∙ c.slice_of.ensures
+    if_code c.replace.type_inv (λ e. ap (λ x. x.units) (c.replace.ensures.ok e) ∙ c.in-Ok.ensures.ok
+    ∙ ap (λ u. u ++ units_of_slice c.slice_of.result) c.new-made.ensures.units ∙ c.slice_of.ensures
     ∙ ap (λ x. drop c.args.begin (take c.args.end x.units)) c.take-held.ensures.contents)
 
 pub returns-in-Ok-clause-kept : goal.returns-in-Ok-clause-kept

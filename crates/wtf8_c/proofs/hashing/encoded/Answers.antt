@@ -1,5 +1,4 @@
-use Rattle.std.proofs.Common.{◌≡◌, ◌+◌, ◌/◌, ◌%◌, List, ℕ, [], ◌∷◌, length, take, refl, sym, subst}
-use Rattle.wtf8.specs.CodePoint.{number}
+use Rattle.std.proofs.Common.{◌≡◌, List, ℕ, length, take, refl, subst}
 use Rattle.wtf8.specs.Form.{encoding}
 use Rattle.wtf8.proofs.lemmas.codec.Encoding.{encoding_one, encoding_two, encoding_three, encoding_four}
 use Rattle.wtf8_c.proofs.hashing.encoded.Goals as goal

@@ -1,4 +1,4 @@
-use Rattle.std.proofs.Common.{◌≡◌, ◌<◌, ◌+◌, length, get_or, refl, sym, subst, arith}
+use Rattle.std.proofs.Common.{◌<◌, ◌+◌, length, get_or, refl, sym, subst, arith}
 use Rattle.std.proofs.lemmas.Bool.{false≢true}
 use Rattle.wtf8.specs.Unicode.{IsLead, IsTrail}
 use Rattle.wtf8.proofs.lemmas.from_utf16.Decoding.{IsFirstRead, IsFirstRead-pair, IsFirstRead-unit}

@@ -1,10 +1,9 @@
-use Rattle.std.proofs.Common.{◌≡◌, ℕ, List, [], ◌∷◌, ◌++◌, take, drop, length, refl, sym, ap, ◌∙◌, subst, arith}
+use Rattle.std.proofs.Common.{◌≡◌, ℕ, List, [], ◌∷◌, ◌++◌, take, drop, refl, sym, ap, ◌∙◌, subst}
 use Rattle.std.proofs.lemmas.List.{drop_all}
 use Rattle.std.proofs.lemmas.List.Sums.{fold-append}
 use Rattle.std.specs.Hash.DefaultHasher as sip
 use Rattle.std.specs.declared.hash.DefaultHasher.{DefaultHasher}
-use Rattle.wtf8.specs.CodePoint.{number}
-use Rattle.wtf8.specs.Form.{IsForm, encoding}
+use Rattle.wtf8.specs.Form.{IsForm}
 use Rattle.wtf8.proofs.lemmas.codec.Readings.{same_form}
 use Rattle.wtf8_c.specs.Hashing.{seeded_with}
 use Rattle.wtf8_c.proofs.hashing.wtf8_hash_units.Goals as goal
@@ -25,12 +24,10 @@ loop-at-init c v w x y =
 
 pub loop-at-preserved : goal.loop-at-preserved
 loop-at-preserved c v w x y =
-    let bytes = encoding (number c.point_at-end.result.0) in
-    let written : take c.encoded_len.result c.encoded.result ≡ bytes =
-    ap (λ n. take n c.encoded.result) c.encoded_len.ensures.value ∙ c.encoded.ensures in
-    c.loop-at.invariant v (bytes ++ w) x (c.point_at-end.ensures.form w y)
+    let bytes = take c.encode_some-len.result.0 c.encode_some-len.new.scratch in
+    c.loop-at.invariant v (bytes ++ w) x (c.encode_some-len.ensures.form w y)
     ∙ write-append c.loop-at.hasher bytes w
-    ∙ ap (λ s. sip.write s w) (sym (c.write.ensures ∙ ap (λ b. sip.write c.loop-at.hasher b) written))
+    ∙ ap (λ s. sip.write s w) (sym c.write.ensures)
 
 pub returns : goal.returns
 returns c w x =
