@@ -115,6 +115,9 @@ static void test_building() {
     must(1005 <= s.capacity() && s.units() == mixed.substr(0, 3), "reserve_bytes");
     s.shrink();
     must(s.byte_len() <= s.capacity() && s.capacity() < 1005 && s.units() == mixed.substr(0, 3), "shrink");
+    s.clear();
+    s.shrink();
+    must(s.capacity() == 0 && s.append(mixed).units() == mixed, "shrink of an empty string");
 }
 
 static void test_cuts() {
