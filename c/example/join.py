@@ -1,16 +1,41 @@
 import ctypes
+import threading
 
-lib = ctypes.PyDLL("libwtf8.so.0")
-lib.wtf8_byte_len.restype = ctypes.c_size_t
+lib = ctypes.CDLL("libwtf8.so.0")
+lib.wtf8_unit_len.restype = ctypes.c_size_t
 
-class String(ctypes.Structure):
+class Struct(ctypes.Structure):
     _fields_ = [("at", ctypes.c_void_p), ("full", ctypes.c_bool)]
 
-s = ctypes.byref(String())
-for units in ([0x61, 0xD83D], [0xDCA9, 0xDC00]):
-    array = (ctypes.c_uint16 * len(units))(*units)
-    assert lib.wtf8_push_units(s, array, ctypes.c_size_t(len(units))) == 0
-out, n = (ctypes.c_uint16 * 8)(), ctypes.c_size_t()
-assert lib.wtf8_copy_units(s, out, ctypes.c_size_t(8), ctypes.byref(n)) == 0
-print(lib.wtf8_byte_len(s), [f"{unit:04X}" for unit in out[:n.value]])
-lib.wtf8_free(s)
+class String:
+    def __init__(self, text=""):
+        self._as_parameter_ = ctypes.byref(Struct())
+        self.lock = threading.Lock()
+        self.push(text)
+
+    def __del__(self, free=lib.wtf8_free):
+        free(self)
+
+    def push(self, text):
+        units = text.encode("utf-16-le", "surrogatepass")
+        n = len(units) // 2
+        array = (ctypes.c_uint16 * n).from_buffer_copy(units)
+        with self.lock:
+            if lib.wtf8_push_units(self, array, ctypes.c_size_t(n)) != 0:
+                raise MemoryError
+
+    def __len__(self):
+        with self.lock:
+            return lib.wtf8_unit_len(self)
+
+    def __str__(self):
+        with self.lock:
+            n = ctypes.c_size_t(lib.wtf8_unit_len(self))
+            array = (ctypes.c_uint16 * n.value)()
+            lib.wtf8_copy_units(self, array, n, ctypes.byref(n))
+        return bytes(array).decode("utf-16-le", "surrogatepass")
+
+if __name__ == "__main__":
+    s = String("a\ud83d")
+    s.push("\udca9")
+    print(len(s), "units:", s)

@@ -1,0 +1,331 @@
+/* The class of wtf8.hpp: what it must return is known by hand or by std::u16string. Standard containers hold its strings,
+ * and the library's requests for memory are refused in turn. Linked with -Wl,--wrap=malloc,--wrap=realloc,--wrap=free. */
+#include "../wtf8.hpp"
+#include "must.h"
+
+#include <algorithm>
+#include <functional>
+#include <map>
+#include <type_traits>
+#include <unordered_map>
+#include <vector>
+
+using wtf8::string;
+
+static_assert(!std::is_copy_constructible<string>::value, "no copy unasked");
+static_assert(!std::is_copy_assignable<string>::value, "no copy unasked");
+static_assert(std::is_nothrow_default_constructible<string>::value, "an empty string needs no memory");
+static_assert(std::is_nothrow_move_constructible<string>::value, "a move needs no memory");
+static_assert(std::is_nothrow_move_assignable<string>::value, "a move needs no memory");
+static_assert(noexcept(swap(std::declval<string &>(), std::declval<string &>())), "a swap needs no memory");
+static_assert(!std::is_convertible<wtf8::units_in, string>::value, "no copy unasked");
+static_assert(!std::is_convertible<std::u16string, string>::value, "no copy unasked");
+static_assert(std::is_same<decltype(string().at(0)), char16_t>::value, "units are char16_t");
+static_assert(std::is_same<decltype(string().units()), std::u16string>::value, "units are char16_t");
+
+static long refuse_after = -1; /* the number of requests that are granted before all are refused; -1: all are granted */
+static long blocks;            /* the number of blocks that were granted and not freed */
+
+static bool is_refused() { return refuse_after == 0 || (0 < refuse_after && refuse_after-- == 0); }
+
+static void *granted(void *at, bool is_new) {
+    if (at != nullptr && is_new) blocks++;
+    return at;
+}
+
+extern "C" {
+void *__real_malloc(size_t size);
+void *__real_realloc(void *at, size_t size);
+void __real_free(void *at);
+void *__wrap_malloc(size_t size);
+void *__wrap_realloc(void *at, size_t size);
+void __wrap_free(void *at);
+void *__wrap_malloc(size_t size) { return granted(is_refused() ? nullptr : __real_malloc(size), true); }
+void *__wrap_realloc(void *at, size_t size) {
+    return granted(is_refused() ? nullptr : __real_realloc(at, size), at == nullptr);
+}
+void __wrap_free(void *at) {
+    if (at != nullptr) blocks--;
+    __real_free(at);
+}
+}
+
+/* "a", U+1F4A9 and a lone trail: 4 units, and the bytes 61, F0 9F 92 A9, ED B0 80. */
+static const std::u16string mixed = u"a\xD83D\xDCA9\xDC00";
+static const size_t huge = static_cast<size_t>(-1);
+
+/* Whether the call throws exactly this. */
+template <class Thrown, class Call> static bool throws(Call call) {
+    try {
+        call();
+    } catch (const Thrown &thrown) {
+        return typeid(thrown) == typeid(Thrown);
+    } catch (...) {
+    }
+    return false;
+}
+
+/* Whether the call throws a wtf8::error of this code and position. */
+template <class Call> static bool fails(Call call, wtf8_result code, size_t position = 0) {
+    try {
+        call();
+    } catch (const std::invalid_argument &thrown) {
+        const wtf8::error *error = dynamic_cast<const wtf8::error *>(&thrown);
+        return error != nullptr && error->code == code && error->position == position && *error->what() != 0;
+    }
+    return false;
+}
+
+static void test_parts() {
+    string s(u"a\xD83D");
+    must(s.unit_len() == 2 && s.byte_len() == 4 && !s.is_utf8() && !s.empty(), "a lone lead");
+    must(s.lossy() == "a\xEF\xBF\xBD", "lossy");
+    s.append(u"\xDCA9");
+    must(s.unit_len() == 3 && s.byte_len() == 5 && s.is_utf8() && s.utf8() == "a\xF0\x9F\x92\xA9", "a pair");
+    s.append_unit(0xDC00);
+    must(s.units() == mixed && s.byte_len() == 8, "units");
+    must(s.units(1, 3) == u"\xD83D\xDCA9" && s.units(2, 2).empty() && s.slice(1, 2).units() == u"\xD83D", "slices");
+    must(s.at(0) == u'a' && s.at(1) == 0xD83D && s.at(2) == 0xDCA9 && s.at(3) == 0xDC00, "at");
+    const size_t positions[] = {0, 1, 1, 5, 8}, units_before[] = {0, 1, 1, 1, 1, 3, 3, 3, 4, 4};
+    for (size_t i = 0; i <= 4; i++) must(s.position_at(i) == positions[i], "position_at");
+    for (size_t i = 0; i <= 9; i++) must(s.unit_before(i) == units_before[i], "unit_before");
+    for (size_t i = 0; i <= 9; i++) must(s.is_boundary(i) == (i < 2 || i == 5 || i == 8), "is_boundary");
+    must(s.starts_with(string(u"a\xD83D")) && !s.starts_with(string(u"b")), "starts_with at the start");
+    must(s.starts_with(string(u"\xDCA9"), 2) && !s.starts_with(string(u"\xDCA9"), 1), "starts_with at an index");
+    s.mark();
+    must(s.at(2) == 0xDCA9 && s.units() == mixed, "marks");
+}
+
+static void test_building() {
+    string s;
+    must(s.empty() && s.unit_len() == 0 && s.units().empty() && s.utf8().empty() && s.lossy().empty(), "empty");
+    must(string(nullptr, 0).empty() && string(u"").empty() && string::from_utf8("").empty(), "strings of nothing");
+    s.append(nullptr, 0).append(mixed.data(), 2).append(mixed.substr(2));
+    must(s.units() == mixed, "append");
+    s.append_code_point(0x1F4A9).append_code_point(0xD83D).append_code_point(0xDCA9).append_utf8("\xC3\xA9");
+    must(s.units() == mixed + u"\xD83D\xDCA9\xD83D\xDCA9\xE9", "append_code_point, append_utf8");
+    s.assign(mixed).append(s, 2, 4).append(string(u"z")).append(s);
+    must(s.units() == mixed + u"\xDCA9\xDC00z" + mixed + u"\xDCA9\xDC00z", "append of strings");
+    must(s.assign_utf8("\xE4\xB8\xAD").units() == u"\x4E2D" && s.assign(string(u"ab")).units() == u"ab", "assign");
+    must(s.assign(s).units() == u"ab" && s.assign(s, 1, 2).units() == u"b", "assign of a string to itself");
+    must(s.assign(mixed.data(), 3).units() == mixed.substr(0, 3), "assign of units");
+    must(s.clone().units() == s.units() && s.unit_len() == 3, "clone");
+    must(string(mixed).get() != nullptr && wtf8_unit_len(string(mixed).get()) == 4, "get");
+    s.reserve_bytes(1000);
+    must(1005 <= s.capacity() && s.units() == mixed.substr(0, 3), "reserve_bytes");
+    s.shrink();
+    must(s.byte_len() <= s.capacity() && s.capacity() < 1005 && s.units() == mixed.substr(0, 3), "shrink");
+}
+
+static void test_cuts() {
+    string s(mixed + u"bc");
+    char32_t point = 0;
+    must(s.pop(point) && point == U'c' && s.pop(point) && point == U'b' && s.pop(point) && point == 0xDC00, "pop");
+    must(s.pop(point) && point == 0x1F4A9 && s.units() == u"a" && s.pop(point) && s.empty(), "pop of a pair");
+    point = 7;
+    must(!s.pop(point) && point == 7, "pop of nothing");
+    s.assign(mixed).truncate_units(2);
+    must(s.units() == u"a\xD83D", "truncate_units");
+    s.assign(mixed).truncate_bytes(5);
+    must(s.units() == u"a\xD83D\xDCA9", "truncate_bytes");
+    s.clear();
+    must(s.empty() && 8 <= s.capacity(), "clear");
+}
+
+static void test_walks() {
+    const string s(mixed);
+    const char32_t points[] = {U'a', 0x1F4A9, 0xDC00};
+    const size_t positions[] = {0, 1, 5, 8};
+    size_t position = 0;
+    char32_t point = 0;
+    for (size_t i = 0; i < 3; i++)
+        must(s.next(position, point) && point == points[i] && position == positions[i + 1], "next");
+    must(!s.next(position, point) && point == 0xDC00 && position == 8, "next at the end");
+    for (size_t i = 3; 0 < i; i--)
+        must(s.previous(position, point) && point == points[i - 1] && position == positions[i - 1], "previous");
+    must(!s.previous(position, point) && point == U'a' && position == 0, "previous at the start");
+    position = 2;
+    must(throws<std::out_of_range>([&] { s.next(position, point); }), "next off a boundary");
+    must(throws<std::out_of_range>([&] { s.previous(position, point); }), "previous off a boundary");
+    must(position == 2 && point == U'a', "a step off a boundary changes no argument");
+}
+
+static void test_throws() {
+    string s(mixed), other(u"xy");
+    const std::vector<std::function<void()>> out_of_range = {
+        [&] { s.at(4); },           [&] { s.at(huge); },           [&] { s.position_at(5); },    [&] { s.slice(2, 1); },
+        [&] { s.slice(0, 5); },     [&] { s.units(2, 1); },        [&] { s.units(5, 5); },       [&] { s.append(other, 0, 3); },
+        [&] { s.append(s, 3, 2); }, [&] { s.assign(other, 2, 3); }, [&] { s.truncate_units(5); }, [&] { s.truncate_bytes(2); },
+        [&] { s.truncate_bytes(9); }};
+    for (const auto &call : out_of_range) must(throws<std::out_of_range>(call) && s.units() == mixed, "out_of_range");
+    must(fails([&] { s.append_code_point(0x110000); }, WTF8_BAD_CODE_POINT) && s.units() == mixed, "BAD_CODE_POINT");
+    must(fails([&] { s.append_utf8("ab\xFF"); }, WTF8_NOT_UTF8, 2) && s.units() == mixed, "NOT_UTF8");
+    must(fails([&] { s.assign_utf8("\xC3\xA9\xED\xA0\x80"); }, WTF8_NOT_UTF8, 2) && s.units() == mixed, "NOT_UTF8");
+    must(fails([] { string::from_utf8("\xC3"); }, WTF8_NOT_UTF8, 0), "NOT_UTF8");
+    must(fails([&] { s.utf8(); }, WTF8_HAS_SURROGATE) && s.units() == mixed, "HAS_SURROGATE");
+    must(throws<std::bad_alloc>([&] { s.reserve_bytes(huge); }) && s.units() == mixed, "more bytes than a block can have");
+}
+
+/* Strings that the two orders and equality divide. */
+static const std::vector<std::u16string> keys = {
+    u"", std::u16string(1, u'\0'), u"a", u"ab", u"b", u"\xE9", u"\x4E2D\x56FD", u"\xD800", u"\xD800\xDC00", u"\xD83D\xDCA9",
+    u"\xD83D", u"\xDBFF\xDFFF", u"\xDC00", u"\xDFFF", u"\xE000", u"\xFFFF", u"a\xD83D", u"a\xD83D\xDCA9", u"a\xFFFF",
+    std::u16string(300, u'x'), std::u16string(300, u'x') + u"\xDC00"};
+
+/* Whether all operators of `a` and `b` give what they give of `x` and `y`. */
+template <class A, class B> static bool agree(const A &a, const B &b, const std::u16string &x, const std::u16string &y) {
+    return (a == b) == (x == y) && (a != b) == (x != y) && (a < b) == (x < y) && (a <= b) == (x <= y) && (b < a) == (y < x) &&
+           (a > b) == (x > y) && (a >= b) == (x >= y);
+}
+
+static void test_order() {
+    for (const auto &x : keys) {
+        for (const auto &y : keys) {
+            const string a(x), b(y);
+            must(agree(a, b, x, y) && agree(a, y, x, y) && agree(x, b, x, y), "operators");
+            must((a.compare(b) < 0) == (x < y) && (a.compare(y) == 0) == (x == y) && a.equals(b) == a.equals(y), "compare");
+        }
+    }
+    must(string(u"a") == u"a" && u"a" < string(u"b") && string(u"b") != u"a", "operators of literals");
+    const string pair(u"\xD800\xDC00"), last(u"\xFFFF"), trail(u"\xDC00"), lead(u"\xD800");
+    must(pair < last && 0 < pair.compare_code_points(last), "U+10000 and U+FFFF");
+    must(pair < trail && trail.compare_code_points(pair) < 0 && lead.compare_code_points(pair) < 0, "U+10000 and surrogates");
+    must(pair.compare_code_points(pair.clone()) == 0, "code points of a copy");
+}
+
+static void test_maps() {
+    std::map<string, size_t> sorted;
+    std::unordered_map<string, size_t> hashed;
+    std::unordered_map<string, size_t, wtf8::hasher> seeded(8, wtf8::hasher(0x0706050403020100, 0x0F0E0D0C0B0A0908));
+    for (size_t i = 0; i < keys.size(); i++) {
+        sorted.emplace(string(keys[i]), i);
+        hashed.emplace(string(keys[i]), i);
+        seeded[string(keys[i])] = i;
+    }
+    must(sorted.size() == keys.size() && hashed.size() == keys.size() && seeded.size() == keys.size(), "keys that differ");
+    for (size_t i = 0; i < keys.size(); i++) {
+        const string key(keys[i]);
+        must(sorted.at(key) == i && hashed.at(key) == i && seeded.at(key) == i, "a key that is found");
+        must(wtf8::hasher(1, 2)(key) == wtf8::hasher(1, 2)(keys[i]), "the hash of units");
+        must(std::hash<string>()(key) == wtf8::hasher()(key.clone()), "std::hash");
+    }
+    must(wtf8::hasher(1, 2)(string(mixed)) != wtf8::hasher(1, 3)(string(mixed)), "the second seed");
+    must(wtf8::hasher(1, 2)(string(mixed)) != wtf8::hasher(2, 2)(string(mixed)), "the first seed");
+    must(sorted.count(string(u"zz")) == 0 && hashed.count(string(u"zz")) == 0 && hashed.erase(string(u"ab")) == 1, "other keys");
+    std::vector<std::u16string> expected(keys);
+    std::sort(expected.begin(), expected.end());
+    size_t i = 0;
+    for (const auto &entry : sorted) must(entry.first.units() == expected[i++], "the order of a map");
+#if 201402L <= __cplusplus
+    std::map<string, int, std::less<>> by_units;
+    by_units.emplace(string(mixed), 1);
+    must(by_units.find(mixed) != by_units.end() && by_units.find(u"a") == by_units.end(), "units looked up in a map");
+#endif
+#if 201709L <= __cplusplus && defined(__cpp_lib_generic_unordered_lookup)
+    std::unordered_map<string, int, wtf8::hasher, std::equal_to<>> hashed_units;
+    hashed_units.emplace(string(mixed), 1);
+    must(hashed_units.contains(mixed) && !hashed_units.contains(u"a"), "units looked up in a table");
+#endif
+}
+
+static void test_vectors() {
+    std::vector<string> all;
+    std::vector<std::u16string> expected;
+    for (size_t i = 0; i < 1000; i++) {
+        expected.push_back(keys[i * 13 % keys.size()] + static_cast<char16_t>(i * 40503 % 65536));
+        if (i % 2 == 0) all.emplace_back(expected.back());
+        else all.insert(all.begin() + static_cast<std::ptrdiff_t>(i / 2), string(expected.back()));
+    }
+    std::sort(all.begin(), all.end());
+    std::sort(expected.begin(), expected.end());
+    all.erase(all.begin() + 500);
+    expected.erase(expected.begin() + 500);
+    all.shrink_to_fit();
+    for (size_t i = 0; i < 999; i++) must(all[i].units() == expected[i], "a sorted vector");
+}
+
+static void test_moves() {
+    string a(mixed), b(std::move(a));
+    must(a.empty() && a.units().empty() && b.units() == mixed, "a moved string");
+    a.append(u"again");
+    b = std::move(a);
+    must(a.empty() && b.units() == u"again", "a move over a string");
+    string &same = b;
+    b = std::move(same);
+    must(b.units() == u"again", "a move to itself");
+    swap(a, b);
+    must(a.units() == u"again" && b.empty(), "swap");
+    std::swap(a, b);
+    must(b.units() == u"again" && a.empty(), "std::swap");
+}
+
+/* A string without spare capacity, that begins with `mixed`. */
+static string a_full_string() {
+    string s(mixed);
+    while (s.byte_len() < s.capacity()) s.append_unit(u'z');
+    return s;
+}
+
+/* Each call that takes memory, with the first requests granted and the next refused, until it is done. */
+static void test_refusals() {
+    const string other(std::u16string(100, u'\x4E2D') + mixed);
+    const std::vector<std::function<void(string &)>> calls = {
+        [](string &) { string(mixed.data(), 4); },
+        [](string &) { string::from_utf8("text"); },
+        [](string &) { string().mark(); },
+        [](string &s) { s.clone(); },
+        [](string &s) { s.slice(1, 2); },
+        [](string &s) { s.lossy(); },
+        [](string &s) { s.assign(std::u16string(1000, u'y')); },
+        [](string &s) { s.assign_utf8(std::string(1000, 'y')); },
+        [&](string &s) { s.assign(other); },
+        [&](string &s) { s.assign(other, 1, 102); },
+        [](string &s) { s.append(u"y"); },
+        [](string &s) { s.append_unit(u'y'); },
+        [](string &s) { s.append_code_point(0x1F4A9); },
+        [](string &s) { s.append_utf8("y"); },
+        [](string &s) { s.append(s); },
+        [&](string &s) { s.append(other); },
+        [&](string &s) { s.append(other, 1, 102); },
+        [](string &s) { s.reserve_bytes(1000); }};
+    for (const auto &call : calls) {
+        long granted_first = -1;
+        for (bool is_done = false; !is_done;) {
+            string s = a_full_string();
+            const std::u16string units = s.units();
+            const long before = blocks;
+            refuse_after = ++granted_first;
+            try {
+                call(s);
+                is_done = true;
+            } catch (const std::bad_alloc &) {
+            }
+            refuse_after = -1;
+            must(is_done || (s.units() == units && blocks == before), "a refused call changes nothing");
+        }
+        must(0 < granted_first, "a call that takes memory is refused it");
+    }
+    string a = a_full_string(), b;
+    refuse_after = 0;
+    b = std::move(a);
+    a.swap(b);
+    a.shrink();
+    a.append(u"").truncate_units(4);
+    must(a.units() == mixed && a == mixed && a.assign(u"b").units() == u"b", "calls without memory");
+    refuse_after = -1;
+}
+
+int main() {
+    test_parts();
+    test_building();
+    test_cuts();
+    test_walks();
+    test_throws();
+    test_order();
+    test_maps();
+    test_vectors();
+    test_moves();
+    test_refusals();
+    must(blocks == 0, "each block is freed");
+    std::printf("cpp: no difference with C++ of %ld\n", __cplusplus);
+}
