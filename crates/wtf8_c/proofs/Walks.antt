@@ -31,7 +31,7 @@ one_is_empty [] y e = inl refl
 one_is_empty (a ∷ x) [] e = inr refl
 one_is_empty (a ∷ x) (b ∷ y) e = absurd (omega (arith, e))
 
--- no boundary is between those of a code point
+-- no boundary is between the two of a code point
 none_within : {u : List ℕ} {begin next end p : ℕ} → IsPointBetween u begin next p → IsBoundary u end → begin < end → next ≤ end
 none_within {u} {begin} {next} {end} {p} q b l = elim (cases_lt end next) [
   | inl m ↦
