@@ -100,17 +100,22 @@ static void utf8_after(size_t front) {
     wtf8_free(&string);
 }
 
-/* As CPython 3.11 hashes the bytes and FE after them, by SipHash-1-3, if its key is 0:
- * PYTHONHASHSEED=0 python3 -c 'print("%016X" % (hash(b"\xED\xA0\xBD\xFE") % 2**64))'. */
+/* As CPython 3.11 hashes the seeds' 16 bytes, the string's and FE, by SipHash-1-3, if its key is 0:
+ * PYTHONHASHSEED=0 python3 -c 'print("%016X" % (hash(bytes(16) + b"\xED\xA0\xBD\xFE") % 2**64))' for the seeds 0. */
 static const struct {
+    uint64_t seed_0, seed_1;
     size_t n;
     uint16_t units[16];
     uint64_t hash;
 } hashes[] = {
-    {0, {0}, 0x65F705B1795901A4},
-    {1, {'a'}, 0x973594DBF3FE377B},
-    {1, {0xD83D}, 0x643FA58BA1C9B89E},
-    {16, {'s', 'i', 'x', 't', 'e', 'e', 'n', ' ', 'l', 'e', 't', 't', 'e', 'r', 's', '!'}, 0xF1BF75ED98DBA035}};
+    {0, 0, 0, {0}, 0x7F3F09922D99717B},
+    {0, 0, 1, {'a'}, 0xE1D3F46E41F029CE},
+    {1, 0, 1, {'a'}, 0x04BC632702AB2B70},
+    {0, 1, 1, {'a'}, 0xCC85E10484043A29},
+    {0x0123456789ABCDEF, 0xFEDCBA9876543210, 1, {0xD83D}, 0x2CC3EB091EA6C8C3},
+    {UINT64_MAX, (uint64_t)1 << 63, 2, {0xD83D, 0xDCA9}, 0xF8AC66F16A91C469},
+    {0x0706050403020100, 0x0F0E0D0C0B0A0908, 16,
+     {'s', 'i', 'x', 't', 'e', 'e', 'n', ' ', 'l', 'e', 't', 't', 'e', 'r', 's', '!'}, 0x80FFFB724A16C99F}};
 
 /* Three of the 64 vectors of SipHash-2-4 in its authors' vectors.h: the bytes are 00, 01 and so on, the key 00 to 0F. */
 static void sip_vectors(void) {
@@ -128,7 +133,14 @@ static void hash(void) {
     for (size_t i = 0; i < sizeof hashes / sizeof hashes[0]; i++) {
         wtf8_string string = WTF8_EMPTY;
         must(wtf8_set_units(&string, hashes[i].units, hashes[i].n) == WTF8_OK, "a string to hash");
-        must(wtf8_hash(&string) == hashes[i].hash, "a hash");
+        refuse_after = 0;
+        must(wtf8_hash(&string, hashes[i].seed_0, hashes[i].seed_1) == hashes[i].hash, "a hash");
+        uint16_t *array = array_of(hashes[i].units, 2 * hashes[i].n);
+        const uint16_t *given = hashes[i].n > 0 ? array : NULL;
+        must(wtf8_hash_units(given, hashes[i].n, hashes[i].seed_0, hashes[i].seed_1) == hashes[i].hash,
+             "a hash of units");
+        must_begin(array, 2 * hashes[i].n, hashes[i].units, 2 * hashes[i].n, "the units of a hash");
+        refuse_after = -1;
         wtf8_free(&string);
     }
 }
@@ -219,7 +231,17 @@ static void must_answer(const struct pair *p, wtf8_string *other) {
     size_t len = byte_len(p), got = 77, taken = 0, k = 0;
     uint8_t lossy[3 * SHORT], text[3 * SHORT];
     must(wtf8_unit_len(string) == p->n && wtf8_byte_len(string) == len, "the lengths of a short string");
-    must(wtf8_is_utf8(string) == is_utf8(p) && wtf8_hash(string) == hash_of(p), "whether a short string is UTF-8");
+    must(wtf8_is_utf8(string) == is_utf8(p), "whether a short string is UTF-8");
+    must(wtf8_hash(string, 3, 4) == hash_of(p, 3, 4), "the hash of a short string");
+    must(wtf8_hash_units(p->units, p->n, 3, 4) == hash_of(p, 3, 4), "the hash of a short string's units");
+    must(wtf8_set_string(other, string) == WTF8_OK, "a short string to take code points off");
+    for (size_t left = len;;) {
+        uint32_t value = 77, must_be = 77;
+        wtf8_result code = previous_point(p, &left, &must_be);
+        must(wtf8_pop(other, &value) == code && value == must_be, "a code point is taken off a short string");
+        must_have(other, p->units, units_before(p, left), "a short string without its last code points");
+        if (code == WTF8_END) break;
+    }
     for (size_t i = 0; i <= p->n + 1; i++) {
         uint16_t unit = 77;
         wtf8_result code = wtf8_position_at(string, i, &got);
@@ -326,7 +348,7 @@ static void short_strings_in_two(void) {
                  wtf8_compare_with_units(&p->string, q->units, q->n) == order, "the order of two");
             must(wtf8_compare_code_points(&p->string, &q->string) == compare_points(p, q),
                  "the order of two by code points");
-            must((wtf8_hash(&p->string) == wtf8_hash(&q->string)) == (i == k), "the hashes of two");
+            must((wtf8_hash(&p->string, i, 5) == wtf8_hash(&q->string, i, 5)) == (i == k), "the hashes of two");
             for (size_t at = 0; at <= p->n + 1; at++)
                 must(wtf8_starts_with(&p->string, at, &q->string) == has_at(p, at, q), "a short string within another");
         }
@@ -383,7 +405,10 @@ static void lengths(void) {
             must(wtf8_copy_utf8(&other, bytes, len, &got) == (is_text ? WTF8_OK : WTF8_HAS_SURROGATE) &&
                  got == (is_text ? len : 77), "a text that is copied");
             must_begin(bytes, len, text, is_text ? len : 0, "the text that was copied");
-            must(wtf8_hash(&other) == hash_of(&p) && wtf8_byte_len(&other) == len && wtf8_is_utf8(&other) == is_text,
+            must(wtf8_hash_units(n ? units : NULL, n, n, kind) == hash_of(&p, n, kind),
+                 "the hash of units that are given");
+            must(wtf8_hash(&other, n, kind) == hash_of(&p, n, kind) && wtf8_byte_len(&other) == len &&
+                 wtf8_is_utf8(&other) == is_text,
                  "the bytes of units");
             if (is_text) {
                 bytes = array_of(text, len);
@@ -420,7 +445,8 @@ static void each_unit(void) {
                      wtf8_compare_code_points(&string, &other) == order, "a unit orders");
                 must(wtf8_compare_with_units(&string, units, n) == order && !wtf8_starts_with(&string, 0, &other),
                      "a unit that is given orders");
-                must(wtf8_hash(&string) != wtf8_hash(&other), "a unit is hashed");
+                must(wtf8_hash(&string, 1, 2) != wtf8_hash(&other, 1, 2), "a unit is hashed");
+                must(wtf8_hash_units(units, n, 1, 2) == wtf8_hash(&other, 1, 2), "the hash of units");
                 units[i] ^= 1;
             }
             must(wtf8_set_units(&other, units, n) == WTF8_OK && wtf8_equal(&string, &other) &&
@@ -429,7 +455,8 @@ static void each_unit(void) {
                  "the order of the units themselves");
             must(wtf8_compare_with_units(&string, units, n) == 0 && wtf8_starts_with(&string, 0, &other),
                  "the units themselves that are given");
-            must(wtf8_hash(&string) == wtf8_hash(&other), "the hash of the units themselves");
+            must(wtf8_hash(&string, 1, 2) == wtf8_hash(&other, 1, 2), "the hash of the units themselves");
+            must(wtf8_hash(&string, 1, 3) != wtf8_hash(&other, 1, 2), "the hash under another seed");
         }
     }
     wtf8_free(&string);
@@ -600,7 +627,8 @@ static void long_strings(void) {
                  wtf8_compare_with_units(&other, units, LETTERS) == -1, "the order of long strings");
             must(!wtf8_equal_units(&other, units, LETTERS) && wtf8_equal_units(&string, units, LETTERS),
                  "the units of long strings");
-            must(wtf8_hash(&string) != wtf8_hash(&other), "the hash of long strings");
+            must(wtf8_hash(&string, 1, 2) != wtf8_hash(&other, 1, 2), "the hash of long strings");
+            must(wtf8_hash(&string, 1, 2) == wtf8_hash_units(units, LETTERS, 1, 2), "the hash of a long string's units");
         }
         for (int bit = 17; bit < 64; bit++) {
             size_t far = (size_t)1 << bit, index = far + 5, position = far + 9, after = position;
@@ -899,6 +927,66 @@ static void replaced_in_place(void) {
     wtf8_free(&other);
 }
 
+/* Code points are taken off the end, each with the units of both halves of a pair, until none is left. */
+static void pops(void) {
+    static const uint16_t units[] = {0xDC00, 0xD83D, 0xDCA9, 'a', 0xE9, 0x4E2D, 0xFFFF, 0xDBFF, 0xDFFF, 0xDFFF, 0,
+        0xD800, 0xD800};
+    static const uint32_t values[] = {0xDC00, 0x1F4A9, 'a', 0xE9, 0x4E2D, 0xFFFF, 0x10FFFF, 0xDFFF, 0, 0xD800, 0xD800};
+    enum { UNITS = sizeof units / sizeof units[0], VALUES = sizeof values / sizeof values[0] };
+    for (int is_marked = 0; is_marked < 2; is_marked++) {
+        wtf8_string string = WTF8_EMPTY, none = WTF8_EMPTY;
+        size_t n = UNITS;
+        uint32_t value = 77;
+        must(wtf8_pop(&none, &value) == WTF8_END && value == 77, "nothing to take off");
+        must(wtf8_set_units(&string, units, UNITS) == WTF8_OK, "code points to take off");
+        must(!is_marked || wtf8_mark(&string) == WTF8_OK, "marked code points to take off");
+        size_t capacity = wtf8_capacity(&string);
+        long requested = requests;
+        refuse_after = 0;
+        for (size_t i = VALUES; i-- > 0;) {
+            must(wtf8_pop(&string, &value) == WTF8_OK && value == values[i], "the code point that is taken off");
+            n -= value < 0x10000 ? 1 : 2;
+            must_have(&string, units, n, "the units that are left");
+        }
+        value = 77;
+        must(n == 0 && wtf8_byte_len(&string) == 0, "all code points are taken off");
+        must(wtf8_pop(&string, &value) == WTF8_END && value == 77, "nothing more to take off");
+        must(wtf8_capacity(&string) == capacity && requests == requested, "the capacity after code points are taken off");
+        refuse_after = -1;
+        wtf8_free(&string);
+    }
+}
+
+/* Spare capacity is released, and stays if memory is refused. */
+static void shrinks(void) {
+    static const size_t lens[] = {0, 1, 7, 8, 9, 100, 101, 1000, LETTERS};
+    for (size_t i = 0; i < sizeof lens / sizeof lens[0]; i++) {
+        for (int is_refused = 0; is_refused < 2; is_refused++) {
+            wtf8_string string = WTF8_EMPTY, equal = WTF8_EMPTY;
+            size_t len = lens[i];
+            must(wtf8_set_utf8(&equal, letters, len, NULL) == WTF8_OK, "letters without spare capacity");
+            must(wtf8_reserve_bytes(&string, 2 * len + 100) == WTF8_OK, "spare capacity");
+            must(wtf8_push_utf8(&string, letters, len, NULL) == WTF8_OK, "letters with spare capacity");
+            size_t capacity = wtf8_capacity(&string);
+            if (is_refused) refuse_after = 0;
+            wtf8_shrink(&string);
+            refuse_after = -1;
+            must(wtf8_equal(&string, &equal) && wtf8_unit_len(&string) == len, "a string after shrink");
+            size_t now = wtf8_capacity(&string);
+            must(len <= now && now <= capacity && (is_refused || now == len) && (len > 0 || now == 0),
+                 "the capacity after shrink");
+            wtf8_shrink(&string);
+            must(wtf8_capacity(&string) == len, "the capacity after a second shrink");
+            must(wtf8_push_unit(&string, 'a') == WTF8_OK && wtf8_unit_len(&string) == len + 1, "a unit after shrink");
+            wtf8_free(&string);
+            wtf8_shrink(&string);
+            must(wtf8_capacity(&string) == 0, "the capacity of a freed string after shrink");
+            wtf8_free(&equal);
+            must(blocks == 0, "the block of a string after shrink");
+        }
+    }
+}
+
 /* What shortens a string keeps its capacity. */
 static void kept_capacity(void) {
     for (int way = 0; way < 5; way++) {
@@ -978,6 +1066,8 @@ int main(void) {
     marks();
     reserve();
     replaced_in_place();
+    pops();
+    shrinks();
     kept_capacity();
     growth();
     texts_of_codes();

@@ -31,6 +31,16 @@ static const uint32_t edge_points[] = {
     0x10000, 0x103FF, 0x10400, 0x1FFFE, 0x10FC00, 0x10FFFF, 0xD800, 0xDBFF, 0xDC00, 0xDFFF};
 enum { EDGE_POINTS = sizeof edge_points / sizeof edge_points[0], SURROGATES = 4, SUPPLEMENTARY = 6 };
 
+/* A seed of a hash: 0, all bits, one bit, or any. */
+static inline uint64_t a_seed(void) {
+    uint64_t high;
+    switch (below(4)) {
+        case 0: return 0 - (uint64_t)below(2);
+        case 1: return (uint64_t)1 << below(64);
+        default: high = (uint64_t)below(UINT32_MAX) << 32; return high | below(UINT32_MAX);
+    }
+}
+
 /* A scalar value, and any code point. */
 static inline uint32_t a_scalar(void) {
     switch (below(6)) {
@@ -201,10 +211,14 @@ static inline uint64_t sip_hash(int rounds, int last_rounds, uint64_t key_0, uin
     return v[0] ^ v[1] ^ v[2] ^ v[3];
 }
 
-/* SipHash-1-3 under the key 0 of the WTF-8 and FE. */
-static inline uint64_t hash_of(const struct pair *p) {
-    uint8_t bytes[12 * MOST + 1];
-    size_t len = 0, taken = 0;
+/* SipHash-1-3 under the key 0 of the seeds, least byte first, the WTF-8 and FE. */
+static inline uint64_t hash_of(const struct pair *p, uint64_t seed_0, uint64_t seed_1) {
+    uint8_t bytes[16 + 12 * MOST + 1];
+    size_t len = 16, taken = 0;
+    for (size_t i = 0; i < 8; i++) {
+        bytes[i] = (uint8_t)(seed_0 >> (8 * i));
+        bytes[8 + i] = (uint8_t)(seed_1 >> (8 * i));
+    }
     for (size_t i = 0; i < p->n; i += taken) len += encode(point_at(p, i, &taken), bytes + len);
     bytes[len++] = 0xFE;
     return sip_hash(1, 3, 0, 0, bytes, len);

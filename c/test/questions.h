@@ -6,7 +6,7 @@
 
 #include <string.h>
 
-enum { QUESTIONS = 25 };
+enum { QUESTIONS = 25, SEED_0 = 77, SEED_1 = 88 };
 
 /* What the calls must answer of one string, and of it and another. */
 struct answers {
@@ -18,7 +18,7 @@ struct answers {
 
 /* The answers by the model. */
 static inline struct answers answers_of(const struct pair *p, const struct pair *q) {
-    struct answers a = {byte_len(p), is_utf8(p), compare_units(p, q), compare_points(p, q), hash_of(p), {0}};
+    struct answers a = {byte_len(p), is_utf8(p), compare_units(p, q), compare_points(p, q), hash_of(p, SEED_0, SEED_1), {0}};
     size_t len = 0, taken = 0;
     for (size_t i = 0; i < p->n; i += taken) {
         uint32_t c = point_at(p, i, &taken);
@@ -56,7 +56,7 @@ static inline int is_right(unsigned kind, size_t number, const struct pair *p, c
         case 5: return wtf8_equal(s, &q->string) == (a->order == 0);
         case 6: return wtf8_compare_units(s, &q->string) == a->order;
         case 7: return wtf8_compare_code_points(s, &q->string) == a->point_order;
-        case 8: return wtf8_hash(s) == a->hash;
+        case 8: return wtf8_hash(s, SEED_0, SEED_1) == a->hash;
         case 9: return wtf8_slice_units(own, s, begin, end) == WTF8_OK && has_units(own, p->units + begin, end - begin);
         case 10: return has_units(s, p->units, p->n);
         case 11:

@@ -8,10 +8,11 @@
 
 enum call {
     SET_UNITS, SET_UTF8, SET_STRING, CLEAR, FREE, RESERVE, PUSH_UNIT, PUSH_POINT, PUSH_UNITS, PUSH_UTF8, PUSH_STRING,
-    PUSH_SLICE, MARK, FILL, TRUNCATE_UNITS, TRUNCATE_BYTES, SLICE, ALIKE,
+    PUSH_SLICE, MARK, FILL, SHRINK, TRUNCATE_UNITS, TRUNCATE_BYTES, POP, SLICE, ALIKE,
     /* Calls that only read. */
     UNIT_LEN, CAPACITY, POSITION_AT, UNIT_BEFORE, UNIT_AT, IS_BOUNDARY, NEXT, PREVIOUS, IS_UTF8, EQUAL, ORDER_UNITS,
-    ORDER_POINTS, HASH, EQUAL_UNITS, ORDER_WITH_UNITS, STARTS_WITH, COPY_UNITS, COPY_SLICE, COPY_UTF8, COPY_LOSSY, CALLS
+    ORDER_POINTS, HASH, HASH_UNITS, EQUAL_UNITS, ORDER_WITH_UNITS, STARTS_WITH, COPY_UNITS, COPY_SLICE, COPY_UTF8,
+        COPY_LOSSY, CALLS
 };
 
 enum { STRINGS = 4, CODES = WTF8_END + 1, TEXT_LONGEST = 4 * LONGEST + 2 * LONGEST_NO_TEXT };
@@ -191,10 +192,12 @@ static void fill(struct pair *p, struct pair *q) {
 /* All that two strings are asked. */
 static void must_relate(const struct pair *p, const struct pair *q) {
     int order = compare_units(p, q);
+    uint64_t seed_0 = a_seed(), seed_1 = a_seed();
     must(wtf8_equal(&p->string, &q->string) == (order == 0), "equal");
     must(wtf8_compare_units(&p->string, &q->string) == order, "compare_units");
     must(wtf8_compare_code_points(&p->string, &q->string) == compare_points(p, q), "compare_code_points");
-    must((wtf8_hash(&p->string) == wtf8_hash(&q->string)) == (order == 0), "hashes of two");
+    must((wtf8_hash(&p->string, seed_0, seed_1) == wtf8_hash(&q->string, seed_0, seed_1)) == (order == 0),
+         "hashes of two");
     must(wtf8_starts_with(&p->string, 0, &q->string) == has_at(p, 0, q), "starts_with at the start");
 }
 
@@ -310,6 +313,15 @@ static void step(enum call call, struct pair *p, struct pair *q) {
             if (code == WTF8_OK) p->is_marked = 1;
             break;
         case FILL: fill(p, q); break;
+        case SHRINK:
+            if (below(2)) refuse_after = 0;
+            wtf8_shrink(&p->string);
+            len = wtf8_capacity(&p->string);
+            must(byte_len(p) <= len && len <= capacity, "the capacity after shrink");
+            /* Spare capacity stays only if memory is refused, and never in an empty string. */
+            must(refused < refusals || len == byte_len(p), "spare capacity after shrink");
+            must(p->n > 0 || len == 0, "the capacity of an empty string after shrink");
+            break;
         case TRUNCATE_UNITS:
             at = an_index(p->n);
             code = wtf8_truncate_units(&p->string, at);
@@ -322,6 +334,17 @@ static void step(enum call call, struct pair *p, struct pair *q) {
             must(code == (is_boundary(p, at) ? WTF8_OK : WTF8_BAD_POSITION), "truncate_bytes");
             if (code == WTF8_OK) p->n = units_before(p, at);
             break;
+        case POP: {
+            size_t must_be_at = at = byte_len(p);
+            uint32_t value = 77, must_be = 77;
+            refuse_after = 0;
+            code = wtf8_pop(&p->string, &value);
+            must(code == previous_point(p, &must_be_at, &must_be), "pop");
+            must(value == must_be, "the code point that pop writes");
+            p->n = units_before(p, must_be_at);
+            must(wtf8_capacity(&p->string) == capacity, "the capacity after pop");
+            break;
+        }
         case SLICE: {
             size_t a = below((uint32_t)p->n + 2), b = an_index(p->n);
             code = wtf8_slice_units(&q->string, &p->string, a, b);
@@ -382,7 +405,19 @@ static void step(enum call call, struct pair *p, struct pair *q) {
         case ORDER_POINTS:
             must(wtf8_compare_code_points(&p->string, &q->string) == compare_points(p, q), "compare_code_points");
             break;
-        case HASH: must(wtf8_hash(&p->string) == hash_of(p), "hash"); break;
+        case HASH:
+        case HASH_UNITS: {
+            uint64_t seed_0 = a_seed(), seed_1 = a_seed(), hash;
+            const struct pair *hashed = call == HASH ? p : &asked;
+            alike(&asked, p);
+            array = array_of(asked.units, 2 * asked.n);
+            refuse_after = 0;
+            hash = call == HASH ? wtf8_hash(&p->string, seed_0, seed_1)
+                                : wtf8_hash_units(asked.n || below(2) ? array : NULL, asked.n, seed_0, seed_1);
+            must(hash == hash_of(hashed, seed_0, seed_1), "hash");
+            must_begin(array, 2 * asked.n, asked.units, 2 * asked.n, "units that are hashed");
+            break;
+        }
         case EQUAL_UNITS:
         case ORDER_WITH_UNITS: {
             alike(&asked, below(4) ? p : q);
@@ -471,7 +506,7 @@ static void step(enum call call, struct pair *p, struct pair *q) {
         must(memcmp(string, &p->string, sizeof string) == 0, "the struct of a string that is read");
     if (p != q && call != FILL && call != SLICE && call != ALIKE && call != STARTS_WITH)
         must(memcmp(other, &q->string, sizeof other) == 0, "the struct of another string");
-    if (UNIT_LEN <= call || (CLEAR <= call && call <= FREE) || (TRUNCATE_UNITS <= call && call <= TRUNCATE_BYTES)) {
+    if (UNIT_LEN <= call || (CLEAR <= call && call <= FREE) || (TRUNCATE_UNITS <= call && call <= POP)) {
         must(call == COPY_LOSSY || requests == requested, "a call that cannot be refused requests memory");
         counts[call][code]++;
         return;
@@ -516,7 +551,7 @@ int main(int count, char **words) {
         {PUSH_UTF8, WTF8_NOT_UTF8}, {PUSH_STRING, WTF8_NO_MEMORY}, {PUSH_SLICE, WTF8_NO_MEMORY},
         {PUSH_SLICE, WTF8_BAD_POSITION}, {POSITION_AT, WTF8_BAD_POSITION}, {UNIT_AT, WTF8_BAD_POSITION},
         {NEXT, WTF8_BAD_POSITION}, {NEXT, WTF8_END}, {PREVIOUS, WTF8_BAD_POSITION}, {PREVIOUS, WTF8_END},
-        {TRUNCATE_UNITS, WTF8_BAD_POSITION}, {TRUNCATE_BYTES, WTF8_BAD_POSITION}, {SLICE, WTF8_NO_MEMORY},
+        {TRUNCATE_UNITS, WTF8_BAD_POSITION}, {TRUNCATE_BYTES, WTF8_BAD_POSITION}, {POP, WTF8_END}, {SLICE, WTF8_NO_MEMORY},
         {SLICE, WTF8_BAD_POSITION}, {COPY_UNITS, WTF8_ARRAY_TOO_SHORT}, {COPY_SLICE, WTF8_BAD_POSITION},
         {COPY_SLICE, WTF8_ARRAY_TOO_SHORT}, {COPY_UTF8, WTF8_HAS_SURROGATE}, {COPY_UTF8, WTF8_ARRAY_TOO_SHORT},
         {COPY_LOSSY, WTF8_NO_MEMORY}, {COPY_LOSSY, WTF8_ARRAY_TOO_SHORT}};

@@ -108,6 +108,8 @@ pub enum Opcode {
     IndexedHash = 151,
     IndexedDebug = 152,
     IntoBuf = 153,
+    IndexedPushUnitSlice = 154,
+    IndexedShrinkToFit = 155,
 }
 
 /// The first opcode of a call on texts. `javascript/text_calls.js` makes these calls.
@@ -179,7 +181,7 @@ pub const CALLS: [(Opcode, &[Kind]); 52] = [
 ];
 
 /// The calls on the indexed string with the kinds of their operands, in the order of the opcodes.
-pub const INDEXED_CALLS: [(Opcode, &[Kind]); 26] = [
+pub const INDEXED_CALLS: [(Opcode, &[Kind]); 28] = [
     (Opcode::IndexedNew, &[]),
     (Opcode::IndexedWithCapacity, &[Number]),
     (Opcode::IndexedFromUnits, &[Units]),
@@ -206,6 +208,8 @@ pub const INDEXED_CALLS: [(Opcode, &[Kind]); 26] = [
     (Opcode::IndexedHash, &[]),
     (Opcode::IndexedDebug, &[]),
     (Opcode::IntoBuf, &[Register]),
+    (Opcode::IndexedPushUnitSlice, &[Register, Number, Number]),
+    (Opcode::IndexedShrinkToFit, &[]),
 ];
 
 /// The number of calls, the first ones, among which the random scripts of the fixed list choose.

@@ -48,6 +48,14 @@ fn slice(register: u8, begin: usize, end: usize) -> Call {
     Call::new(Opcode::IndexedPushSlice, operands)
 }
 
+/// The units of the string of a register from one index to another, appended to the indexed string.
+fn pushed_slice(register: u8, begin: usize, end: usize) -> Call {
+    Call::new(
+        Opcode::IndexedPushUnitSlice,
+        slice(register, begin, end).operands,
+    )
+}
+
 /// The units from one index to another, copied before other units.
 fn copied(begin: usize, end: usize, after: &[u16]) -> Call {
     let operands = vec![
@@ -125,7 +133,8 @@ fn each_index(units: &[u16]) -> Vec<Call> {
     calls
 }
 
-/// Every list of up to three units, divided at each index: the second part appended to the first by each call.
+/// Every list of up to three units, divided at each index: the second part appended to the first by each call, and both
+/// as slices of the whole to an empty string.
 pub fn divided() -> Vec<Vec<Call>> {
     unit_lists(3)
         .iter()
@@ -143,6 +152,12 @@ fn pushed_from_each_index(units: &[u16]) -> Vec<Call> {
             calls.extend(appended);
             calls.extend(on(0, &[Opcode::IndexedComparisons]));
         }
+        calls.extend([
+            call(Opcode::IndexedNew),
+            pushed_slice(0, 0, index),
+            pushed_slice(0, index, units.len()),
+        ]);
+        calls.extend(on(0, &[Opcode::IndexedComparisons]));
     }
     calls.extend([call(Opcode::IndexedHash), call(Opcode::IndexedDebug)]);
     calls
@@ -220,7 +235,11 @@ fn grown_and_cut(kind: &[u16], length: usize, is_marked: bool) -> Vec<Call> {
         calls.push(units_from(index, &[]));
     }
     calls.extend(cuts(2 * length + 140, length));
+    calls.push(call(Opcode::IndexedShrinkToFit));
     calls.extend(reads_about(length));
+    calls.push(pushed_slice(0, 1, length));
+    calls.extend(reads_about(2 * length - 1));
+    calls.push(number(Opcode::IndexedTruncateUnits, length));
     calls.push(call(Opcode::IndexedClone));
     calls.extend(reads_about(length));
     calls.push(call(Opcode::IndexedClear));
@@ -285,7 +304,7 @@ pub fn random_script(random: &mut Random) -> Vec<Call> {
 fn random_calls(random: &mut Random, length: &mut usize) -> Vec<Call> {
     let index = index_about(random, *length);
     let register = random.below(4) as u8;
-    match random.below(32) {
+    match random.below(33) {
         0 => vec![call(Opcode::MarkUnits)],
         1 => vec![call(Opcode::IndexedClone)],
         2..=9 => appending(random, length),
@@ -307,6 +326,7 @@ fn random_calls(random: &mut Random, length: &mut usize) -> Vec<Call> {
         20..=22 => vec![copied(index, end_after(random, index, *length), &[0xD800])],
         23..=25 => vec![number(Opcode::PositionAt, index)],
         26..=28 => vec![number(Opcode::UnitBefore, position_about(random, index))],
+        29 => vec![call(Opcode::IndexedShrinkToFit)],
         _ => vec![number(Opcode::IndexedUnitAt, index)],
     }
 }
@@ -348,9 +368,19 @@ fn appending(random: &mut Random, length: &mut usize) -> Vec<Call> {
         Opcode::IndexedPushUnits,
         Opcode::IndexedPushUnits,
         Opcode::IndexedPushWtf8,
+        Opcode::IndexedPushUnitSlice,
+        Opcode::IndexedPushUnitSlice,
     ]);
     let call = match opcode {
         Opcode::IndexedPushWtf8 => on(1, &[opcode]).remove(0),
+        Opcode::IndexedPushUnitSlice => {
+            let begin = random.below(20) as usize;
+            pushed_slice(
+                random.below(2) as u8,
+                begin,
+                end_after(random, begin, begin),
+            )
+        }
         Opcode::IndexedPushUnits if *length < LONGEST && random.below(3) == 0 => {
             let count = random.between(1, 255) as usize;
             units_of(opcode, &runs(random, count))
@@ -358,9 +388,10 @@ fn appending(random: &mut Random, length: &mut usize) -> Vec<Call> {
         Opcode::IndexedPushUnit => number(opcode, usize::from(generate::unit(random))),
         _ => generate::call_of(random, opcode),
     };
-    *length += match &call.operands[0] {
-        Operand::Units(units) => units.len(),
-        Operand::Text(text) => text.encode_utf16().count(),
+    *length += match &call.operands[..] {
+        [Operand::Units(units)] => units.len(),
+        [Operand::Text(text)] => text.encode_utf16().count(),
+        [_, Operand::Number(begin), Operand::Number(end)] => end.saturating_sub(*begin).into(),
         _ => 1,
     };
     vec![call]
@@ -449,6 +480,15 @@ pub fn worked() -> Vec<Vec<Call>> {
         ),
         after(vec![slice(1, 0, 2), slice(1, 2, 3)]),
         after(vec![slice(1, 2, 1)]),
+        after(vec![pushed_slice(0, 1, 2), pushed_slice(0, 2, 3)]),
+        after(vec![pushed_slice(0, 1, 4)]),
+        after(vec![pushed_slice(0, 2, 1)]),
+        after(vec![
+            call(Opcode::MarkUnits),
+            number(Opcode::IndexedReserve, 100),
+            call(Opcode::IndexedShrinkToFit),
+            number(Opcode::IndexedUnitAt, 2),
+        ]),
         after(vec![copied(1, 2, &[0x62])]),
         after(vec![copied(1, 4, &[])]),
         after(vec![units_from(2, &[Step::Next, Step::SizeHint])]),

@@ -12,7 +12,7 @@ use crate::views::{write_all_units, write_slice};
 use std::alloc::Global;
 use std::mem;
 use unit_text::IndexedBuf;
-use wtf8::Wtf8Buf;
+use wtf8::{Wtf8, Wtf8Buf};
 
 impl Machine {
     /// Runs a call, whose operands come next in the script, and writes what it returns.
@@ -34,8 +34,10 @@ impl Machine {
             ChangeIndexed::Make(call) => self.indexed = self.make_indexed(call, tape)?,
             ChangeIndexed::Append(call) => return append(&mut self.indexed, call, tape),
             ChangeIndexed::PushWtf8 => return self.push_to_indexed(tape),
+            ChangeIndexed::PushUnitSlice => return self.push_slice_to_indexed(tape),
             ChangeIndexed::Cut(call) => return cut(&mut self.indexed, call, tape),
             ChangeIndexed::Mark => self.indexed.mark_units(tape.alloc),
+            ChangeIndexed::ShrinkToFit => self.indexed.shrink_to_fit(),
         }
         Ok(())
     }
@@ -64,6 +66,14 @@ impl Machine {
     fn push_to_indexed(&mut self, tape: &mut Tape<'_>) -> Result<(), Stop> {
         let piece = self.copy(tape)?;
         allocated(self.indexed.push_wtf8(piece.as_wtf8()))
+    }
+
+    /// `push_unit_slice` of the `slice_units` of a clone of a string.
+    fn push_slice_to_indexed(&mut self, tape: &mut Tape<'_>) -> Result<(), Stop> {
+        let whole = self.copy(tape)?;
+        let begin = tape.reader.number()?;
+        let end = tape.reader.number()?;
+        append_slice(&mut self.indexed, whole.as_wtf8(), begin, end)
     }
 
     /// `into_buf`: the result becomes the string of a register.
@@ -152,6 +162,19 @@ fn push_units(string: &mut IndexedBuf<Global>, tape: &mut Tape<'_>) -> Result<()
     let count = usize::from(tape.reader.byte()?);
     let units = tape.reader.units(tape.alloc, count)?;
     allocated(string.push_units(units.as_slice()))
+}
+
+/// `push_unit_slice` of the units of another string from index `begin` to before index `end`.
+fn append_slice(
+    string: &mut IndexedBuf<Global>,
+    whole: Wtf8<'_>,
+    begin: usize,
+    end: usize,
+) -> Result<(), Stop> {
+    if end < begin || whole.unit_len() < end {
+        return Err(Stop::Refused);
+    }
+    allocated(string.push_unit_slice(whole.slice_units(begin, end)))
 }
 
 /// `truncate`, `truncate_units` and `clear`: writes whether the capacity was unchanged.

@@ -11,7 +11,8 @@ use unit_text::IndexedBuf;
 use wtf8::{Wtf8, Wtf8Buf};
 
 /// Returns the transcript of a script: what each call returns and, if it changes a string or a text, the string's
-/// length and bytes or the text's units; of the indexed string the number of units, the length and the bytes. `None` if the script ends inside a call or has an invalid byte or text.
+/// length and bytes or the text's units; of the indexed string the number of units, the length and the bytes. `None` if
+/// the script ends inside a call or has an invalid byte or text.
 pub fn run_script(alloc: Global, script: &[u8]) -> Result<Option<String>, AllocError> {
     match transcript_of(alloc, script) {
         Ok(transcript) => Ok(Some(transcript)),

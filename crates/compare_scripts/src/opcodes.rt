@@ -314,10 +314,14 @@ pub enum ChangeIndexed {
     Append(AppendIndexed),
     /// Register: `push_wtf8` of a clone of that string.
     PushWtf8,
+    /// Register, two numbers: `push_unit_slice` of the `slice_units` of a clone of that string.
+    PushUnitSlice,
     /// A call that truncates the string.
     Cut(CutIndexed),
     /// Makes the string keep marks from now on (`mark_units`).
     Mark,
+    /// `shrink_to_fit`.
+    ShrinkToFit,
 }
 
 /// A call that makes the indexed string anew.
@@ -591,6 +595,8 @@ impl ChangeIndexed {
             141 => ChangeIndexed::Cut(CutIndexed::Truncate),
             142 => ChangeIndexed::Cut(CutIndexed::TruncateUnits),
             143 => ChangeIndexed::Cut(CutIndexed::Clear),
+            154 => ChangeIndexed::PushUnitSlice,
+            155 => ChangeIndexed::ShrinkToFit,
             _ => return None,
         };
         Some(call)

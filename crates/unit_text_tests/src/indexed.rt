@@ -267,6 +267,43 @@ fn string_pushes() -> [Row; 7] {
     ]
 }
 
+/// Slices that are pushed: with the trail of a pair in front, which the lead at the end of a string meets or not, with a
+/// lead at the end, with both, and without any unit.
+fn slice_pushes() -> [Row; 5] {
+    [
+        (
+            &[0x0061, 0xD83D],
+            Push::Slice(&[0xD83D, 0xDCA9, 0x00E9], 1, 3),
+            &[0x0061, 0xD83D, 0xDCA9, 0x00E9],
+            "61 F0 9F 92 A9 C3 A9",
+        ),
+        (
+            &[0x0061],
+            Push::Slice(&[0xD83D, 0xDCA9, 0x00E9], 1, 3),
+            &[0x0061, 0xDCA9, 0x00E9],
+            "61 ED B2 A9 C3 A9",
+        ),
+        (
+            &[0x0061],
+            Push::Slice(&[0x00E9, 0xD83D, 0xDCA9], 0, 2),
+            &[0x0061, 0x00E9, 0xD83D],
+            "61 C3 A9 ED A0 BD",
+        ),
+        (
+            &[0xD83D],
+            Push::Slice(&[0xD83D, 0xDCA9, 0xD83D, 0xDCA9], 1, 3),
+            &[0xD83D, 0xDCA9, 0xD83D],
+            "F0 9F 92 A9 ED A0 BD",
+        ),
+        (
+            &[0xD83D],
+            Push::Slice(&[0xD83D, 0xDCA9], 1, 1),
+            &[0xD83D],
+            "ED A0 BD",
+        ),
+    ]
+}
+
 /// Fails unless the row's call appends its units, with marks kept or without.
 fn expect_push(alloc: Global, row: Row, is_marked: bool) -> Result<(), Wrong> {
     let (front, push, units, dump) = row;
@@ -285,6 +322,10 @@ fn each_call_that_pushes_appends_its_units(rt: HostRuntime) -> Result<(), Wrong>
         expect_push(rt.alloc(), row, true)?;
     }
     for row in string_pushes() {
+        expect_push(rt.alloc(), row, false)?;
+        expect_push(rt.alloc(), row, true)?;
+    }
+    for row in slice_pushes() {
         expect_push(rt.alloc(), row, false)?;
         expect_push(rt.alloc(), row, true)?;
     }
@@ -658,6 +699,33 @@ fn a_buffer_that_became_shorter_grows_again(rt: HostRuntime) -> Result<(), Wrong
     for kind in KINDS {
         expect_shortened(rt.alloc(), kind, false)?;
         expect_shortened(rt.alloc(), kind, true)?;
+    }
+    Ok(())
+}
+
+/// Releases the spare capacity of a buffer. Fails unless none is left, and the buffer has its units.
+fn expect_shrunk(
+    alloc: Global,
+    mut buf: IndexedBuf<Global>,
+    units: &[u16],
+    kind: Kind,
+) -> Result<(), Wrong> {
+    buf.shrink_to_fit();
+    expect(buf.capacity() == buf.as_wtf8().len(), Wrong::Outcome)?;
+    expect_long(alloc, &buf, units, kind)
+}
+
+/// Fails unless long buffers with spare capacity, without marks and with them, have their units without it.
+fn expect_kind_shrunk(alloc: Global, kind: Kind) -> Result<(), Wrong> {
+    let units = made(long_units(alloc, kind))?;
+    expect_shrunk(alloc, made(pushed_each(alloc, &units))?, &units, kind)?;
+    expect_shrunk(alloc, made(pushed_at_once(alloc, &units))?, &units, kind)
+}
+
+#[test]
+fn a_buffer_without_spare_capacity_has_its_units(rt: HostRuntime) -> Result<(), Wrong> {
+    for kind in KINDS {
+        expect_kind_shrunk(rt.alloc(), kind)?;
     }
     Ok(())
 }

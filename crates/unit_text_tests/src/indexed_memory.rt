@@ -72,6 +72,43 @@ fn string_pushes() -> [Row; 3] {
     ]
 }
 
+/// Slices whose trail in front completes the pair, alone or before other code points, that have a lead at the end, or
+/// that are empty. Each part of a slice is appended by itself, and a growth is at least to twice the capacity, which is
+/// four bytes at first.
+fn slice_pushes() -> [Row; 5] {
+    [
+        (Push::Slice(&[0xD83D, 0xDCA9], 1, 2), &PAIR, PAIR_DUMP, 1, 1),
+        (
+            Push::Slice(&[0xD83D, 0xDCA9, 0x00E9], 1, 3),
+            &[0x0061, 0xD83D, 0xDCA9, 0x00E9],
+            "61 F0 9F 92 A9 C3 A9",
+            3,
+            1,
+        ),
+        (
+            Push::Slice(&[0xD83D, 0xDCA9, 0xE000, 0xD83D, 0xDCA9], 1, 4),
+            &[0x0061, 0xD83D, 0xDCA9, 0xE000, 0xD83D],
+            "61 F0 9F 92 A9 EE 80 80 ED A0 BD",
+            7,
+            2,
+        ),
+        (
+            Push::Slice(&[0x00E9, 0xD83D, 0xDCA9], 0, 2),
+            &[0x0061, 0xD83D, 0x00E9, 0xD83D],
+            "61 ED A0 BD C3 A9 ED A0 BD",
+            5,
+            2,
+        ),
+        (
+            Push::Slice(&[0xD83D, 0xDCA9], 1, 1),
+            &FRONT,
+            FRONT_DUMP,
+            0,
+            0,
+        ),
+    ]
+}
+
 /// Appends units one by one.
 fn push_each<A: Allocator>(buf: &mut IndexedBuf<A>, units: &[u16]) -> Result<(), AllocError> {
     for unit in units {
@@ -132,6 +169,9 @@ fn a_push_makes_no_request_just_if_it_fits(rt: HostRuntime) -> Result<(), Wrong>
     for row in string_pushes() {
         expect_in_each_room(rt.alloc(), &heap, row)?;
     }
+    for row in slice_pushes() {
+        expect_in_each_room(rt.alloc(), &heap, row)?;
+    }
     Ok(())
 }
 
@@ -172,6 +212,9 @@ fn a_push_fails_at_each_refusal_and_changes_nothing(rt: HostRuntime) -> Result<(
         expect_each_refused(rt.alloc(), &heap, row)?;
     }
     for row in string_pushes() {
+        expect_each_refused(rt.alloc(), &heap, row)?;
+    }
+    for row in slice_pushes() {
         expect_each_refused(rt.alloc(), &heap, row)?;
     }
     Ok(())
@@ -248,6 +291,9 @@ fn a_refused_mark_refuses_no_push(rt: HostRuntime) -> Result<(), Wrong> {
     for row in string_pushes() {
         expect_long_push(rt.alloc(), row)?;
     }
+    for row in slice_pushes() {
+        expect_long_push(rt.alloc(), row)?;
+    }
     Ok(())
 }
 
@@ -277,6 +323,115 @@ fn a_refused_push_changes_no_long_buffer(rt: HostRuntime) -> Result<(), Wrong> {
     }
     for row in string_pushes() {
         expect_long_refused(rt.alloc(), row)?;
+    }
+    for row in slice_pushes() {
+        expect_long_refused(rt.alloc(), row)?;
+    }
+    Ok(())
+}
+
+/// The number of bytes of the long buffer of `PAIR`.
+const LONG_LEN: usize = 254 * 3 + 5;
+
+/// The long buffer of `PAIR` with 100 bytes of spare capacity, and with its two marks in a list that has room for four.
+fn long_with_room<'a>(
+    alloc: Global,
+    heap: Lent<'a>,
+    marks: Lent<'a>,
+) -> Result<IndexedBuf<Lent<'a>>, AllocError> {
+    let mut buf = long_with_spare(alloc, heap, marks, 101)?;
+    marks.grant(1);
+    buf.push_unit(0xDCA9)?;
+    Ok(buf)
+}
+
+/// Releases the spare capacity of the long buffer of `PAIR`. Fails unless that makes a request for the bytes and one for
+/// the marks, and the capacity is the length if `is_granted` and else as before.
+fn shrink<'a>(
+    heap: Lent<'a>,
+    marks: Lent<'a>,
+    buf: &mut IndexedBuf<Lent<'a>>,
+    is_granted: bool,
+) -> Result<(), Wrong> {
+    buf.shrink_to_fit();
+    expect(heap.requests() == 1, Wrong::Requests)?;
+    expect(marks.requests() == 1, Wrong::Requests)?;
+    let spare = if is_granted { 0 } else { 100 };
+    expect(buf.capacity() == LONG_LEN + spare, Wrong::Outcome)
+}
+
+/// Appends 127 units, for which no mark is missing if the marks before are kept, and then the first unit that needs a
+/// third mark, with each request for a mark refused. Fails unless the last push alone makes one, if `is_full`: else the
+/// list of marks has room.
+fn expect_next_mark<'a>(
+    heap: Lent<'a>,
+    marks: Lent<'a>,
+    buf: &mut IndexedBuf<Lent<'a>>,
+    is_full: bool,
+) -> Result<(), Wrong> {
+    heap.grant(u64::MAX);
+    marks.grant(0);
+    made(push_each(buf, &[0x3042; 127]))?;
+    expect(marks.requests() == 0, Wrong::Requests)?;
+    made(buf.push_unit(0x3042))?;
+    expect((marks.requests() == 1) == is_full, Wrong::Requests)
+}
+
+/// Empties a buffer. Fails unless it then releases all its memory without a request.
+fn expect_released<'a>(
+    heap: Lent<'a>,
+    marks: Lent<'a>,
+    buf: &mut IndexedBuf<Lent<'a>>,
+) -> Result<(), Wrong> {
+    heap.grant(0);
+    marks.grant(0);
+    buf.clear();
+    buf.shrink_to_fit();
+    expect(buf.capacity() == 0, Wrong::Outcome)?;
+    expect(
+        heap.requests() == 0 && marks.requests() == 0,
+        Wrong::Requests,
+    )
+}
+
+/// Fails unless a long buffer has its units after its spare capacity is released, and after each push that follows.
+fn expect_shrunk<'a>(
+    alloc: Global,
+    heap: Lent<'a>,
+    marks: Lent<'a>,
+    buf: &mut IndexedBuf<Lent<'a>>,
+    (is_granted, is_full): (bool, bool),
+) -> Result<(), Wrong> {
+    let mut units = made(after_wide(alloc, &PAIR))?;
+    shrink(heap, marks, buf, is_granted)?;
+    expect(buf_has_units(buf, &units), Wrong::Units)?;
+    expect_next_mark(heap, marks, buf, is_full)?;
+    expect(units.resize(WIDE + 131, 0x3042).is_ok(), Wrong::Memory)?;
+    expect(buf_has_units(buf, &units), Wrong::Units)
+}
+
+/// Fails unless `shrink_to_fit` of a long buffer releases the spare capacity of its bytes and of its marks, each if that
+/// is granted.
+fn expect_each_shrunk(
+    alloc: Global,
+    (is_granted, is_full): (bool, bool),
+    refusal: Refusal,
+) -> Result<(), Wrong> {
+    let heap = Refusing::new(alloc, 0);
+    let marks = Refusing::new(alloc, 0);
+    let mut buf = made(long_with_room(alloc, &heap, &marks))?;
+    heap.refuse_after(u64::from(is_granted), refusal);
+    marks.refuse_after(u64::from(is_full), refusal);
+    expect_shrunk(alloc, &heap, &marks, &mut buf, (is_granted, is_full))?;
+    expect_released(&heap, &marks, &mut buf)
+}
+
+#[test]
+fn a_buffer_releases_spare_capacity_if_that_is_granted(rt: HostRuntime) -> Result<(), Wrong> {
+    for granted in [(false, false), (false, true), (true, false), (true, true)] {
+        for refusal in REFUSALS {
+            expect_each_shrunk(rt.alloc(), granted, refusal)?;
+        }
     }
     Ok(())
 }

@@ -1,7 +1,7 @@
 // Texts, buffers and checks that several test modules use.
 use std::alloc::{AllocError, Allocator, Global};
 use unit_text::{IndexedBuf, UnitText};
-use wtf8::{CodePoint, Wtf8Buf};
+use wtf8::{CodePoint, Wtf8, Wtf8Buf};
 use wtf8_tests::wrong::{Wrong, expect, expect_bytes, made};
 
 /// The slice from unit `begin` to before unit `end`. Fails if this is no range of the text's units.
@@ -73,9 +73,12 @@ pub enum Push {
     Str(&'static str),
     Units(&'static [u16]),
     View(&'static [u16]),
+    /// The slice of the string of these units from one index to before another.
+    Slice(&'static [u16], usize, usize),
 }
 
-/// Makes the call. A view is of a string that `alloc` allocates. Fails if a `Point` is no code point.
+/// Makes the call. A view or a slice is of a string that `alloc` allocates. Fails if a `Point` is no code point or the
+/// indexes of a `Slice` are no range of its units.
 pub fn push_to<A: Allocator>(
     alloc: Global,
     buf: &mut IndexedBuf<A>,
@@ -94,5 +97,30 @@ pub fn push_to<A: Allocator>(
             let other = Wtf8Buf::from_ill_formed_utf16(alloc, units)?;
             buf.push_wtf8(other.as_wtf8())
         }
+        Push::Slice(units, begin, end) => push_slice_of_units(alloc, buf, units, (begin, end)),
     }
+}
+
+/// Appends a slice of the string of these units, which `alloc` allocates.
+fn push_slice_of_units<A: Allocator>(
+    alloc: Global,
+    buf: &mut IndexedBuf<A>,
+    units: &[u16],
+    range: (usize, usize),
+) -> Result<(), AllocError> {
+    let whole = Wtf8Buf::from_ill_formed_utf16(alloc, units)?;
+    push_slice(buf, whole.as_wtf8(), range)
+}
+
+/// Appends a slice of a view. Fails if there is no such range of its units.
+fn push_slice<A: Allocator>(
+    buf: &mut IndexedBuf<A>,
+    whole: Wtf8<'_>,
+    range: (usize, usize),
+) -> Result<(), AllocError> {
+    let (begin, end) = range;
+    if end < begin || whole.unit_len() < end {
+        return Err(AllocError);
+    }
+    buf.push_unit_slice(whole.slice_units(begin, end))
 }

@@ -15,7 +15,8 @@ meets_after x a b m =
     (ap (λ z. x ++ z) m.ends ∙ sym (append_assoc x m.front (m.lead ∷ []))) m.begins
 
 -- the form of the units from index `at` on begins with the first code point, and the form of those after it follows
-pub form_from : {v w : List ℕ} {at end p : ℕ} → IsFirstRead v at end p → at < end → IsForm w (drop end v) → IsForm (encoding p ++ w) (drop at v)
+pub form_from : {v w : List ℕ} {at end p : ℕ} → IsFirstRead v at end p → at < end → IsForm w (drop end v)
+    → IsForm (encoding p ++ w) (drop at v)
 form_from {v} {w} {at} {end} {p} first order rest =
     let n = end - at in
     let count : end ≡ at + n = omega (arith, order) in

@@ -31,7 +31,7 @@ one_is_empty [] y e = inl refl
 one_is_empty (a ∷ x) [] e = inr refl
 one_is_empty (a ∷ x) (b ∷ y) e = absurd (omega (arith, e))
 
--- no boundary is between those of a code point
+-- no boundary is between the two of a code point
 none_within : {u : List ℕ} {begin next end p : ℕ} → IsPointBetween u begin next p → IsBoundary u end → begin < end → next ≤ end
 none_within {u} {begin} {next} {end} {p} q b l = elim (cases_lt end next) [
   | inl m ↦
@@ -41,7 +41,14 @@ none_within {u} {begin} {next} {end} {p} q b l = elim (cases_lt end next) [
       let y = shorter_is_prefix q.front (p ∷ q.back) b.front b.back (reads_same q.begins.reads b.splits.reads)
       (omega (arith, l, b.splits.front_len, q.begins.front_len)) in
       let one : length x.more + length y.more ≡ 1 =
-      omega (arith, ap length x.joined, ap length y.joined, length-append q.front (p ∷ []), length-append b.front x.more, length-append q.front y.more) in
+      omega (
+        arith,
+        ap length x.joined,
+        ap length y.joined,
+        length-append q.front (p ∷ []),
+        length-append b.front x.more,
+        length-append q.front y.more,
+      ) in
       elim (one_is_empty x.more y.more one) [
         | inl e ↦
             let same : pushed ≡ b.front = x.joined ∙ (ap (λ v. b.front ++ v) e ∙ append-nil b.front) in
@@ -71,7 +78,14 @@ last_of {w} {u} {begin} {p} f q =
     let pushed = q.front ++ p ∷ [] in
     let whole : f.points ≡ pushed ++ q.back = reads_same f.reads q.ends.reads in
     let count : length (bytes q.back) ≡ 0 =
-    omega (arith, ap length f.encoded, ap (λ c. length (bytes c)) whole, ap length (bytes-append pushed q.back), length-append (bytes pushed) (bytes q.back), q.ends.front_len) in
+    omega (
+      arith,
+      ap length f.encoded,
+      ap (λ c. length (bytes c)) whole,
+      ap length (bytes-append pushed q.back),
+      length-append (bytes pushed) (bytes q.back),
+      q.ends.front_len,
+    ) in
     whole ∙ ap (λ c. pushed ++ c) (nil_from_bytes q.back count) ∙ append-nil pushed
 
 -- the units before those of the last code point

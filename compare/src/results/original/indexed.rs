@@ -21,8 +21,10 @@ impl Machine {
                 let string = self.copy(reader);
                 self.put_indexed(string);
             }
-            // The crate has no marks, and a clone is an equal string.
-            Opcode::IndexedClone | Opcode::MarkUnits => self.show_indexed(),
+            // The crate has neither marks nor `shrink_to_fit`, which changes no byte, and a clone is an equal string.
+            Opcode::IndexedClone | Opcode::MarkUnits | Opcode::IndexedShrinkToFit => {
+                self.show_indexed();
+            }
             Opcode::IndexedReserve => {
                 let additional = reader.number();
                 self.indexed.reserve(additional);
@@ -55,6 +57,7 @@ impl Machine {
                 let piece = self.copy(reader);
                 self.push_to_indexed(|string| string.push_wtf8(&piece));
             }
+            Opcode::IndexedPushUnitSlice => self.push_slice_to_indexed(reader),
             Opcode::IndexedTruncate => {
                 let position = reader.number();
                 let front = result_of(|| owned(self.indexed.slice_to(position)));
@@ -125,6 +128,21 @@ impl Machine {
 
     fn indexed_units(&self) -> Vec<u16> {
         self.indexed.to_ill_formed_utf16().collect()
+    }
+
+    /// Pushes units of a string one by one, as the crate has no slice of units.
+    fn push_slice_to_indexed(&mut self, reader: &mut Reader<'_>) {
+        let units: Vec<u16> = self.copy(reader).to_ill_formed_utf16().collect();
+        let (begin, end) = (reader.number(), reader.number());
+        let Some(units) = units.get(begin..end) else {
+            return self.line("refused");
+        };
+        for unit in units {
+            let point = CodePoint::from_u32(u32::from(*unit));
+            self.indexed
+                .push(point.expect("each unit is the number of a code point"));
+        }
+        self.show_indexed();
     }
 
     /// Pushes the units one by one, as the crate has no slice of units.

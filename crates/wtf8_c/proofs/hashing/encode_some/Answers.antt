@@ -43,7 +43,9 @@ loop-end-preserved c =
     let few = c.encode_at-count.ensures.count in
     let room : len + 4 ≤ length scratch = omega (arith, c.if-len-le60.true, inv.2) in
     let four : length bytes ≡ 4 =
-    c.copy_from_slice.ensures.len ∙ length-take-le (len + 4 - len) (drop len scratch) (omega (arith, length-drop len scratch, room)) ∙ omega arith in
+    c.copy_from_slice.ensures.len
+    ∙ length-take-le (len + 4 - len) (drop len scratch) (omega (arith, length-drop len scratch, room))
+    ∙ omega arith in
     let size = same_length len (len + 4 - len) scratch bytes (omega (arith, four)) (omega (arith, room)) ∙ inv.2 in
     let now = first_bytes len (len + 4 - len) count scratch bytes four few (omega (arith, room)) in
     let more = c.encode_at-count.ensures.order in
@@ -53,6 +55,7 @@ loop-end-preserved c =
       size,
       inr after,
       λ w y. subst (λ b. IsForm b (drop c.args.at c.args.units.now))
-          (sym (ap (λ b. b ++ w) (now ∙ ap (λ b. take len scratch ++ take count b) c.copy_from_slice.ensures.after) ∙ append_assoc (take len scratch) _ w))
+          (sym (ap (λ b. b ++ w) (now ∙ ap (λ b. take len scratch ++ take count b) c.copy_from_slice.ensures.after)
+          ∙ append_assoc (take len scratch) _ w))
           (inv.4 (take count c.encode_at-count.result.0 ++ w) (c.encode_at-count.ensures.form w y)),
     )
