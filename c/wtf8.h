@@ -64,7 +64,8 @@ typedef struct {
 #define WTF8_EMPTY {0}
 #endif
 
-/* What calls return. Any code but WTF8_OK says that no string and no array was changed. */
+/* What calls return. Any code but WTF8_OK says that no string and no array was changed; only the capacity of a string that
+ * units are appended to may have grown before memory was refused. */
 typedef enum wtf8_result {
     WTF8_OK = 0,              /* the call did what it says */
     WTF8_NO_MEMORY = 1,       /* memory was refused */

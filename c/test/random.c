@@ -12,7 +12,7 @@ enum call {
     /* Calls that only read. */
     UNIT_LEN, CAPACITY, POSITION_AT, UNIT_BEFORE, UNIT_AT, IS_BOUNDARY, NEXT, PREVIOUS, IS_UTF8, EQUAL, ORDER_UNITS,
     ORDER_POINTS, HASH, HASH_UNITS, EQUAL_UNITS, ORDER_WITH_UNITS, STARTS_WITH, COPY_UNITS, COPY_SLICE, COPY_UTF8,
-        COPY_LOSSY, CALLS
+    COPY_LOSSY, CALLS
 };
 
 enum { STRINGS = 4, CODES = WTF8_END + 1, TEXT_LONGEST = 4 * LONGEST + 2 * LONGEST_NO_TEXT };
@@ -298,9 +298,8 @@ static void step(enum call call, struct pair *p, struct pair *q) {
         case PUSH_SLICE: {
             size_t a = below((uint32_t)q->n + 2), b = an_index(q->n);
             int in_range = a <= b && b <= q->n;
-            int divides = in_range && ((a > 0 && is_pair(q, a - 1)) || (b > 0 && is_pair(q, b - 1)));
             if (in_range) memmove(q->units + q->n, q->units + a, 2 * (b - a));
-            needs_none = in_range && p != q && !divides && refuse_if_units_fit(p, q->units + q->n, b - a);
+            needs_none = in_range && p != q && refuse_if_units_fit(p, q->units + q->n, b - a);
             code = wtf8_push_slice(&p->string, &q->string, a, b);
             must((code == WTF8_BAD_POSITION) == !in_range, "push_slice");
             if (code == WTF8_OK) append(p, q->units + a, b - a);
@@ -499,8 +498,8 @@ static void step(enum call call, struct pair *p, struct pair *q) {
     }
     must(code <= WTF8_END, "code");
     /* Units may be refused after the string has grown for the first of them. */
-    int is_kept = code != WTF8_OK && call != PUSH_UNITS;
-    must(!is_kept || wtf8_capacity(&p->string) == capacity, "the capacity after a code that is not OK");
+    int may_grow = call == PUSH_UNITS || call == PUSH_SLICE;
+    must(code == WTF8_OK || may_grow || wtf8_capacity(&p->string) == capacity, "the capacity after a code that is not OK");
     must(code != WTF8_NO_MEMORY || refused < refusals || more > PTRDIFF_MAX, "NO_MEMORY, but no request was refused");
     if (UNIT_LEN <= call || (call == SLICE && p != q))
         must(memcmp(string, &p->string, sizeof string) == 0, "the struct of a string that is read");
