@@ -10,8 +10,8 @@
  *   `valid`.
  * - Arrays do not overlap each other, nor a string, nor a number that the call writes.
  * - A string is made by WTF8_EMPTY or by setting all its bytes to 0, and freed by wtf8_free, whatever calls returned. Its
- *   fields are not read or written. An assignment, memcpy or realloc moves it: of the old place only a new WTF8_EMPTY may be made. A second
- *   string is made by wtf8_set_string.
+ *   fields are not read or written. An assignment, memcpy or realloc moves it: of the old place only a new WTF8_EMPTY may
+ *   be made. A second string is made by wtf8_set_string.
  * - While a call changes a string, no other call uses it. Calls that take it as const only read it: any number of them
  *   may use one string at once, in any threads. Changes are ordered before and after them by a lock, a thread's start or
  *   a join.
