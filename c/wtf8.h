@@ -9,9 +9,9 @@
  * - Each pointer is valid and aligned. It may be NULL only where the text says so: an array of length 0 may be NULL, and
  *   `valid`.
  * - Arrays do not overlap each other, nor a string, nor a number that the call writes.
- * - A string is made by WTF8_EMPTY or by setting all its bytes to 0, and freed by wtf8_free. Its fields are not read or
- *   written. An assignment, memcpy or realloc moves it: of the old place only a new WTF8_EMPTY may be made. A second
- *   string is made by wtf8_set_string.
+ * - A string is made by WTF8_EMPTY or by setting all its bytes to 0, and freed by wtf8_free, whatever calls returned. Its
+ *   fields are not read or written. An assignment, memcpy or realloc moves it: of the old place only a new WTF8_EMPTY may
+ *   be made. A second string is made by wtf8_set_string.
  * - While a call changes a string, no other call uses it. Calls that take it as const only read it: any number of them
  *   may use one string at once, in any threads. Changes are ordered before and after them by a lock, a thread's start or
  *   a join.
@@ -86,7 +86,8 @@ const char *wtf8_version(void);
 /* ---- Making a string ----
  *
  * A wtf8_set_ call uses the string's capacity if the new string fits it, and is not refused then; else it makes a new
- * buffer, and keeps the old one until that is filled.
+ * buffer, and keeps the old one until that is filled. A string without a buffer gets one, which may be refused, also for
+ * an empty string.
  */
 
 /* Replaces the string by `n` units. Never refused if 3 bytes for each fit. Codes: OK, NO_MEMORY. */

@@ -99,11 +99,6 @@ static inline uint32_t point_at(const struct pair *p, size_t i, size_t *taken) {
     return u;
 }
 
-/* Whether the units at `i` and after it are a pair. */
-static inline int is_pair(const struct pair *p, size_t i) {
-    return i + 1 < p->n && is_lead(p->units[i]) && is_trail(p->units[i + 1]);
-}
-
 static inline size_t encode(uint32_t c, uint8_t *to) {
     if (c < 0x80) { to[0] = (uint8_t)c; return 1; }
     if (c < 0x800) { to[0] = (uint8_t)(0xC0 | c >> 6); to[1] = (uint8_t)(0x80 | (c & 63)); return 2; }

@@ -507,6 +507,7 @@ static void step(enum call call, struct pair *p, struct pair *q) {
         must(memcmp(other, &q->string, sizeof other) == 0, "the struct of another string");
     if (UNIT_LEN <= call || (CLEAR <= call && call <= FREE) || (TRUNCATE_UNITS <= call && call <= POP)) {
         must(call == COPY_LOSSY || requests == requested, "a call that cannot be refused requests memory");
+        must(call == FREE || wtf8_capacity(&p->string) == capacity, "the capacity after a call that does not append");
         counts[call][code]++;
         return;
     }
