@@ -1,3 +1,4 @@
+use Rattle.std.proofs.Common.{rules}
 use Rattle.std.proofs.Common.{◌-◌, ◌∙◌, arith, ap, drop, length, length-drop, refl, sym, take, take_all}
 use Rattle.wtf8.specs.View.{view_units}
 use Rattle.unit_text.proofs.UnitLemmas.{WritesAt-part}
@@ -15,3 +16,6 @@ returns-clause-units c =
     (ap (λ n. drop n ys) (sym written.count) ∙ written.rest
     ∙ ap (drop c.write_units.result) (take_all (length old - c.args.at) (drop c.args.at old) (omega (arith, length-drop c.args.at old)))
     ∙ ap (λ n. drop n (drop c.args.at old)) written.count)
+
+pub returns-clause-end : goal.returns-clause-end
+returns-clause-end c = search rules

@@ -1,3 +1,4 @@
+use Rattle.std.proofs.Common.{rules}
 use Rattle.std.proofs.Common.{◌≡◌, ℕ, ◌*◌, ◌≤◌, List, [], ◌++◌, length, sym, ap, ◌∙◌, subst, refl, arith, IsOk, All, to_z, of_z, w32, pos}
 use Rattle.wtf8.specs.Appending.{HasRoomFor}
 use Rattle.wtf8.specs.Form.{IsForm}
@@ -35,3 +36,6 @@ returns-in-Some-clause-kept c e = other_code 0 1 refl (sym (ok c) ∙ e)
 
 pub returns-in-Some-clause-room : goal.returns-in-Some-clause-room
 returns-in-Some-clause-room c full fit = ok c
+
+pub returns-in-Ok-clause-room : goal.returns-in-Ok-clause-room
+returns-in-Ok-clause-room c = search rules

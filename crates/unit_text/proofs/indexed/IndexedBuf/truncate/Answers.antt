@@ -1,3 +1,4 @@
+use Rattle.std.proofs.Common.{rules}
 use Rattle.std.proofs.Common.{◌-◌, ◌/◌, ◌≡◌, take, sym, ◌∙◌, subst, length, IfSome}
 use Rattle.std.specs.Prelude.{vec_capacity}
 use Rattle.wtf8.specs.Position.{IsFront}
@@ -21,3 +22,6 @@ truncate_kept-requires g c =
     (λ m. AreMarks view.bytes.now v (take ((n - 1) / spacing) m.items) (vec_capacity m))) (sym c.new-front.result.counted)
     (AreMarks-truncated c.law_marks.ensures.equal c.law_marks.ensures.cut c.law_one_form.ensures.equal c.self.inside.marks old view
     (length v) mark.units_within units c.self.invariant.1)
+
+pub new-front-requires : goal.new-front-requires
+new-front-requires c = search rules
