@@ -183,7 +183,7 @@ WTF8_OPERATOR(<, compare, 0) WTF8_OPERATOR(<=, compare, 0)
 WTF8_OPERATOR(>, compare, 0) WTF8_OPERATOR(>=, compare, 0)
 #undef WTF8_OPERATOR
 
-/* Hashes under a seed, which should be random if others choose the strings. That of std::hash is 0. */
+/* Hashes under a seed, which should be random if others choose the strings. std::hash has the seed 0. */
 struct hasher {
     using is_transparent = void;
     hasher(uint64_t first = 0, uint64_t second = 0) noexcept : seed_0(first), seed_1(second) {}

@@ -88,7 +88,7 @@ last_of {w} {u} {begin} {p} f q =
     ) in
     whole ∙ ap (λ c. pushed ++ c) (nil_from_bytes q.back count) ∙ append-nil pushed
 
--- the units before those of the last code point
+-- the units before the last code point
 pub record IsBeforeLast (u : List ℕ) (p n : ℕ) (c : List ℕ) : Type 0 where
   pub front : List ℕ
   pub points : c ≡ front ++ p ∷ []

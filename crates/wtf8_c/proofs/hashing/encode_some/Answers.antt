@@ -7,7 +7,8 @@ use Rattle.wtf8.specs.Form.{IsForm}
 use borrow.Rule.Slice.PartMut.{put_mid}
 use Rattle.wtf8_c.proofs.hashing.encode_some.Goals as goal
 
--- after `bytes` are written to `scratch` from `len` on, the first bytes are those before and the first of `bytes`
+-- after `bytes` are written to `scratch` from `len` on, its first `len + count` bytes are its first `len` of before and the
+-- first `count` of `bytes`
 first_bytes : (len k count : ℕ) (scratch bytes : List ℕ) → length bytes ≡ 4 → count ≤ 4 → len ≤ length scratch
     → take (len + count) (put_mid len k scratch bytes) ≡ take len scratch ++ take count bytes
 first_bytes len k count scratch bytes four few within =
