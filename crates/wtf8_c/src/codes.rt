@@ -24,7 +24,7 @@ pub(crate) const BAD_CODE_POINT: i32 = 5;
 /// The bytes are not UTF-8.
 pub(crate) const NOT_UTF8: i32 = 6;
 
-/// No code point is after the position, or before it.
+/// No code point is after the position, or before it, or the string is empty.
 pub(crate) const END: i32 = 7;
 
 /// The first of two strings comes before the second.

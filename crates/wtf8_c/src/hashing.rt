@@ -12,6 +12,9 @@ use std::alloc::Global;
 use std::hash::{DefaultHasher, Hash, Hasher};
 use wtf8::CodePoint;
 
+/// The size of the scratch buffer in bytes.
+const SCRATCH: usize = 64;
+
 /// The hash of the string under a seed of 128 bits, for tables.
 #[unsafe(no_mangle)]
 pub extern "C" fn wtf8_hash(alloc: Global, string: &mut Wtf8String, seed_0: u64, seed_1: u64) -> u64
@@ -31,7 +34,7 @@ pub extern "C" fn wtf8_hash_units(units: &[u16], seed_0: u64, seed_1: u64) -> u6
     ensures { (w : List ℕ) → IsForm w units.now → result ≡ hash_of seed_0 seed_1 w }
 {
     let mut hasher = seeded(seed_0, seed_1);
-    let mut scratch = [0; 64];
+    let mut scratch = [0; SCRATCH];
     let mut at = 0;
     while at < units.len() {
         let (len, end) = encode_some(units, at, &mut scratch);
@@ -55,16 +58,16 @@ fn seeded(seed_0: u64, seed_1: u64) -> DefaultHasher
 
 /// Writes the bytes of the code points from index `at` on to the front of `scratch`, until there is no room for four more.
 /// Returns the number of the bytes, and the index after the code points.
-fn encode_some(units: &[u16], at: usize, scratch: &mut [u8; 64]) -> (usize, usize)
+fn encode_some(units: &[u16], at: usize, scratch: &mut [u8; SCRATCH]) -> (usize, usize)
     requires { at < length units.now }
     ensures order { at < result.1 }
     ensures within { result.1 ≤ length units.now }
-    ensures len { result.0 ≤ 64 }
+    ensures len { result.0 ≤ SCRATCH }
     ensures form { (w : List ℕ) → IsForm w (drop result.1 units.now) → IsForm (take result.0 scratch.new ++ w) (drop at units.now) }
 {
     let mut len = 0;
     let mut end = at;
-    while end < units.len() && len <= 60 {
+    while end < units.len() && len <= SCRATCH - 4 {
         let (bytes, count, next) = encode_at(units, end);
         scratch[len..len + 4].copy_from_slice(&bytes);
         len += count;

@@ -42,7 +42,7 @@ loop-end-preserved c =
     let scratch = c.loop-end.scratch in
     let bytes = c.copy_from_slice.new.self in
     let few = c.encode_at-count.ensures.count in
-    let room : len + 4 ≤ length scratch = omega (arith, c.if-len-le60.true, inv.2) in
+    let room : len + 4 ≤ length scratch = omega (arith, c.if-len.true, inv.2) in
     let four : length bytes ≡ 4 =
     c.copy_from_slice.ensures.len
     ∙ length-take-le (len + 4 - len) (drop len scratch) (omega (arith, length-drop len scratch, room))
@@ -52,7 +52,7 @@ loop-end-preserved c =
     let more = c.encode_at-count.ensures.order in
     let after : c.args.at < c.encode_at-count.result.2 = elim inv.3 [ inl e ↦ omega (arith, e.1, more) | inr l ↦ omega (arith, l, more) ] in (
       c.encode_at-count.ensures.within,
-      omega (arith, few, c.if-len-le60.true),
+      omega (arith, few, c.if-len.true),
       size,
       inr after,
       λ w y. subst (λ b. IsForm b (drop c.args.at c.args.units.now))
