@@ -13,9 +13,11 @@
 enum { UNITS = 100000 };
 
 static uint16_t unit_of(const char *text, size_t i) {
+    static const uint16_t mixed[] = {'a', 0xE9, 0x4E2D, 0xD83D, 0xDCA9};
     if (strcmp(text, "ASCII") == 0) return (uint16_t)('a' + i % 26);
     if (strcmp(text, "Latin") == 0) return (uint16_t)(0xE0 + i % 16);
     if (strcmp(text, "CJK") == 0) return (uint16_t)(0x4E00 + i % 0x5000);
+    if (strcmp(text, "mixed") == 0) return mixed[i % 5];
     if (strcmp(text, "supplementary") == 0) return (uint16_t)(i % 2 == 0 ? 0xD83D : 0xDC00 + i % 0x400);
     return (uint16_t)(0xD800 + i % 0x400); /* lone leads */
 }

@@ -32,6 +32,19 @@ const KINDS_THAT_DIFFER: &str = "12 units, kinds that differ";
 /// The number of lines in the list of file names.
 const LINES: usize = 1000;
 
+/// The numbers of units in the short inputs.
+const SHORT: [usize; 3] = [5, 12, 40];
+
+/// What the short inputs beyond ASCII are made of: the letters of most file names that are not English.
+const LETTERS_OF_NAMES: [(&str, fn(&mut Random) -> u32); 3] = [
+    ("Cyrillic", |random| random.between(0x430, 0x44F)),
+    ("Greek with spaces", |random| match random.below(6) {
+        0 => 0x20,
+        _ => random.between(0x3B1, 0x3C9),
+    }),
+    ("CJK", |random| random.between(0x4E00, 0x9FFF)),
+];
+
 /// The number of units in the long inputs.
 const LONG: usize = 4096;
 
@@ -81,9 +94,15 @@ pub fn chosen(is_chosen: impl Fn(&str) -> bool) -> Vec<Input> {
             _ => random.between(0x20, 0x7E),
         }),
     ];
-    for (name, length) in [("5 units", 5), ("12 units", 12), ("40 units", 40)] {
+    for length in SHORT {
         let make = move || units(length, |random| random.between(0x20, 0x7E));
-        recipes.push(Recipe::new(name, make));
+        recipes.push(Recipe::new(&format!("{length} units"), make));
+    }
+    for (name, point) in LETTERS_OF_NAMES {
+        for length in SHORT {
+            let name = format!("{length} units, {name}");
+            recipes.push(Recipe::new(&name, move || units(length, point)));
+        }
     }
     let kinds = "a\u{E9}\u{4E2D}z\u{1F600}\u{436}\u{65E5}b\u{A3}\u{10FFFF}";
     recipes.push(Recipe::new(KINDS_THAT_DIFFER, || {
