@@ -1,4 +1,7 @@
-//! Timings: the columns take turns in one process, and the least time of each counts.
+//! Timings: the columns take turns in one process, and the least time of each counts. The strings are made again
+//! before each turn, after a block of another size, and only one side's exist while it is timed; what a run without
+//! rounds takes, as to make the map, is subtracted on both sides. A time is the least of four builds': two cargo
+//! profiles, each at two addresses (`--cfg further`).
 
 use std::fmt::Write;
 use std::fs;

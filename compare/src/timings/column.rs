@@ -1,4 +1,15 @@
 //! The timed loops over the original crate, and over the standard library's own WTF-8 if the compiler gives access.
+//!
+//! If the crate has no such call, its loop is what a user can write: `hex_dump` by the bytes that a hasher is fed;
+//! `unit_len`, `unit_at` and `cmp_units` along `to_ill_formed_utf16`, by `count`, `nth` and `cmp`; `append_units` by
+//! `collect`; `push_ill_formed_utf16` (to a string that is emptied and keeps its room) by `push` of each unit;
+//! `write_units`, and `copy_units` of an `IndexedBuf` (the middle half), by a loop that fills a slice; `slice_units`
+//! (the middle half, copied to a buffer) and `truncate_units` (the first half, of a clone) as a string made anew of
+//! these units.
+//!
+//! All but the calls of an `IndexedBuf`, which has marks, are calls of views and buffers, and count from the front.
+//! One row is of a `UnitText`, which also keeps the number of its units and is built by `push` of each unit, as the
+//! other side builds a `Wtf8Buf`.
 
 use std::collections::BTreeMap;
 use std::hash::Hash;
