@@ -136,7 +136,7 @@ pub(crate) fn surrogate_after_ed(second: u8, third: u8) -> u32
     ensures { result ≡ 0xD000 + (second - 0x80) * 64 + (third - 0x80) }
 {
     // The low four bits of ED are the high four of each surrogate.
-    0xD000 + payload_bits(second) * 64 + payload_bits(third)
+    0xD000 + u32::from(second - 0x80) * 64 + u32::from(third - 0x80)
 }
 
 /// The code point at the front of `bytes`, encoded in two bytes.
