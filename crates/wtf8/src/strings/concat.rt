@@ -117,7 +117,6 @@ fn append_bytes<A: Allocator>(bytes: &mut Vec<u8, A>, other: &[u8]) -> Result<()
     bytes.extend_from_slice(other)
 }
 
-/// Returns the lead surrogate that ends `front` and the trail surrogate that begins `back`, if both are there.
 #[inline(always)]
 fn pair_at_seam(front: Wtf8<'_>, back: Wtf8<'_>) -> Option<(u32, u32)>
     ensures pair { IfSome result (λ p. IsLead p.0 × IsTrail p.1) }

@@ -38,7 +38,6 @@ pub(crate) fn utf16_len_of_byte(byte: u8) -> usize
     usize::from(encoding::begins_code_point(byte)) + usize::from(0xF0 <= byte)
 }
 
-/// Returns for each byte the number of units of the code point that it begins; 0 for a continuation byte.
 #[inline(always)]
 fn utf16_len_of_each<const N: usize>(bytes: Simd<u8, N>) -> Simd<u8, N>
     ensures { result ≡ map utf16_len bytes.entry }

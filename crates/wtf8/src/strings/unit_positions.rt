@@ -177,7 +177,6 @@ fn unit_by_count(view: Wtf8<'_>, index: usize) -> Option<u16>
     Some(read_unit(view.bytes, &mut position))
 }
 
-/// Returns the unit at `index` if the string begins with a block of ASCII that contains it.
 #[inline(always)]
 fn unit_in_ascii_prefix(view: Wtf8<'_>, index: usize) -> Option<u16>
     ensures { IfSome result (λ unit. slice_get (view_units view.entry) index ≡ Some unit) }
@@ -190,7 +189,6 @@ fn unit_in_ascii_prefix(view: Wtf8<'_>, index: usize) -> Option<u16>
     }
 }
 
-/// Returns the unit at `index` if that is below `N` and the first `N` bytes are all ASCII.
 #[inline(always)]
 fn ascii_unit<const N: usize>(view: Wtf8<'_>, index: usize) -> Option<u16>
     requires lanes { N ≤ u64.BITS }
