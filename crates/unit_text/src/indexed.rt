@@ -444,6 +444,7 @@ impl<A: Allocator> IndexedBuf<A> {
         ensures capacity { self.old.capacity ≤ self.new.capacity }
     {
         self.text.push_unit_slice(slice)?;
+        // The string has no more units than bytes, so the slice's units can be counted.
         prove!(self.text.len() <= usize::MAX);
         let more = slices::unit_len(slice);
         marks::count_more(&self.text, &mut self.count, &mut self.marks, more);

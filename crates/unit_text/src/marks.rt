@@ -142,6 +142,7 @@ pub(crate) fn count_more<A: Allocator>(
     ensures count { count.new ≡ length text.now.units }
     ensures marks { IfSome marks.new (λ m. AreMarks text.now.bytes text.now.units m.items (vec_capacity m)) }
 {
+    // There are no more units than bytes, so the sum fits.
     prove!(text.len() <= usize::MAX);
     laws::law_marks();
     *count += more;
@@ -358,6 +359,7 @@ impl<'a> MarkedView<'a> {
         ensures { units_of_slice result ≡ take len (drop begin (view_units self.now.text.view)) }
     {
         let (rest, at) = self.rest_from_mark(begin);
+        // There are no more units than bytes, so the sum fits.
         prove!(rest.len() <= usize::MAX);
         rest.slice_units(at, at + len)
     }

@@ -3,7 +3,8 @@ ghost use Rattle.std.specs.Prelude.{◌≡◌, ◌≢◌, ◌<◌, ◌≤◌, �
 ghost use Rattle.wtf8.specs.CodePoint.{number};
 ghost use Rattle.wtf8.specs.Unicode.{units_of};
 ghost use Rattle.wtf8.specs.View.{view_points};
-ghost use Rattle.wtf8_uses.specs.JsonString.{BeginsWithCharacter, BeginsWithDigit, BeginsWithQuote, BeginsWithString, BeginsWithUnit, BeginsWithCharacters, EndsEscape, HasCauseAt, IsCause, IsMalformedAt, digit_value, escaped};
+ghost use Rattle.wtf8_uses.specs.JsonString.{BeginsWithCharacter, BeginsWithDigit, BeginsWithQuote, BeginsWithString, BeginsWithUnit};
+ghost use Rattle.wtf8_uses.specs.JsonString.{BeginsWithCharacters, EndsEscape, HasCauseAt, IsCause, IsMalformedAt, digit_value, escaped};
 
 use std::alloc::Allocator;
 use wtf8::{CodePoint, Wtf8, Wtf8Buf};

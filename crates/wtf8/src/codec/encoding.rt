@@ -10,7 +10,6 @@ use crate::codec::code_point::CodePoint;
 use crate::vec::capacity::{reserve_if_short, spare_capacity};
 use std::alloc::{AllocError, Allocator};
 
-/// The continuation byte that holds the low six bits of `value`.
 #[inline(always)]
 fn continuation_byte(value: u32) -> u8
     ensures { result ≡ 0x80 + value % 64 }
@@ -66,7 +65,6 @@ pub(crate) fn append<A: Allocator>(
     append_with_spare(bytes, spare, code_point)
 }
 
-/// Appends the encoding of a code point; `spare` is the present spare capacity.
 #[inline(always)]
 #[tactic(auto, using(crate::proofs::lemmas::codec::Encoding::encoding_one))]
 pub(crate) fn append_with_spare<A: Allocator>(
@@ -103,7 +101,6 @@ pub(crate) fn append_with_spare<A: Allocator>(
     Ok(())
 }
 
-/// Keeps the first `at + 3` bytes and overwrites the last three of them by the encoding of a lead surrogate.
 pub(crate) fn keep_lead<A: Allocator>(bytes: &mut Vec<u8, A>, at: usize, lead: u16)
     requires lead { IsLead lead }
     requires within { at + 3 ≤ length bytes.old.items }
@@ -121,7 +118,6 @@ pub(crate) fn begins_code_point(byte: u8) -> bool
     byte < 0x80 || 0xC0 <= byte
 }
 
-/// The low six bits of a continuation byte.
 fn payload_bits(byte: u8) -> u32
     requires inside { 0x80 ≤ byte }
     ensures { result + 0x80 ≡ byte }
@@ -136,10 +132,9 @@ pub(crate) fn surrogate_after_ed(second: u8, third: u8) -> u32
     ensures { result ≡ 0xD000 + (second - 0x80) * 64 + (third - 0x80) }
 {
     // The low four bits of ED are the high four of each surrogate.
-    0xD000 + payload_bits(second) * 64 + payload_bits(third)
+    0xD000 + u32::from(second - 0x80) * 64 + u32::from(third - 0x80)
 }
 
-/// The code point at the front of `bytes`, encoded in two bytes.
 #[inline(always)]
 pub(crate) fn read_two(bytes: &[u8]) -> u32
     requires front { BeginsWithPoint bytes.now }
@@ -151,7 +146,6 @@ pub(crate) fn read_two(bytes: &[u8]) -> u32
     (u32::from(bytes[0]) - 0xC0) * 64 + payload_bits(bytes[1])
 }
 
-/// The code point at the front of `bytes`, encoded in three bytes.
 #[inline(always)]
 pub(crate) fn read_three(bytes: &[u8]) -> u32
     requires front { BeginsWithPoint bytes.now }
@@ -164,7 +158,6 @@ pub(crate) fn read_three(bytes: &[u8]) -> u32
     high * 64 + payload_bits(bytes[2])
 }
 
-/// The code point at the front of `bytes`, encoded in four bytes.
 #[inline(always)]
 fn read_four(bytes: &[u8]) -> u32
     requires front { BeginsWithPoint bytes.now }
@@ -176,7 +169,6 @@ fn read_four(bytes: &[u8]) -> u32
     middle * 64 + payload_bits(bytes[3])
 }
 
-/// The lead surrogate of the supplementary code point at the front of `bytes`.
 #[inline(always)]
 pub(crate) fn read_lead(bytes: &[u8]) -> u16
     requires front { BeginsWithPoint bytes.now }

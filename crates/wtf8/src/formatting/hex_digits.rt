@@ -30,10 +30,12 @@ const INTERLEAVE_BACK: [usize; VECTOR] = [
 /// Bytes 0 to 15 of the spaced text, from the digits that `INTERLEAVE_FRONT` interleaves; 16 is a space.
 const SPACED_FRONT: [usize; VECTOR] = [16, 0, 1, 16, 2, 3, 16, 4, 5, 16, 6, 7, 16, 8, 9, 16];
 
-/// Bytes 16 to 31 of the spaced text, from the digits that `INTERLEAVE_MID` interleaves; 16 is a space.
+/// Bytes 16 to 31 of the spaced text, from the digits that `INTERLEAVE_MID` interleaves, of which 0 is the high digit
+/// of byte 4; 16 is a space.
 const SPACED_MID: [usize; VECTOR] = [2, 3, 16, 4, 5, 16, 6, 7, 16, 8, 9, 16, 10, 11, 16, 12];
 
-/// Bytes 32 to 47 of the spaced text, from the digits that `INTERLEAVE_BACK` interleaves; 16 is a space.
+/// Bytes 32 to 47 of the spaced text, from the digits that `INTERLEAVE_BACK` interleaves, of which 0 is the high digit
+/// of byte 8; 16 is a space.
 const SPACED_BACK: [usize; VECTOR] = [5, 16, 6, 7, 16, 8, 9, 16, 10, 11, 16, 12, 13, 16, 14, 15];
 
 #[inline(always)]

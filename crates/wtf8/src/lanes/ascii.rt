@@ -5,7 +5,6 @@ ghost use Rattle.wtf8.specs.private.Prefixes.{AreAscii};
 use crate::lanes::masks::first_set_lane;
 use std::simd::prelude::*;
 
-/// The number of ASCII bytes before the first byte that is not ASCII.
 #[inline(always)]
 pub(crate) fn ascii_run_len<const N: usize>(bytes: Simd<u8, N>) -> usize
     requires { N ≤ u64.BITS }

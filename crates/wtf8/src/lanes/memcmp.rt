@@ -12,6 +12,9 @@ use std::simd::prelude::*;
 /// The most bytes that two vectors cover, and the stride of the search for a mismatch after `skip_equal_strides`.
 const TWO_VECTORS: usize = 2 * VECTOR;
 
+/// The most bytes that a vector and two that may overlap cover.
+const THREE_VECTORS: usize = 3 * VECTOR;
+
 pub(crate) fn byte_at(bytes: &[u8], at: usize) -> Option<u8>
     ensures { result ≡ slice_get bytes.now at }
 {
@@ -91,13 +94,14 @@ fn eq_up_to_block(own: &[u8], others: &[u8]) -> bool
     ensures { DecidesNone (DifferAt own.now others.now) 0 (length own.now) result }
 {
     let len = own.len();
-    if len <= 32 {
-        return eq_overlapping::<16>(own, others);
+    if len <= TWO_VECTORS {
+        return eq_overlapping::<VECTOR>(own, others);
     }
-    if len <= 48 {
-        return eq_block::<32>(own, others, 0) & eq_block::<16>(own, others, len - 16);
+    if len <= THREE_VECTORS {
+        return eq_block::<TWO_VECTORS>(own, others, 0)
+            & eq_block::<VECTOR>(own, others, len - VECTOR);
     }
-    eq_overlapping::<32>(own, others)
+    eq_overlapping::<TWO_VECTORS>(own, others)
 }
 
 /// Not inlined, so that short slices are compared without its saved registers.
@@ -170,8 +174,8 @@ fn mismatch_short(own: &[u8], others: &[u8], end: usize) -> Option<usize>
     requires room { (end ≤ length own.now) × (end ≤ length others.now) }
     ensures { IsFirstIn (DifferAt own.now others.now) 0 end result }
 {
-    if 16 <= end {
-        return mismatch_overlapping::<16>(own, others, 0, end);
+    if VECTOR <= end {
+        return mismatch_overlapping::<VECTOR>(own, others, 0, end);
     }
     if 8 <= end {
         return mismatch_overlapping::<8>(own, others, 0, end);
@@ -190,11 +194,11 @@ fn mismatch_long(own: &[u8], others: &[u8], end: usize) -> Option<usize>
     requires room { (end ≤ length own.now) × (end ≤ length others.now) }
     ensures { IsFirstIn (DifferAt own.now others.now) 0 end result }
 {
-    if let Some(at) = mismatch_in_block::<16>(own, others, 0) {
+    if let Some(at) = mismatch_in_block::<VECTOR>(own, others, 0) {
         return Some(at);
     }
-    if end <= 48 {
-        return mismatch_overlapping::<16>(own, others, VECTOR, end);
+    if end <= THREE_VECTORS {
+        return mismatch_overlapping::<VECTOR>(own, others, VECTOR, end);
     }
     let at = skip_equal_strides(own, others, end);
     mismatch_in_blocks(own, others, at, end)

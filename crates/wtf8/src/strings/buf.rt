@@ -263,11 +263,9 @@ impl<A: Allocator> Wtf8Buf<A> {
         // A character below U+10000 is one unit.
         ensures one_unit { c < 0x10000 → OnOk result (AppendsUnits self.old (c ∷ []) self.new) }
 
-        // A push whose bytes fit is never refused, and the capacity never shrinks.
         ensures room { HasRoomFor self.old (units_of c) → IsOk result }
         ensures capacity { self.old.capacity ≤ self.new.capacity }
 
-        // In bytes: the character's encoding is appended, and spare capacity for it is enough.
         ensures bytes { OnOk result (self.new.bytes ≡ self.old.bytes ++ encoding c) }
         ensures at_most { OnOk result (length self.new.bytes ≤ length self.old.bytes + length (encoding c)) }
         ensures room_left { length self.old.bytes + length (encoding c) ≤ self.old.capacity → IsOk result }
@@ -284,13 +282,10 @@ impl<A: Allocator> Wtf8Buf<A> {
         ensures ok { OnOk result (AppendsUnits self.old (units (chars other.now)) self.new) }
         ensures kept { OnErr result (KeepsContents self.old self.new) }
 
-        // A push whose bytes fit is never refused, nor is an empty text, and the capacity never shrinks.
         ensures room { HasRoomFor self.old (units (chars other.now)) → IsOk result }
         ensures empty { other.now ≡ [] → IsOk result }
         ensures capacity { self.old.capacity ≤ self.new.capacity }
 
-        // In bytes: the length grows by at most the text's length, spare capacity for that is enough, and an empty text
-        // changes nothing.
         ensures at_most { OnOk result (length self.new.bytes ≤ length self.old.bytes + length other.now) }
         ensures room_left { length self.old.bytes + length other.now ≤ self.old.capacity → IsOk result }
         ensures nothing { other.now ≡ [] → KeepsContents self.old self.new }
@@ -324,13 +319,10 @@ impl<A: Allocator> Wtf8Buf<A> {
         // The length grows by the other's length, minus 2 if a lead meets a trail.
         ensures length { OnOk result (AddsLength self.old other.entry self.new) }
 
-        // A push whose bytes fit is never refused, nor is an empty string, and the capacity never shrinks.
         ensures room { HasRoomFor self.old (view_units other.entry) → IsOk result }
         ensures empty { view_units other.entry ≡ [] → IsOk result }
         ensures capacity { self.old.capacity ≤ self.new.capacity }
 
-        // In bytes: the length grows by at most the other's length, spare capacity for that is enough, and an empty
-        // string changes nothing.
         ensures at_most { OnOk result (length self.new.bytes ≤ length self.old.bytes + length other.entry.bytes.now) }
         ensures room_left { length self.old.bytes + length other.entry.bytes.now ≤ self.old.capacity → IsOk result }
         ensures nothing { other.entry.bytes.now ≡ [] → KeepsContents self.old self.new }
@@ -345,13 +337,10 @@ impl<A: Allocator> Wtf8Buf<A> {
         ensures ok { OnOk result (AppendsUnits self.old v.now self.new) }
         ensures kept { OnErr result (KeepsContents self.old self.new) }
 
-        // A push whose bytes fit is never refused, nor are no units, and the capacity never shrinks.
         ensures room { HasRoomFor self.old v.now → IsOk result }
         ensures empty { v.now ≡ [] → IsOk result }
         ensures capacity { self.old.capacity ≤ self.new.capacity }
 
-        // In bytes: the length grows by at most three for each unit, spare capacity for that is enough, and no units
-        // change nothing.
         ensures at_most { OnOk result (length self.new.bytes ≤ length self.old.bytes + 3 * length v.now) }
         ensures room_left { length self.old.bytes + 3 * length v.now ≤ self.old.capacity → IsOk result }
         ensures nothing { v.now ≡ [] → KeepsContents self.old self.new }
@@ -367,7 +356,6 @@ impl<A: Allocator> Wtf8Buf<A> {
         ensures ok { OnOk result (AppendsUnits self.old (unit ∷ []) self.new) }
         ensures kept { OnErr result (KeepsContents self.old self.new) }
 
-        // A push whose bytes fit is never refused, and the capacity never shrinks.
         ensures room { HasRoomFor self.old (unit ∷ []) → IsOk result }
         ensures capacity { self.old.capacity ≤ self.new.capacity }
     {
@@ -381,7 +369,6 @@ impl<A: Allocator> Wtf8Buf<A> {
         ensures ok { OnOk result (AppendsUnits self.old (units_of_slice slice.entry) self.new) }
         ensures kept { OnErr result (KeepsContents self.old self.new) }
 
-        // A push whose bytes fit is never refused, nor is an empty part, and the capacity never shrinks.
         ensures room { HasRoomFor self.old (units_of_slice slice.entry) → IsOk result }
         ensures empty { units_of_slice slice.entry ≡ [] → IsOk result }
         ensures capacity { self.old.capacity ≤ self.new.capacity }
@@ -410,7 +397,6 @@ impl<A: Allocator> Wtf8Buf<A> {
         self.push_half(slice.lead)
     }
 
-    /// Appends half of a surrogate pair, if there is one.
     fn push_half(&mut self, half: Option<u16>) -> Result<(), AllocError>
         ensures ok { OnOk result (AppendsUnits self.old (option_to_list half) self.new) }
         ensures kept { OnErr result (KeepsContents self.old self.new) }
@@ -468,7 +454,6 @@ impl<A: Allocator> Wtf8Buf<A> {
         requires last { RoundsDownTo self.old.units n mark.units }
         ensures units { self.new.units ≡ take n self.old.units }
 
-        // If position `k` is the code point boundary after the first `n` units, the first `k` bytes stay.
         ensures bytes { (k : ℕ) → IsFront self.old.units k (take n self.old.units) → self.new.bytes ≡ take k self.old.bytes }
         ensures capacity { self.new.capacity ≡ self.old.capacity }
     {

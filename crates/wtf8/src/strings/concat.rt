@@ -11,7 +11,8 @@ ghost use Rattle.wtf8.specs.Unicode.{units, units_of, pair, IsSurrogate, IsLead,
 ghost use Rattle.wtf8.specs.View.{view_points, view_units};
 
 use crate::codec::code_point::CodePoint;
-use crate::codec::{encoding, surrogates};
+use crate::codec::encoding;
+use crate::codec::surrogates::{self, FIRST_TRAIL};
 use crate::from_utf16::kernel::Progress;
 use crate::from_utf16::transcode;
 use crate::strings::utf8_prefix::Utf8Prefix;
@@ -39,23 +40,10 @@ fn complete_pair<A: Allocator>(
     Ok(())
 }
 
-/// Returns the lead surrogate that `code_point` completes, if it is a trail surrogate and a lead ends the string.
-fn lead_to_complete(view: Wtf8<'_>, code_point: CodePoint) -> Option<u32>
-    ensures trail { OnSome result (IsTrail (number code_point)) }
-    ensures lead { IfSome result (λ l. IsLead l) }
-    ensures last { IfSome result (λ l. (f : List ℕ) × (view_points view.entry ≡ f ++ l ∷ [])) }
-    ensures none { IfNone result (¬ (MeetsAsPair (view_points view.entry) (number code_point ∷ []))) }
-{
-    if surrogates::is_trail(code_point.to_u32()) {
-        view.final_lead_surrogate()
-    } else {
-        None
-    }
-}
-
 /// Appends a code point that completes no pair: it is no trail, or no lead ends `bytes`. `spare` is the spare capacity.
+/// `append_with_spare` promises the bytes of any code point; these are the form of the units, which is proved here once.
 #[inline(always)]
-pub(crate) fn push_unpaired<A: Allocator>(
+fn push_unpaired<A: Allocator>(
     bytes: &mut Vec<u8, A>,
     spare: usize,
     code_point: CodePoint,
@@ -69,22 +57,22 @@ pub(crate) fn push_unpaired<A: Allocator>(
     encoding::append_with_spare(bytes, spare, code_point)
 }
 
-/// Appends a surrogate to well-formed bytes; a trail completes a lead at their end.
+/// Appends a trail surrogate to well-formed bytes: it completes a lead at their end. `spare` is the spare capacity.
 #[inline(always)]
-pub(crate) fn push_surrogate<A: Allocator>(
+fn push_trail<A: Allocator>(
     bytes: &mut Vec<u8, A>,
-    code_point: CodePoint,
+    spare: usize,
+    trail: CodePoint,
 ) -> Result<(), AllocError>
-    requires { IsWellFormed bytes.old.items }
-    ensures { ExtendsFormOrKeeps bytes.old (units_of (number code_point)) bytes.new result }
+    requires spare { vec_len bytes.old + spare ≡ vec_capacity bytes.old }
+    requires well_formed { IsWellFormed bytes.old.items }
+    requires trail { IsTrail (number trail) }
+    ensures { ExtendsFormOrKeeps bytes.old (units_of (number trail)) bytes.new result }
 {
     let view = Wtf8::from_well_formed(bytes.as_slice());
-    match lead_to_complete(view, code_point) {
-        Some(lead) => complete_pair(bytes, lead, code_point.to_u32()),
-        None => {
-            let spare = spare_capacity(bytes);
-            push_unpaired(bytes, spare, code_point)
-        }
+    match view.final_lead_surrogate() {
+        Some(lead) => complete_pair(bytes, lead, trail.to_u32()),
+        None => push_unpaired(bytes, spare, trail),
     }
 }
 
@@ -102,20 +90,24 @@ pub(crate) fn push<A: Allocator>(
 {
     // The spare capacity is computed before the match, so that a loop can keep the length in a register: computed in
     // each arm, with as many instructions, pushes of CJK take 3.8 ns for 2.5.
-    let spare = spare_capacity(bytes);
+    let spare = bytes.capacity() - bytes.len();
     // Each arm has its own call, in which the compiler knows the encoded length: one call for all takes 20.7
     // instructions a unit for 14.7 of ASCII and 35.7 for 30.7 of CJK, though 17.8 for 20.8 of supplementary code
-    // points.
+    // points. From D800 on the code points of four bytes come first, since surrogates and U+E000 to U+FFFF are rare.
     match code_point.to_u32() {
         0..=0x7F => push_unpaired(bytes, spare, code_point),
         0x80..=0x7FF => push_unpaired(bytes, spare, code_point),
         0x800..=0xD7FF => push_unpaired(bytes, spare, code_point),
         0x10000.. => push_unpaired(bytes, spare, code_point),
-        0xD800..=0xDFFF => {
+        surrogate @ 0xD800..=0xDFFF => {
             *utf8_prefix = utf8_prefix.up_to(bytes.len());
-            push_surrogate(bytes, code_point)
+            if surrogate < FIRST_TRAIL as u32 {
+                push_unpaired(bytes, spare, code_point)
+            } else {
+                push_trail(bytes, spare, code_point)
+            }
         }
-        _ => push_unpaired(bytes, spare, code_point),
+        0xE000..=0xFFFF => push_unpaired(bytes, spare, code_point),
     }
 }
 
@@ -125,7 +117,6 @@ fn append_bytes<A: Allocator>(bytes: &mut Vec<u8, A>, other: &[u8]) -> Result<()
     bytes.extend_from_slice(other)
 }
 
-/// Returns the lead surrogate that ends `front` and the trail surrogate that begins `back`, if both are there.
 #[inline(always)]
 fn pair_at_seam(front: Wtf8<'_>, back: Wtf8<'_>) -> Option<(u32, u32)>
     ensures pair { IfSome result (λ p. IsLead p.0 × IsTrail p.1) }
@@ -231,8 +222,8 @@ fn lead_before<A: Allocator>(bytes: &Vec<u8, A>, v: &[u16]) -> Option<u32>
 {
     let view = Wtf8::from_well_formed(bytes.as_slice());
     match v.first() {
-        Some(unit) => lead_to_complete(view, CodePoint::from_unit(*unit)),
-        None => None,
+        Some(unit) if surrogates::is_trail(u32::from(*unit)) => view.final_lead_surrogate(),
+        _ => None,
     }
 }
 

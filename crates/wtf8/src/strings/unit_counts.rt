@@ -18,6 +18,9 @@ pub(crate) const HALF_VECTOR: usize = VECTOR / 2;
 /// Blocks that are added lane by lane before one horizontal sum: a lane of each is at most 2, so a `u8` lane suffices.
 const SUMMED_BLOCKS: usize = 8;
 
+/// The index of no unit: a search for it counts all units, and stops at the end.
+const NO_UNIT: usize = usize::MAX;
+
 /// The fewest units that can begin in `SUMMED_BLOCKS` blocks: a unit takes at most three bytes.
 const LEAST_UNITS_SUMMED: usize = SUMMED_BLOCKS * BLOCK / 3;
 
@@ -35,7 +38,6 @@ pub(crate) fn utf16_len_of_byte(byte: u8) -> usize
     usize::from(encoding::begins_code_point(byte)) + usize::from(0xF0 <= byte)
 }
 
-/// Returns for each byte the number of units of the code point that it begins; 0 for a continuation byte.
 #[inline(always)]
 fn utf16_len_of_each<const N: usize>(bytes: Simd<u8, N>) -> Simd<u8, N>
     ensures { result ≡ map utf16_len bytes.entry }
@@ -127,10 +129,10 @@ fn count_units(bytes: &[u8]) -> usize
     if HALF_BLOCK <= bytes.len() {
         cursor = skip_all_blocks(bytes);
     }
-    while let Some(next) = skip_block::<HALF_VECTOR>(bytes, usize::MAX, cursor) {
+    while let Some(next) = skip_block::<HALF_VECTOR>(bytes, NO_UNIT, cursor) {
         cursor = next;
     }
-    let cursor = skip_block::<4>(bytes, usize::MAX, cursor).unwrap_or(cursor);
+    let cursor = skip_block::<4>(bytes, NO_UNIT, cursor).unwrap_or(cursor);
     count_units_from(bytes, cursor)
 }
 
@@ -138,17 +140,17 @@ fn count_units(bytes: &[u8]) -> usize
 #[inline(never)]
 fn skip_all_blocks(bytes: &[u8]) -> UnitCursor
     requires { sum_utf16_len bytes.now < 2 ^ 64 }
-    ensures { IsCursor bytes.now usize.MAX result }
+    ensures { IsCursor bytes.now NO_UNIT result }
 {
-    let mut cursor = skip_summed_blocks(bytes, usize::MAX);
-    while let Some(next) = skip_block::<HALF_BLOCK>(bytes, usize::MAX, cursor) {
+    let mut cursor = skip_summed_blocks(bytes, NO_UNIT);
+    while let Some(next) = skip_block::<HALF_BLOCK>(bytes, NO_UNIT, cursor) {
         cursor = next;
     }
     cursor
 }
 
 fn count_units_from(bytes: &[u8], from: UnitCursor) -> usize
-    requires counted { IsCursor bytes.now usize.MAX from }
+    requires counted { IsCursor bytes.now NO_UNIT from }
     requires fits { sum_utf16_len bytes.now < 2 ^ 64 }
     ensures { result ≡ sum_utf16_len bytes.now }
 {

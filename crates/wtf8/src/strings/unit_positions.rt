@@ -14,10 +14,16 @@ use crate::strings::unit_counts::{
 use crate::strings::view::Wtf8;
 use std::simd::prelude::*;
 
-/// If the unit searched for is fewer than this many units ahead, it is probably among the next `VECTOR` bytes, and
-/// counting these does not pay. For `HALF_VECTOR` bytes the limit is half of this. With 1 in place of 11, `unit_at` of
-/// 40 ASCII units takes 102 instructions for 90; with 16, that of a marked text of CJK takes 484 for 419.
-const WORTH_COUNTING: usize = 11;
+/// If the unit searched for is fewer than this many units ahead, it is probably among the next `BLOCK` bytes, and
+/// counting these does not pay: a unit takes at most three bytes. Groups of blocks have `LEAST_UNITS_SUMMED`.
+const WORTH_BLOCK: usize = BLOCK / 3;
+
+/// The same for `VECTOR` bytes. With 1 in place of 11, `unit_at` of 40 ASCII units takes 102 instructions for 90; with
+/// 16, that of a marked text of CJK takes 484 for 419.
+const WORTH_VECTOR: usize = 11;
+
+/// The same for `HALF_VECTOR` bytes.
+const WORTH_HALF_VECTOR: usize = WORTH_VECTOR / 2;
 
 /// Skips bytes before the unit, in blocks from the start; `find_unit` goes on from there.
 #[inline(always)]
@@ -42,9 +48,9 @@ fn skip_blocks_of_long(bytes: &[u8], unit: usize) -> UnitCursor
     ensures { IsCursor bytes.now unit result }
 {
     let cursor = skip_summed_blocks(bytes, unit);
-    let cursor = skip_blocks_while_far::<BLOCK>(bytes, unit, BLOCK / 3, cursor);
-    let cursor = skip_blocks_while_far::<VECTOR>(bytes, unit, WORTH_COUNTING, cursor);
-    let cursor = skip_blocks_while_far::<HALF_VECTOR>(bytes, unit, WORTH_COUNTING / 2, cursor);
+    let cursor = skip_blocks_while_far::<BLOCK>(bytes, unit, WORTH_BLOCK, cursor);
+    let cursor = skip_blocks_while_far::<VECTOR>(bytes, unit, WORTH_VECTOR, cursor);
+    let cursor = skip_blocks_while_far::<HALF_VECTOR>(bytes, unit, WORTH_HALF_VECTOR, cursor);
     skip_ascii::<HALF_VECTOR>(bytes, unit, cursor).unwrap_or(cursor)
 }
 
@@ -171,7 +177,6 @@ fn unit_by_count(view: Wtf8<'_>, index: usize) -> Option<u16>
     Some(read_unit(view.bytes, &mut position))
 }
 
-/// Returns the unit at `index` if the string begins with a block of ASCII that contains it.
 #[inline(always)]
 fn unit_in_ascii_prefix(view: Wtf8<'_>, index: usize) -> Option<u16>
     ensures { IfSome result (λ unit. slice_get (view_units view.entry) index ≡ Some unit) }
@@ -184,7 +189,6 @@ fn unit_in_ascii_prefix(view: Wtf8<'_>, index: usize) -> Option<u16>
     }
 }
 
-/// Returns the unit at `index` if that is below `N` and the first `N` bytes are all ASCII.
 #[inline(always)]
 fn ascii_unit<const N: usize>(view: Wtf8<'_>, index: usize) -> Option<u16>
     requires lanes { N ≤ u64.BITS }

@@ -45,7 +45,6 @@ impl<'a> Wtf8<'a> {
         UnitSlice { trail, whole, lead }
     }
 
-    /// Returns the whole code points of the first `n` units, and the lead of a pair that `n` splits.
     fn first_units(self, n: usize) -> (Wtf8<'a>, Option<u16>)
         requires { n ≤ length (view_units self) }
         ensures units { view_units result.0 ++ option_to_list result.1 ≡ take n (view_units self.entry) }
@@ -60,7 +59,6 @@ impl<'a> Wtf8<'a> {
         (front, Some(encoding::read_lead(pair)))
     }
 
-    /// Returns the trail of a pair that `n` splits, and the whole code points after the first `n` units.
     fn units_after(self, n: usize) -> (Option<u16>, Wtf8<'a>)
         requires { n ≤ length (view_units self) }
         ensures units { option_to_list result.0 ++ view_units result.1 ≡ drop n (view_units self.entry) }

@@ -243,7 +243,6 @@ impl<'a> Wtf8<'a> {
         (text, Some(self.skip_bytes(position + 3)))
     }
 
-    /// Returns the lead surrogate that ends the string, if one does: bytes ED, A0 to AF, and a continuation byte.
     pub(crate) fn final_lead_surrogate(&self) -> Option<u32>
         ensures lead { IfSome result (λ l. IsLead l) }
         ensures last { IfSome result (λ l. (f : List ℕ) × (view_points self.now ≡ f ++ l ∷ [])) }
@@ -255,7 +254,6 @@ impl<'a> Wtf8<'a> {
         }
     }
 
-    /// Returns the trail surrogate that begins the string, if one does: bytes ED, B0 to BF, and a continuation byte.
     pub(crate) fn initial_trail_surrogate(self) -> Option<u32>
         ensures trail { IfSome result (λ t. IsTrail t) }
         ensures first { IfSome result (λ t. (r : List ℕ) × (view_points self.entry ≡ t ∷ r)) }

@@ -10,7 +10,6 @@ pub(crate) fn spare_capacity<A: Allocator>(bytes: &Vec<u8, A>) -> usize
     bytes.capacity() - bytes.len()
 }
 
-/// Reserves `count` bytes of spare capacity if `spare`, the present spare capacity, is not enough.
 #[inline(always)]
 pub(crate) fn reserve_if_short<A: Allocator>(
     bytes: &mut Vec<u8, A>,

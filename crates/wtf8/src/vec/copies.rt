@@ -23,7 +23,6 @@ pub(crate) fn to_vec_in<A: Allocator>(alloc: A, bytes: &[u8]) -> Result<Vec<u8, 
     Ok(copy)
 }
 
-/// Appends fewer than `SHORT_COPY_LIMIT` bytes within the spare capacity.
 #[inline(always)]
 fn push_short<A: Allocator>(bytes: &mut Vec<u8, A>, other: &[u8])
     requires few { length other.now < SHORT_COPY_LIMIT }

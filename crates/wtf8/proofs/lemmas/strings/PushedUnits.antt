@@ -10,7 +10,7 @@ use Rattle.wtf8.proofs.Common.{AreScalarTo, FrontsFit, IsKnownForm, IsReadTo, Ex
 use Rattle.std.specs.Prelude.{IfNone, OnOk, OnErr}
 use Rattle.std.specs.declared.vec.Vec.{Vec}
 use Rattle.wtf8.proofs.lemmas.codec.Encoding.{bytes-pushed, length-surrogate}
-use Rattle.wtf8.proofs.lemmas.codec.Readings.{MeetsAsPair-equal_lists, meets_by, same_form, same_reading, units_from_form, units_one}
+use Rattle.wtf8.proofs.lemmas.codec.Readings.{meets_by, same_form, same_reading, units_from_form, units_one}
 use Rattle.wtf8.proofs.lemmas.codec.Readings.{clean-append}
 use Rattle.wtf8.proofs.lemmas.codec.Readings.{IsWellFormed-equal_bytes, form-append, meets_or_not, unpaired-after_no_lead, units-append}
 use Rattle.wtf8.proofs.lemmas.strings.Concatenation.{form-glue, form_meeting, lead_last, length-paired_bytes, meeting_bytes, one_form}
@@ -25,16 +25,11 @@ first_unit : (v : List ℕ) → 0 < length v → take 1 v ≡ get_or v 0 0 ∷ [
 first_unit [] n = absurd (omega (arith, n))
 first_unit (x ∷ v) n = refl
 
--- a pair at the seam is one with the first unit
-MeetsAsPair-first_unit : (c v : List ℕ) (n : ℕ) → get_or v 0 0 ≡ n → MeetsAsPair c v → MeetsAsPair c (n ∷ [])
-MeetsAsPair-first_unit c v n e m = meets_by m.front [] m.lead m.trail m.is_lead m.is_trail m.ends
-    (ap (λ k. k ∷ []) (sym e ∙ ap (λ w. get_or w 0 0) m.begins))
-
--- the lead before a code point is the lead before units that begin with it, and equal bytes have the same
-pub lead_before_units : {w : List ℕ} (o : Option ℕ) {c : List ℕ} (v : List ℕ) {n : ℕ} (h : IsWellFormed w) → h.points ≡ c → get_or v 0 0 ≡ n
-    → IfNone o (¬ (MeetsAsPair c (n ∷ []))) → IfNone o (¬ (MeetsAsPair h.points v))
-lead_before_units (Some l) v h e first none = tt
-lead_before_units None {c} v {n} h e first none = λ m. none (MeetsAsPair-first_unit c v n first (MeetsAsPair-equal_lists m (sym e) refl))
+-- without a lead at the end no pair forms with units, and equal bytes have the same code points
+pub lead_before_units : {w : List ℕ} (o : Option ℕ) {c : List ℕ} (v : List ℕ) (h : IsWellFormed w) → h.points ≡ c
+    → IfNone o ((f : List ℕ) (l : ℕ) → IsLead l → c ≡ f ++ l ∷ [] → ⊥) → IfNone o (¬ (MeetsAsPair h.points v))
+lead_before_units (Some l) v h e none = tt
+lead_before_units None v h e none = λ m. none m.front m.lead m.is_lead (sym e ∙ m.ends)
 
 -- the pair of a lead at the end and the first unit
 pub completed_pair : {w : List ℕ} (o : Option ℕ) {l t : ℕ} (h : IsWellFormed w) → o ≡ Some l → IfSome o IsLead

@@ -1,5 +1,8 @@
 use Rattle.wtf8.proofs.Common.{rules}
 use Rattle.wtf8.proofs.strings.concat.push.Goals as goal
 
-pub returns-in-55296-to-57343-clause-scalar : goal.returns-in-55296-to-57343-clause-scalar
-returns-in-55296-to-57343-clause-scalar g c = search rules
+pub returns-then-surrogate-clause-scalar : goal.returns-then-surrogate-clause-scalar
+returns-then-surrogate-clause-scalar g c = search rules
+
+pub returns-else-surrogate-clause-scalar : goal.returns-else-surrogate-clause-scalar
+returns-else-surrogate-clause-scalar g c = search rules
