@@ -103,14 +103,18 @@ fn append_ascii_run<const N: usize, A: Allocator>(
     let count = ascii_run_len(block);
     let end = bytes.len() + count;
     bytes.extend_from_slice(&block.to_array())?;
+    if count == N {
+        // By a constant: the next load does not wait for the mask of this block.
+        return Ok(Progress {
+            at: from.at + N,
+            is_utf8: from.is_utf8,
+        });
+    }
+    bytes.truncate(end);
     let to = Progress {
         at: from.at + count,
         is_utf8: from.is_utf8,
     };
-    if count == N {
-        return Ok(to);
-    }
-    bytes.truncate(end);
     append_point(bytes, v, to)
 }
 
