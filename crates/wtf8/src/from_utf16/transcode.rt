@@ -6,7 +6,7 @@ ghost use Rattle.wtf8.specs.private.Prefixes.{IsKnownForm, IsReadTo, ReadsOn, Ha
 use crate::codec::code_point::CodePoint;
 use crate::codec::encoding;
 use crate::from_utf16::decode;
-use crate::from_utf16::kernel::{self, MIN_SPARE, Progress};
+use crate::from_utf16::kernel::{self, BLOCK_UNITS, MIN_SPARE, Progress};
 use crate::lanes::ascii::ascii_run_len;
 use crate::vec::capacity::spare_capacity;
 use std::alloc::{AllocError, Allocator};
@@ -126,7 +126,7 @@ fn append_next<const RUN: usize, const SCRATCH: usize, A: Allocator>(
     v: &[u16],
     from: Progress,
 ) -> Result<Progress, AllocError>
-    requires lanes { (SMALL_BLOCK ≤ RUN) × (RUN ≤ u64.BITS) }
+    requires lanes { (BLOCK_UNITS ≤ RUN) × (RUN ≤ u64.BITS) }
     requires room { (MIN_SPARE ≤ SCRATCH) × (SCRATCH < 2 ^ 16) }
     requires within { from.at + RUN ≤ length v.now }
     ensures order { IfOk result (λ to. (from.at < to.at) × (to.at ≤ length v.now)) }
@@ -164,7 +164,7 @@ fn append_small_block<A: Allocator>(
     if v[from.at] < 0x80 {
         return append_ascii_run::<SMALL_BLOCK, A>(bytes, v, from);
     }
-    kernel::append_blocks::<TAIL_SCRATCH_BYTES, A>(bytes, v, from)
+    append_point(bytes, v, from)
 }
 
 /// Appends the bytes of units from index `from.at` on, until fewer than `SMALL_BLOCK` are left. Returns how far units

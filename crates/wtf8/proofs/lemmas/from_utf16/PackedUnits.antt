@@ -147,31 +147,31 @@ Each1-take P (suc k) (x ∷ u) e = (e.0, Each1-take P k u e.1)
 pub and_assoc : (a b c : Bool) → ((a && b) && c) ≡ (a && (b && c))
 and_assoc a b c = grind (arith)
 
--- eight units of which the last is no lead, or the seven before a lead, are encoded by appending their pieces
+-- sixteen units of which the last is no lead, or the fifteen before a lead, are encoded by appending their pieces
 pub packed_units-read : (w kept : List ℕ) {bytes f u : List ℕ} {at : ℕ} {known more : Bool} (k : ℕ) → IsReadTo (w ++ kept) f u at known
-    → at + 8 ≤ length u → ((i : ℕ) → Fits w16 (get_or u i 0))
-    → (((k ≡ 8) × ¬ (IsLead (get_or (take 8 (drop at u)) 7 0))) ⊎ ((k ≡ 7) × IsLead (get_or (take 8 (drop at u)) 7 0)))
-    → (IsTrue more → Each1 IsUnit (tagged_block (take 8 (drop at u))))
-    → bytes ≡ kept ++ packed_units 0 (take k (tagged_block (take 8 (drop at u)))) → IsReadTo (w ++ bytes) f u (at + k) (known && more)
+    → at + 16 ≤ length u → ((i : ℕ) → Fits w16 (get_or u i 0))
+    → (((k ≡ 16) × ¬ (IsLead (get_or (take 16 (drop at u)) 15 0))) ⊎ ((k ≡ 15) × IsLead (get_or (take 16 (drop at u)) 15 0)))
+    → (IsTrue more → Each1 IsUnit (tagged_block (take 16 (drop at u))))
+    → bytes ≡ kept ++ packed_units 0 (take k (tagged_block (take 16 (drop at u)))) → IsReadTo (w ++ bytes) f u (at + k) (known && more)
 packed_units-read w kept {bytes} {f} {u} {at} {known} {more} k x within fits taken units e =
-    let eight = take 8 (drop at u) in
-    let own = take k eight in
-    let after = get_or eight k 0xDC00 in
-    let few : (0 < k) × (k ≤ 8) = grind (arith) in
-    let here : get_or eight 7 0 ≡ get_or u (at + 7) 0 = get_or-take 8 (drop at u) 7 0 (omega arith) ∙ get_or-drop at u 7 0 in
-    let whole : length eight ≡ 8 = length-chunk at 8 u within in
-    let next : drop (at + 7) u ≡ get_or u (at + 7) 0 ∷ drop (at + 7 + 1) u = drop_more u (at + 7) 0 (omega (arith, within)) in
-    let end : at + 8 ≡ at + 7 + 1 = omega arith in
+    let all = take 16 (drop at u) in
+    let own = take k all in
+    let after = get_or all k 0xDC00 in
+    let few : (0 < k) × (k ≤ 16) = grind (arith) in
+    let here : get_or all 15 0 ≡ get_or u (at + 15) 0 = get_or-take 16 (drop at u) 15 0 (omega arith) ∙ get_or-drop at u 15 0 in
+    let whole : length all ≡ 16 = length-chunk at 16 u within in
+    let next : drop (at + 15) u ≡ get_or u (at + 15) 0 ∷ drop (at + 15 + 1) u = drop_more u (at + 15) 0 (omega (arith, within)) in
+    let end : at + 16 ≡ at + 15 + 1 = omega arith in
     let divides : ¬ (DividesPair u (at + k)) = elim taken [
-      | inl t ↦ rw (t.0, end) (undivided-after_no_lead u (at + 7) (omega (arith, within)) (rw here at t.1))
+      | inl t ↦ rw (t.0, end) (undivided-after_no_lead u (at + 15) (omega (arith, within)) (rw here at t.1))
       | inr t ↦ rw (t.0, next) (unpaired-before_no_trail _ _ (λ l. omega (arith, here, t.1.1, l.0)))
     ] in
     let last : ¬ (IsLead (get_or (0 ∷ own) (length own) 0) × IsTrail after) = grind (arith, take_all, get_or_default_zero) in
-    let tags = take-tagged_units k 0 eight 0xDC00 in
-    let form = packed_units-form 0 own after more (Each1-take (Fits w16) k eight (chunk-fits w16 at 8 u fits)) (λ l. omega (arith, l.0.0))
-    last (λ t. subst (Each1 IsUnit) tags (Each1-take IsUnit k (tagged_block eight) (units t))) in
+    let tags = take-tagged_units k 0 all 0xDC00 in
+    let form = packed_units-form 0 own after more (Each1-take (Fits w16) k all (chunk-fits w16 at 16 u fits)) (λ l. omega (arith, l.0.0))
+    last (λ t. subst (Each1 IsUnit) tags (Each1-take IsUnit k (tagged_block all) (units t))) in
     let count : k ≡ at + k - at = omega arith in
-    let same : own ≡ take (at + k - at) (drop at u) = take-take k 8 (drop at u) few.1 ∙ ap (λ k. take k (drop at u)) count in
+    let same : own ≡ take (at + k - at) (drop at u) = take-take k 16 (drop at u) few.1 ∙ ap (λ k. take k (drop at u)) count in
     IsReadTo-append x (omega (arith, few)) (omega (arith, few, within)) divides
     (ap (λ v. w ++ v) (e ∙ ap (λ t. kept ++ packed_units 0 t) tags) ∙ sym (append_assoc w kept (packed_units 0 (tagged_units 0 own after))))
     (subst (λ v. IsKnownForm (packed_units 0 (tagged_units 0 own after)) v more) same form)

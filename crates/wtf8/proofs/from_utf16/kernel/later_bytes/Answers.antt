@@ -1,5 +1,6 @@
-use Rattle.wtf8.proofs.Common.{eqb-true}
+use Rattle.wtf8.proofs.Common.{arith, eqb-true}
 use Rattle.wtf8.proofs.lemmas.from_utf16.Kernel.{later_lanes, units-from_lone_mask}
+use Rattle.wtf8.proofs.lemmas.lanes.AsciiFronts.{by_all}
 use Rattle.wtf8.proofs.from_utf16.kernel.later_bytes.Goals as goal
 
 pub returns-clause-bytes : goal.returns-clause-bytes
@@ -8,3 +9,27 @@ returns-clause-bytes c = later_lanes c.scalar_second_bytes.result c.scalar_last_
 
 pub returns-clause-scalar : goal.returns-clause-scalar
 returns-clause-scalar c t = units-from_lone_mask c.args.units c.fits-units.0 c.fits-units.1 (eqb-true _ 0 t)
+
+pub nonzero_div-kinds : goal.nonzero_div-kinds
+nonzero_div-kinds c = by_all c.args.units 1024 (omega arith)
+
+pub nonzero_div-surrogates : goal.nonzero_div-surrogates
+nonzero_div-surrogates c = by_all c.args.units 2048 (omega arith)
+
+pub nonzero_rem-high : goal.nonzero_rem-high
+nonzero_rem-high c = by_all c.args.units 1024 (omega arith)
+
+pub nonzero_div-lead_firsts : goal.nonzero_div-lead_firsts
+nonzero_div-lead_firsts c = by_all _ 256 (omega arith)
+
+pub nonzero_div-lead_lasts : goal.nonzero_div-lead_lasts
+nonzero_div-lead_lasts c = by_all _ 4 (omega arith)
+
+pub nonzero_rem-lead_lasts : goal.nonzero_rem-lead_lasts
+nonzero_rem-lead_lasts c = by_all _ 64 (omega arith)
+
+pub nonzero_div-trail_firsts : goal.nonzero_div-trail_firsts
+nonzero_div-trail_firsts c = by_all c.args.units 64 (omega arith)
+
+pub nonzero_rem-trail_firsts : goal.nonzero_rem-trail_firsts
+nonzero_rem-trail_firsts c = by_all _ 16 (omega arith)
