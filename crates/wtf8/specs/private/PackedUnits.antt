@@ -27,6 +27,10 @@ first_byte n = 0xE0 + n / 4096 % 16
 abbrev pub scalar_second_byte : ℕ → ℕ
 scalar_second_byte n = (if nat_lt n 0x800 then 0xC0 else 0x80) + n / 64 % 64
 
+-- The first and the second of the three bytes of a unit that is no surrogate, as a number of two bytes.
+abbrev pub scalar_head : ℕ → ℕ
+scalar_head n = first_byte n + scalar_second_byte n * 256
+
 -- The last of the three bytes of a unit that is no surrogate.
 abbrev pub scalar_last_byte : ℕ → ℕ
 scalar_last_byte n = if nat_lt n 0x80 then n else 0x80 + n % 64
@@ -54,11 +58,14 @@ three_byte_bit n = if nat_lt n 0x800 then 0 else if nat_lt n 0xD800 then 1 else 
 abbrev pub byte_count : ℕ → ℕ
 byte_count n = (if nat_lt n 0x80 then 1 else 2) + three_byte_bit n
 
--- The second and the last bytes of the units, as if after a 0, and for each unit 0x8000 if it adds three bytes, else 0.
-pub record AreLaterBytes (u seconds lasts longs : List ℕ) : Type 0 where
-  pub second : seconds ≡ zip2 second_byte (0 ∷ u) u
-  pub last : lasts ≡ map last_byte u
-  pub long : longs ≡ map (λ n. three_byte_bit n * 0x8000) u
+-- 0x8000 if a unit that is no half of a pair adds three bytes, else 0.
+abbrev pub three_byte_flag : ℕ → ℕ
+three_byte_flag n = (if nat_lt n 0x800 then 0 else 1) * 0x8000
+
+-- The first and the second byte of each unit, as if after a 0; the last bytes, 0x8000 higher if the unit adds three bytes.
+pub record AreUnitBytes (u heads lasts : List ℕ) : Type 0 where
+  pub head : heads ≡ zip2 (λ before n. first_byte n + second_byte before n * 256) (0 ∷ u) u
+  pub last : lasts ≡ map (λ n. last_byte n + three_byte_bit n * 0x8000) u
 
 -- The bytes that the unit `n` adds after the unit `before`.
 abbrev pub packed_unit : ℕ → ℕ → List ℕ
@@ -69,10 +76,10 @@ abbrev pub packed_units : ℕ → List ℕ → List ℕ
 packed_units before [] = []
 packed_units before (n ∷ u) = packed_unit before n ++ packed_units n u
 
--- The three bytes of each of the units after `before`, and a 0 behind them.
+-- The three bytes of each of the units after `before`, and behind them 0x80 if it adds three bytes, else 0.
 abbrev pub byte_lanes : ℕ → List ℕ → List ℕ
 byte_lanes before [] = []
-byte_lanes before (n ∷ u) = first_byte n ∷ second_byte before n ∷ last_byte n ∷ 0 ∷ byte_lanes n u
+byte_lanes before (n ∷ u) = first_byte n ∷ second_byte before n ∷ last_byte n ∷ (three_byte_bit n * 0x80) ∷ byte_lanes n u
 
 -- The table index for some lengths: bit `2 * k` is set if length `k` is above one, bit `2 * k + 1` if it is three.
 abbrev pub table_index : List ℕ → ℕ

@@ -1,29 +1,26 @@
 // Kernel that encodes sixteen code units at a time, of any kinds. Unit k has three candidate bytes, fk, sk and lk, and
 // takes the last one, two or three of them: two if it is a lead or a trail of a pair, half of the pair's four bytes. A
-// lone surrogate takes three, by the same formulas as any other unit from 0800 on. The 16-bit lanes, from lane 0 on:
+// lone surrogate takes three, by the same formulas as any other unit from 0800 on. Unit k's lanes of 16 bits, where tk
+// is 0x80 if it takes three bytes, else 0:
 //
-//     heads                                  f0 + 256 * s0, f1 + 256 * s1, .. f15 + 256 * s15
-//     last bytes                             l0 l1 .. l15
+//     heads    fk + 256 * sk
+//     lasts    lk + 256 * tk
 //
-// Both are interleaved, so that each unit's bytes stand in four lanes of 8 bits, the fourth of which is 0. The lanes of
-// units 0 to 3, by FIRST_QUARTER; those of the next three quarters are alike:
+// Both are interleaved, four units at a time. The lanes of 8 bits of units 0 to 3, by FIRST_QUARTER:
 //
-//     f0 s0 l0 0  f1 s1 l1 0  f2 s2 l2 0  f3 s3 l3 0
+//     f0 s0 l0 t0  f1 s1 l1 t1  f2 s2 l2 t2  f3 s3 l3 t3
 //
-// With mk set if unit k takes more than one byte, and tk if it takes three, the flags as lanes of 8 bits:
-//
-//     m0 t0  m1 t1  m2 t2  m3 t3  ..  m15 t15
-//
-// The mask of these lanes, with lane 0 as its lowest bit, is the index in `SHUFFLES` for units 0-3, plus 256 times that
-// for units 4-7, and so on. A row is a shuffle that packs the bytes to be written: 4, and one more for each set bit of
-// its index.
+// The last byte of a unit is 0x80 or more if the unit takes more than one byte. So the mask of the high bits of `lasts`,
+// with lane 0 as its lowest bit, has two bits for each unit: whether it takes more than one byte, and whether it takes
+// three. It is the index in `SHUFFLES` for units 0-3, plus 256 times that for units 4-7, and so on. A row is a shuffle
+// that packs the bytes to be written: 4, and one more for each set bit of its index.
 #![tactic(auto)]
 
-ghost use Rattle.std.specs.Prelude.{◌≡◌, ◌⊎◌, ℕ, List, Bool, ◌&&◌, ◌+◌, ◌-◌, ◌*◌, ◌%◌, ◌/◌, ◌^◌, ◌<◌, ◌≤◌, ◌++◌, length, map, take, slice_index_or, vec_capacity, IfOk, IsOk, IsTrue, nat_lt, if◌then◌else◌};
+ghost use Rattle.std.specs.Prelude.{◌≡◌, ◌⊎◌, ℕ, List, Bool, ◌&&◌, ◌+◌, ◌-◌, ◌*◌, ◌%◌, ◌/◌, ◌^◌, ◌<◌, ◌≤◌, ◌++◌, length, map, take, slice_index_or, vec_capacity, IfOk, IsOk, IsTrue};
 ghost use lib.Lanes.{Each1};
 ghost use Rattle.wtf8.specs.Unicode.{IsLead, IsUnit};
-ghost use Rattle.wtf8.specs.private.Prefixes.{AreScalarUnits, HasRoomFrom, ReadsOn};
-ghost use Rattle.wtf8.specs.private.PackedUnits.{tagged_block, first_byte, scalar_second_byte, scalar_last_byte, byte_lanes, units_table_index, AreLaterBytes, packed_units};
+ghost use Rattle.wtf8.specs.private.Prefixes.{AreScalarUnits, HasRoomFrom, IsKnownForm, ReadsOn};
+ghost use Rattle.wtf8.specs.private.PackedUnits.{tagged_units, tagged_block, scalar_head, scalar_last_byte, three_byte_flag, byte_lanes, units_table_index, AreUnitBytes, packed_units};
 
 use crate::codec::surrogates::{FIRST_LEAD, FIRST_TRAIL, SURROGATES_PER_HALF};
 use crate::from_utf16::shuffle_table;
@@ -32,6 +29,9 @@ use std::simd::prelude::*;
 
 /// The number of units that are encoded together: the 16-bit lanes of a vector of 32 bytes, or of two of 16.
 pub(crate) const BLOCK_UNITS: usize = 16;
+
+/// The least number of the last units, fewer than a block, that are encoded as one.
+pub(crate) const LAST_UNITS: usize = 5;
 
 /// The bytes that must be left in the scratch buffer for a block: at most 12 for each of three quarters, then a store of
 /// 16.
@@ -71,13 +71,11 @@ pub(crate) struct Progress {
     pub(crate) is_utf8: bool,
 }
 
-/// Second and last bytes of a block's units, for each 0x8000 if it takes three bytes, else 0, and whether none of them
-/// is a lone surrogate.
+/// Heads and lasts of a block's units, and whether none of these is a lone surrogate.
 #[derive(Clone, Copy)]
-struct LaterBytes {
-    seconds: u16x16,
+struct UnitBytes {
+    heads: u16x16,
     lasts: u16x16,
-    three_byte_flags: u16x16,
     is_utf8: bool,
 }
 
@@ -101,66 +99,59 @@ fn are_scalar(units: u16x16) -> bool
         == 0
 }
 
-/// The lead byte of a three-byte encoding, for each unit. Not used if a unit takes fewer than three bytes.
+/// For each unit that is no half of a pair the first of three bytes, not used if it takes fewer, plus 256 times the
+/// second of three bytes or the first of two, not used for ASCII.
 #[inline(always)]
-fn first_bytes(units: u16x16) -> u16x16
-    ensures { result ≡ map first_byte units }
+fn scalar_heads(units: u16x16) -> u16x16
+    ensures { result ≡ map scalar_head units }
 {
-    u16x16::splat(0xE0) + units / u16x16::splat(4096)
-}
-
-/// The second of three bytes or the lead byte of two, for each unit that is no half of a pair. Not used for ASCII.
-#[inline(always)]
-fn scalar_second_bytes(units: u16x16) -> u16x16
-    ensures { result ≡ map scalar_second_byte units }
-{
-    let prefix = units
+    let prefixes = units
         .simd_lt(u16x16::splat(0x800))
-        .select(u16x16::splat(0xC0), u16x16::splat(0x80));
+        .select(u16x16::splat(0xC0E0), u16x16::splat(0x80E0));
     let middle = units / u16x16::splat(64) % u16x16::splat(64);
-    prefix + middle
+    prefixes + units / u16x16::splat(4096) + middle * u16x16::splat(256)
 }
 
-/// The last byte of each unit's encoding, for the trail of a pair that of the pair. Not used for the leads of pairs.
+/// The last byte of each unit's encoding, for the trail of a pair that of the pair. Not used for the leads of pairs. A
+/// unit below 0x80 is the lesser of the two.
 #[inline(always)]
-fn scalar_last_bytes(units: u16x16) -> u16x16
+fn scalar_lasts(units: u16x16) -> u16x16
     ensures { result ≡ map scalar_last_byte units }
 {
-    let low = u16x16::splat(0x80) + units % u16x16::splat(64);
-    units.simd_lt(u16x16::splat(0x80)).select(units, low)
+    units.simd_min(u16x16::splat(0x80) + units % u16x16::splat(64))
 }
 
-/// `flag` in each lane whose unit is at least `least`, else 0.
+/// 0x8000 in each lane whose unit takes three bytes if it is no half of a pair, else 0.
 #[inline(always)]
-fn flags_from(units: u16x16, least: u16, flag: u16) -> u16x16
-    ensures { result ≡ map (λ n. (if nat_lt n least then 0 else 1) * flag) units }
+fn scalar_flags(units: u16x16) -> u16x16
+    ensures { result ≡ map three_byte_flag units }
 {
     units
-        .simd_lt(u16x16::splat(least))
-        .select(u16x16::splat(0), u16x16::splat(flag))
+        .simd_lt(u16x16::splat(0x800))
+        .select(u16x16::splat(0), u16x16::splat(0x8000))
 }
 
-/// The later bytes of a block without a surrogate: cheaper than `later_bytes`.
+/// The bytes of a block without a surrogate: cheaper than `unit_bytes`.
 #[inline(always)]
-fn scalar_later_bytes(units: u16x16) -> LaterBytes
+fn scalar_unit_bytes(units: u16x16) -> UnitBytes
     requires { AreScalarUnits units }
-    ensures bytes { AreLaterBytes (tagged_block units) result.seconds result.lasts result.three_byte_flags }
+    ensures bytes { AreUnitBytes (tagged_block units) result.heads result.lasts }
     ensures scalar { Each1 IsUnit (tagged_block units) }
 {
-    LaterBytes {
-        seconds: scalar_second_bytes(units),
-        lasts: scalar_last_bytes(units),
-        three_byte_flags: flags_from(units, 0x800, 0x8000),
+    UnitBytes {
+        heads: scalar_heads(units),
+        lasts: scalar_lasts(units) + scalar_flags(units),
         is_utf8: true,
     }
 }
 
-/// The later bytes of any block. The second and last bytes of a pair's lead are the first two of the pair's four
-/// bytes, those of its trail the other two, the first with bits of the lead too. All other units, lone surrogates too,
-/// have the bytes of scalar values. A lead in the last lane counts as a pair's: the next block encodes it.
+/// The bytes of any block. The second and last bytes of a pair's lead are the first two of the pair's four bytes, those
+/// of its trail the other two, the first with bits of the lead too; their first ones, ED, are not used. All other units,
+/// lone surrogates too, have the bytes of scalar values. A lead in the last lane counts as a pair's: the next block
+/// encodes it.
 #[inline(always)]
-fn later_bytes(units: u16x16) -> LaterBytes
-    ensures bytes { AreLaterBytes (tagged_block units) result.seconds result.lasts result.three_byte_flags }
+fn unit_bytes(units: u16x16) -> UnitBytes
+    ensures bytes { AreUnitBytes (tagged_block units) result.heads result.lasts }
     ensures scalar { IsTrue result.is_utf8 → Each1 IsUnit (tagged_block units) }
 {
     let kinds = units / u16x16::splat(SURROGATES_PER_HALF);
@@ -175,18 +166,17 @@ fn later_bytes(units: u16x16) -> LaterBytes
         FIRST_LEAD / (2 * SURROGATES_PER_HALF),
     ));
     let high = units % u16x16::splat(SURROGATES_PER_HALF) + u16x16::splat(64);
-    let lead_firsts = u16x16::splat(0xF0) + high / u16x16::splat(256);
+    let lead_heads = u16x16::splat(0xF0ED) + high / u16x16::splat(256) * u16x16::splat(256);
     let lead_lasts = u16x16::splat(0x80) + high / u16x16::splat(4) % u16x16::splat(64);
     let before = units.shuffle(u16x16::splat(0), LANES_BEFORE);
-    let low_bits = before % u16x16::splat(4) * u16x16::splat(16);
-    let trail_firsts = u16x16::splat(0x80)
-        + low_bits
-        + units / u16x16::splat(64) % u16x16::splat(16);
-    let no_lead = pair_trails.select(trail_firsts, scalar_second_bytes(units));
-    LaterBytes {
-        seconds: pair_leads.select(lead_firsts, no_lead),
-        lasts: pair_leads.select(lead_lasts, scalar_last_bytes(units)),
-        three_byte_flags: halves.select(u16x16::splat(0), flags_from(units, 0x800, 0x8000)),
+    let low_bits = before % u16x16::splat(4) * u16x16::splat(4096);
+    let high_bits = units / u16x16::splat(64) % u16x16::splat(16) * u16x16::splat(256);
+    let trail_heads = u16x16::splat(0x80ED) + low_bits + high_bits;
+    let no_lead = pair_trails.select(trail_heads, scalar_heads(units));
+    let flags = halves.select(u16x16::splat(0), scalar_flags(units));
+    UnitBytes {
+        heads: pair_leads.select(lead_heads, no_lead),
+        lasts: pair_leads.select(lead_lasts, scalar_lasts(units)) + flags,
         is_utf8: (surrogates ^ halves).to_bitmask() == 0,
     }
 }
@@ -207,19 +197,18 @@ fn pack_four(lanes: u8x16, number: usize, scratch: &mut [u8], len: usize) -> usi
 
 /// Packs the bytes of a block at index `len` of a scratch buffer. Returns the index after them.
 #[inline(always)]
-fn pack_block(units: u16x16, later: LaterBytes, scratch: &mut [u8], len: usize) -> usize
+fn pack_block(units: u16x16, from: UnitBytes, scratch: &mut [u8], len: usize) -> usize
     requires room { len + MIN_SPARE ≤ length scratch.old }
-    requires later { AreLaterBytes (tagged_block units) later.seconds later.lasts later.three_byte_flags }
+    requires from { AreUnitBytes (tagged_block units) from.heads from.lasts }
     ensures order { (len ≤ result) × (result ≤ len + MAX_BLOCK_BYTES) }
     ensures bytes { take result scratch.new ≡ take len scratch.old ++ packed_units 0 (tagged_block units) }
 {
-    let heads = first_bytes(units) + later.seconds * u16x16::splat(256);
-    let flags = flags_from(units, 0x80, 0x80) + later.three_byte_flags;
-    let rows = flags.to_le_bytes().simd_ge(u8x32::splat(0x80)).to_bitmask() as usize;
-    let first: u16x8 = heads.shuffle(later.lasts, FIRST_QUARTER);
-    let second: u16x8 = heads.shuffle(later.lasts, SECOND_QUARTER);
-    let third: u16x8 = heads.shuffle(later.lasts, THIRD_QUARTER);
-    let fourth: u16x8 = heads.shuffle(later.lasts, FOURTH_QUARTER);
+    let first: u16x8 = from.heads.shuffle(from.lasts, FIRST_QUARTER);
+    let second: u16x8 = from.heads.shuffle(from.lasts, SECOND_QUARTER);
+    let third: u16x8 = from.heads.shuffle(from.lasts, THIRD_QUARTER);
+    let fourth: u16x8 = from.heads.shuffle(from.lasts, FOURTH_QUARTER);
+    let high_bits = from.lasts.to_le_bytes().simd_ge(u8x32::splat(0x80));
+    let rows = high_bits.to_bitmask() as usize;
     let len = pack_four(first.to_le_bytes(), rows % 256, scratch, len);
     let len = pack_four(second.to_le_bytes(), rows / 256 % 256, scratch, len);
     let len = pack_four(third.to_le_bytes(), rows / 65536 % 256, scratch, len);
@@ -238,16 +227,16 @@ fn write_block(units: u16x16, scratch: &mut [u8], len: usize) -> Written
     ensures scalar { IsTrue result.is_utf8 → Each1 IsUnit (tagged_block units) }
 {
     if are_scalar(units) {
-        let later = scalar_later_bytes(units);
+        let bytes = scalar_unit_bytes(units);
         return Written {
             units: BLOCK_UNITS,
-            end: pack_block(units, later, scratch, len),
+            end: pack_block(units, bytes, scratch, len),
             is_utf8: true,
         };
     }
-    let later = later_bytes(units);
-    let end = pack_block(units, later, scratch, len);
-    let is_utf8 = later.is_utf8;
+    let bytes = unit_bytes(units);
+    let end = pack_block(units, bytes, scratch, len);
+    let is_utf8 = bytes.is_utf8;
     if units.to_array()[BLOCK_UNITS - 1] / SURROGATES_PER_HALF == LEAD_KIND {
         return Written {
             units: BLOCK_UNITS - 1,
@@ -262,11 +251,29 @@ fn write_block(units: u16x16, scratch: &mut [u8], len: usize) -> Written
     }
 }
 
+/// Encodes units, fewer than a block, at index `len` of a scratch buffer: as a block with zeros behind them. A lead before
+/// these is lone, and each of them takes one byte, a zero, which is left out. Returns the index after their bytes, and
+/// whether no unit is a lone surrogate.
+#[inline(always)]
+fn write_last_block(units: &[u16], scratch: &mut [u8], len: usize) -> (usize, bool)
+    requires few { length units.now < BLOCK_UNITS }
+    requires room { len + MIN_SPARE ≤ length scratch.old }
+    ensures within { result.0 ≤ len + MAX_BLOCK_BYTES }
+    ensures bytes { take result.0 scratch.new ≡ take len scratch.old ++ packed_units 0 (tagged_units 0 units.now 0) }
+    ensures form { IsKnownForm (packed_units 0 (tagged_units 0 units.now 0)) units.now result.1 }
+{
+    let mut block = [0; BLOCK_UNITS];
+    block[..units.len()].copy_from_slice(units);
+    let written = write_block(u16x16::from_array(block), scratch, len);
+    (written.end - (BLOCK_UNITS - units.len()), written.is_utf8)
+}
+
 /// Encodes units from index `at` on into a scratch buffer: the number of blocks that has units and room whatever the
-/// units are, so that no turn compares either. Returns the number of bytes, and how far units are encoded.
+/// units are, so that no turn compares either, then `LAST_UNITS` or more that are left at the end. Returns the number of
+/// bytes, and how far units are encoded.
 #[inline(always)]
 fn write_blocks(v: &[u16], at: usize, scratch: &mut [u8]) -> (usize, Progress)
-    requires units { at + BLOCK_UNITS ≤ length v.now }
+    requires units { at + LAST_UNITS ≤ length v.now }
     requires room { MIN_SPARE ≤ length scratch.old }
     ensures order { at < result.1.at }
     ensures within { result.0 ≤ length scratch.new }
@@ -283,11 +290,20 @@ fn write_blocks(v: &[u16], at: usize, scratch: &mut [u8]) -> (usize, Progress)
         to.at += written.units;
         to.is_utf8 &= written.is_utf8;
     }
+    let left = v.len() - to.at;
+    if LAST_UNITS <= left && left < BLOCK_UNITS && len + MIN_SPARE <= scratch.len() {
+        let (end, is_utf8) = write_last_block(&v[to.at..], scratch, len);
+        let all = Progress {
+            at: v.len(),
+            is_utf8: to.is_utf8 & is_utf8,
+        };
+        return (end, all);
+    }
     (len, to)
 }
 
 /// Appends the bytes of units from index `from.at` on, through a scratch buffer of `SCRATCH` bytes: a block at a time,
-/// until fewer than sixteen units are left or ASCII follows a full buffer. A full buffer is appended and filled again,
+/// until fewer than `LAST_UNITS` are left or ASCII follows a full buffer. A full buffer is appended and filled again,
 /// without being zeroed anew. Returns how far units are encoded.
 #[inline(always)]
 pub(crate) fn append_blocks<const SCRATCH: usize, A: Allocator>(
@@ -296,7 +312,7 @@ pub(crate) fn append_blocks<const SCRATCH: usize, A: Allocator>(
     from: Progress,
 ) -> Result<Progress, AllocError>
     requires room { (MIN_SPARE ≤ SCRATCH) × (SCRATCH < 2 ^ 16) }
-    requires within { from.at + BLOCK_UNITS ≤ length v.now }
+    requires within { from.at + LAST_UNITS ≤ length v.now }
     ensures order { IfOk result (λ to. (from.at < to.at) × (to.at ≤ length v.now)) }
     ensures read { IfOk result (λ to. ReadsOn bytes.old.items bytes.new.items v.now from.at from.is_utf8 to.at to.is_utf8) }
     ensures begins { take (length bytes.old.items) bytes.new.items ≡ bytes.old.items }
@@ -311,7 +327,7 @@ pub(crate) fn append_blocks<const SCRATCH: usize, A: Allocator>(
         bytes.extend_from_slice(&scratch[..len])?;
         read.at = to.at;
         read.is_utf8 &= to.is_utf8;
-        if v.len() - read.at < BLOCK_UNITS || v[read.at] < 0x80 {
+        if v.len() - read.at < LAST_UNITS || v[read.at] < 0x80 {
             return Ok(read);
         }
     }

@@ -8,10 +8,10 @@ use lib.Lanes.{pick_l, digits_l, number_l}
 use Rattle.std.specs.Prelude.{nat_lt, if◌then◌else◌, bit_xor}
 use Rattle.std.proofs.lemmas.List.{take-map, drop-map, get_or-take}
 use Rattle.std.proofs.lemmas.Simd.{get_or-swz_l_below}
-use Rattle.wtf8.specs.private.PackedUnits.{first_byte, scalar_second_byte, second_byte, scalar_last_byte, last_byte}
+use Rattle.wtf8.specs.private.PackedUnits.{first_byte, second_byte, scalar_last_byte, last_byte, scalar_head, three_byte_flag}
 use Rattle.wtf8.specs.private.PackedUnits.{three_byte_bit, byte_count, byte_lanes, units_table_index, source_lanes}
-use Rattle.wtf8.specs.private.PackedUnits.{IsByteCount, packed_unit, packed_units, tagged, tagged_units, tagged_block, AreLaterBytes}
-use Rattle.wtf8.proofs.lemmas.from_utf16.PackedUnits.{packed_unit-lead, IsTag, IsTag-tagged, tagged-scalar, tagged-lead_before_trail}
+use Rattle.wtf8.specs.private.PackedUnits.{IsByteCount, packed_unit, packed_units, tagged, tagged_units, tagged_block, AreUnitBytes}
+use Rattle.wtf8.proofs.lemmas.from_utf16.PackedUnits.{packed_unit-lead, IsTag, IsTag-tagged, tagged-scalar, tagged-lead_before_trail, length-tagged_units}
 use Rattle.std.proofs.Math.Seq.{take-append_seam}
 
 -- Sixteen lanes as an explicit list, and facts that hold lane by lane.
@@ -32,15 +32,6 @@ map_lanes : {f g : ℕ → ℕ} (lanes : List ℕ → List ℕ) → ((x : ℕ) �
 map_lanes {f} {g} lanes h e u l fits = of_sixteen (λ u. Each1 (Fits w16) u → lanes u ≡ map g u) u l
     (λ s. e u ∙ map-same (Fits w16) f g h (sixteen_lanes u) s) fits
 
--- a computation that is the same on a unit and on the tagged unit
-pub map-tagged : (f : ℕ → ℕ) → ((x t : ℕ) → IsTag x t → f x ≡ f t) → (b : ℕ) (u : List ℕ) (a : ℕ) → map f u ≡ map f (tagged_units b u a)
-map-tagged f h b [] a = refl
-map-tagged f h b (x ∷ u) a = λ i. h x (tagged b x (get_or u 0 a)) (IsTag-tagged b x (get_or u 0 a)) i ∷ map-tagged f h x u a i
-
-length-tagged_units : (b : ℕ) (u : List ℕ) (a : ℕ) → length (tagged_units b u a) ≡ length u
-length-tagged_units b [] a = refl
-length-tagged_units b (x ∷ u) a = ap suc (length-tagged_units x u a)
-
 pub length-tagged_block : (u : List ℕ) → length u ≡ 16 → length (tagged_block u) ≡ 16
 length-tagged_block u l = length-tagged_units 0 u 0xDC00 ∙ l
 
@@ -56,48 +47,48 @@ lanes_div k u = zip2 (λ a b. a / b) u (replicate 16 k)
 abbrev lanes_rem : ℕ → List ℕ → List ℕ
 lanes_rem k u = zip2 (λ a b. a % b) u (replicate 16 k)
 
+abbrev lanes_mul : ℕ → List ℕ → List ℕ
+lanes_mul k u = zip2 (λ a b. a * b % 65536) u (replicate 16 k)
+
 -- The three candidate bytes of scalar values.
 
-abbrev first_byte_lanes : List ℕ → List ℕ
-first_byte_lanes u = lanes_add (replicate 16 0xE0) (lanes_div 4096 u)
+abbrev scalar_head_lanes : List ℕ → List ℕ
+scalar_head_lanes u = lanes_add (lanes_add (select_by ltb 0x800 u (replicate 16 0xC0E0) (replicate 16 0x80E0)) (lanes_div 4096 u))
+    (lanes_mul 256 (lanes_rem 64 (lanes_div 64 u)))
 
-pub first_byte_lanes-map : (u : List ℕ) → length u ≡ 16 → Each1 (Fits w16) u → first_byte_lanes u ≡ map first_byte u
-first_byte_lanes-map = map_lanes first_byte_lanes lane (λ u. refl)
+pub scalar_head_lanes-map : (u : List ℕ) → length u ≡ 16 → Each1 (Fits w16) u → scalar_head_lanes u ≡ map scalar_head u
+scalar_head_lanes-map = map_lanes scalar_head_lanes lane (λ u. refl)
   where
-    lane : (x : ℕ) → Fits w16 x → (0xE0 + x / 4096) % 65536 ≡ first_byte x
-    lane x h = omega (arith, h.fits)
+    lane : (x : ℕ) → Fits w16 x → ((cond (top 15 (cond (ltb x 0x800) 0xFFFF 0)) 0xC0E0 0x80E0 + x / 4096) % 65536
+        + x / 64 % 64 * 256 % 65536) % 65536 ≡ scalar_head x
+    lane x h = elim (cases_lt x 0x800) [
+      | inl l ↦ rw (lt-ltb x 0x800 l) (omega (arith, h.fits))
+      | inr g ↦ rw (le-ltb x 0x800 g) (omega (arith, h.fits))
+    ]
 
-pub first_byte-tagged : (x t : ℕ) → IsTag x t → first_byte x ≡ first_byte t
-first_byte-tagged x t k = elim k [ inl e ↦ ap first_byte (sym e) | inr e ↦ omega (arith, e.0) ]
+abbrev scalar_last_lanes : List ℕ → List ℕ
+scalar_last_lanes u =
+    let low = lanes_add (replicate 16 0x80) (lanes_rem 64 u) in
+    sel_l (map (top 15) (zip2 (λ a b. cond (ltb a b) 0xFFFF 0) u low)) u low
 
-abbrev scalar_second_byte_lanes : List ℕ → List ℕ
-scalar_second_byte_lanes u = lanes_add (select_by ltb 0x800 u (replicate 16 0xC0) (replicate 16 0x80)) (lanes_rem 64 (lanes_div 64 u))
-
-pub scalar_second_byte_lanes-map : (u : List ℕ) → length u ≡ 16 → Each1 (Fits w16) u → scalar_second_byte_lanes u ≡ map scalar_second_byte u
-scalar_second_byte_lanes-map = map_lanes scalar_second_byte_lanes lane (λ u. refl)
+pub scalar_last_lanes-map : (u : List ℕ) → length u ≡ 16 → Each1 (Fits w16) u → scalar_last_lanes u ≡ map scalar_last_byte u
+scalar_last_lanes-map = map_lanes scalar_last_lanes lane (λ u. refl)
   where
-    lane : (x : ℕ) → Fits w16 x
-        → (cond (top 15 (cond (ltb x 0x800) 0xFFFF 0)) 0xC0 0x80 + x / 64 % 64) % 65536 ≡ scalar_second_byte x
-    lane x h = grind (arith, cases_lt, lt-ltb, le-ltb)
+    lane : (x : ℕ) → Fits w16 x → let low = (0x80 + x % 64) % 65536 in cond (top 15 (cond (ltb x low) 0xFFFF 0)) x low ≡ scalar_last_byte x
+    lane x h = elim (cases_lt x 0x80) [
+      | inl l ↦ rw (lt-ltb x 0x80 l, lt-ltb x ((0x80 + x % 64) % 65536) (omega (arith, l))) refl
+      | inr g ↦ elim (cases_lt x ((0x80 + x % 64) % 65536)) [
+        | inl l ↦ absurd (omega (arith, g, l))
+        | inr m ↦ rw (le-ltb x 0x80 g, le-ltb x ((0x80 + x % 64) % 65536) m) (omega arith)
+      ]
+    ]
 
-abbrev scalar_last_byte_lanes : List ℕ → List ℕ
-scalar_last_byte_lanes u = select_by ltb 0x80 u u (lanes_add (replicate 16 0x80) (lanes_rem 64 u))
-
-pub scalar_last_byte_lanes-map : (u : List ℕ) → length u ≡ 16 → Each1 (Fits w16) u → scalar_last_byte_lanes u ≡ map scalar_last_byte u
-scalar_last_byte_lanes-map = map_lanes scalar_last_byte_lanes lane (λ u. refl)
+pub scalar_flag_lanes-map : (u : List ℕ) → length u ≡ 16 → Each1 (Fits w16) u
+    → select_by ltb 0x800 u (replicate 16 0) (replicate 16 0x8000) ≡ map three_byte_flag u
+scalar_flag_lanes-map = map_lanes (λ u. select_by ltb 0x800 u (replicate 16 0) (replicate 16 0x8000)) lane (λ u. refl)
   where
-    lane : (x : ℕ) → Fits w16 x → cond (top 15 (cond (ltb x 0x80) 0xFFFF 0)) x ((0x80 + x % 64) % 65536) ≡ scalar_last_byte x
-    lane x h = elim (cases_lt x 0x80) [ inl l ↦ rw (lt-ltb x 0x80 l) refl | inr g ↦ rw (le-ltb x 0x80 g) (omega arith) ]
-
-abbrev flag_from : ℕ → ℕ → ℕ → ℕ
-flag_from k flag n = (if nat_lt n k then 0 else 1) * flag
-
-pub flag_lanes-map : (k flag : ℕ) (u : List ℕ) → length u ≡ 16 → Each1 (Fits w16) u
-    → select_by ltb k u (replicate 16 0) (replicate 16 flag) ≡ map (flag_from k flag) u
-flag_lanes-map k flag = map_lanes (λ u. select_by ltb k u (replicate 16 0) (replicate 16 flag)) lane (λ u. refl)
-  where
-    lane : (x : ℕ) → Fits w16 x → cond (top 15 (cond (ltb x k) 0xFFFF 0)) 0 flag ≡ flag_from k flag x
-    lane x h = grind (arith, cases_lt, lt-ltb, le-ltb)
+    lane : (x : ℕ) → Fits w16 x → cond (top 15 (cond (ltb x 0x800) 0xFFFF 0)) 0 0x8000 ≡ three_byte_flag x
+    lane x h = elim (cases_lt x 0x800) [ inl l ↦ rw (lt-ltb x 0x800 l) refl | inr g ↦ rw (le-ltb x 0x800 g) refl ]
 
 -- Units that may be surrogates: what is computed from the unit `x` and its neighbours is computed of `x` tagged as `t`.
 
@@ -126,20 +117,21 @@ lanes_by f b [] a = []
 lanes_by f b (x ∷ u) a = f (both_kinds x 54 (get_or u 0 a) 55) (both_kinds x 55 b 54) b x ∷ lanes_by f x u a
 
 lanes_by-tagged : (f : ℕ → ℕ → ℕ → ℕ → ℕ) (g : ℕ → ℕ → ℕ)
-    → ((b d x t : ℕ) → IsTag b d → IsTag x t → f (lead_mask t) (trail_mask t) b x ≡ g d t) → (b d : ℕ) (u : List ℕ) (a : ℕ) → IsTag b d
+    → ((b d x t : ℕ) → IsTag b d → IsTag x t → x < 0x10000 → f (lead_mask t) (trail_mask t) b x ≡ g d t)
+    → (b d : ℕ) (u : List ℕ) (a : ℕ) → IsTag b d → Each1 (Fits w16) u
     → lanes_by f b u a ≡ zip2 g (d ∷ tagged_units b u a) (tagged_units b u a)
-lanes_by-tagged f g h b d [] a k = refl
-lanes_by-tagged f g h b d (x ∷ u) a k =
+lanes_by-tagged f g h b d [] a k fits = refl
+lanes_by-tagged f g h b d (x ∷ u) a k fits =
     let n = get_or u 0 a in
     let tag = IsTag-tagged b x n in
     let here : f (both_kinds x 54 n 55) (both_kinds x 55 b 54) b x ≡ g d (tagged b x n) =
-    rw (both_kinds-lead b x n, both_kinds-trail b x n) (h b d x (tagged b x n) k tag) in
-    λ i. here i ∷ lanes_by-tagged f g h x (tagged b x n) u a tag i
+    rw (both_kinds-lead b x n, both_kinds-trail b x n) (h b d x (tagged b x n) k tag fits.0.fits) in
+    λ i. here i ∷ lanes_by-tagged f g h x (tagged b x n) u a tag fits.1 i
 
 abbrev lanes_of_kind : ℕ → List ℕ → List ℕ
 lanes_of_kind k kinds = zip2 (λ a b. cond (eqb a b) 0xFFFF 0) kinds (replicate 16 k)
 
-abbrev before_lanes : List ℕ → List ℕ
+abbrev pub before_lanes : List ℕ → List ℕ
 before_lanes u = pick_l 0 (u ++ replicate 16 0) (16 ∷ 0 ∷ 1 ∷ 2 ∷ 3 ∷ 4 ∷ 5 ∷ 6 ∷ 7 ∷ 8 ∷ 9 ∷ 10 ∷ 11 ∷ 12 ∷ 13 ∷ 14 ∷ [])
 
 abbrev pair_lead_lanes : List ℕ → List ℕ
@@ -152,51 +144,50 @@ pair_trail_lanes u =
     let kinds = lanes_div 1024 u in
     zip2 bit_and (lanes_of_kind 55 kinds) (lanes_of_kind 54 (before_lanes kinds))
 
-abbrev second_byte_lanes : List ℕ → List ℕ → List ℕ
-second_byte_lanes own u = sel_l (map (top 15) (pair_lead_lanes u))
-    (lanes_add (replicate 16 0xF0) (lanes_div 256 (lanes_add (lanes_rem 1024 u) (replicate 16 64))))
-    (sel_l (map (top 15) (pair_trail_lanes u)) (lanes_add (lanes_add (replicate 16 0x80)
-    (zip2 (λ a b. a * b % 65536) (lanes_rem 4 (before_lanes u)) (replicate 16 16))) (lanes_rem 16 (lanes_div 64 u))) own)
+abbrev head_lanes : List ℕ → List ℕ → List ℕ
+head_lanes own u =
+    let high = lanes_add (lanes_rem 1024 u) (replicate 16 64) in
+    sel_l (map (top 15) (pair_lead_lanes u)) (lanes_add (replicate 16 0xF0ED) (lanes_mul 256 (lanes_div 256 high)))
+    (sel_l (map (top 15) (pair_trail_lanes u)) (lanes_add (lanes_add (replicate 16 0x80ED) (lanes_mul 4096 (lanes_rem 4 (before_lanes u))))
+    (lanes_mul 256 (lanes_rem 16 (lanes_div 64 u)))) own)
 
-abbrev last_byte_lanes : List ℕ → List ℕ → List ℕ
-last_byte_lanes own u = sel_l (map (top 15) (pair_lead_lanes u))
-    (lanes_add (replicate 16 0x80) (lanes_rem 64 (lanes_div 4 (lanes_add (lanes_rem 1024 u) (replicate 16 64))))) own
+abbrev last_lanes : List ℕ → List ℕ → List ℕ → List ℕ
+last_lanes own flags u = lanes_add (sel_l (map (top 15) (pair_lead_lanes u))
+    (lanes_add (replicate 16 0x80) (lanes_rem 64 (lanes_div 4 (lanes_add (lanes_rem 1024 u) (replicate 16 64))))) own)
+    (sel_l (map (top 15) (zip2 bit_or (pair_lead_lanes u) (pair_trail_lanes u))) (replicate 16 0) flags)
 
-abbrev three_byte_flag : ℕ → ℕ
-three_byte_flag n = three_byte_bit n * 0x8000
+-- the head of the unit `n` after the unit `before`
+abbrev head : ℕ → ℕ → ℕ
+head before n = first_byte n + second_byte before n * 256
 
-abbrev three_byte_flag_lanes : List ℕ → List ℕ → List ℕ
-three_byte_flag_lanes own u = sel_l (map (top 15) (zip2 bit_or (pair_lead_lanes u) (pair_trail_lanes u))) (replicate 16 0) own
+-- the last byte of a unit and its flag
+abbrev last : ℕ → ℕ
+last n = last_byte n + three_byte_bit n * 0x8000
 
-second_byte-lane : (b d x t : ℕ) → IsTag b d → IsTag x t → cond (top 15 (lead_mask t)) ((0xF0 + (x % 1024 + 64) % 65536 / 256) % 65536)
-    (cond (top 15 (trail_mask t)) (((0x80 + b % 4 * 16 % 65536) % 65536 + x / 64 % 16) % 65536) (scalar_second_byte x)) ≡ second_byte d t
-second_byte-lane b d x t k m = grind (arith)
+head-lane : (b d x t : ℕ) → IsTag b d → IsTag x t → x < 0x10000 → cond (top 15 (lead_mask t))
+    ((0xF0ED + (x % 1024 + 64) % 65536 / 256 * 256 % 65536) % 65536) (cond (top 15 (trail_mask t))
+    (((0x80ED + b % 4 * 4096 % 65536) % 65536 + x / 64 % 16 * 256 % 65536) % 65536) (scalar_head x)) ≡ head d t
+head-lane b d x t k m f = grind (arith)
 
-last_byte-lane : (x t : ℕ) → IsTag x t
-    → cond (top 15 (lead_mask t)) ((0x80 + (x % 1024 + 64) % 65536 / 4 % 64) % 65536) (scalar_last_byte x) ≡ last_byte t
-last_byte-lane x t m = elim m [ inl e ↦ grind (arith, nat_tests, e) | inr e ↦ grind (arith, nat_tests, e.0, e.1.0, e.1.1) ]
+last-lane : (x t : ℕ) → IsTag x t → (cond (top 15 (lead_mask t)) ((0x80 + (x % 1024 + 64) % 65536 / 4 % 64) % 65536) (scalar_last_byte x)
+    + cond (top 15 (bit_or (lead_mask t) (trail_mask t))) 0 (three_byte_flag x)) % 65536 ≡ last t
+last-lane x t m = elim m [ inl e ↦ grind (arith, nat_tests, e) | inr e ↦ grind (arith, nat_tests, e.0, e.1.0, e.1.1) ]
 
-three_byte_flag-lane : (x t : ℕ) → IsTag x t → cond (top 15 (bit_or (lead_mask t) (trail_mask t))) 0 (flag_from 0x800 0x8000 x) ≡ three_byte_flag t
-three_byte_flag-lane x t m = elim m [ inl e ↦ grind (arith, nat_tests, e) | inr e ↦ grind (arith, nat_tests, e.0, e.1.0, e.1.1) ]
-
-pub later_lanes : (own lasts m u : List ℕ) → length u ≡ 16 → own ≡ map scalar_second_byte u → lasts ≡ map scalar_last_byte u
-    → m ≡ map (flag_from 0x800 0x8000) u
-    → AreLaterBytes (tagged_block u) (second_byte_lanes own u) (last_byte_lanes lasts u) (three_byte_flag_lanes m u)
-later_lanes own lasts m u l x y z = rw (x, y, z) (of_sixteen (λ u. AreLaterBytes (tagged_block u) (second_byte_lanes
-    (map scalar_second_byte u) u) (last_byte_lanes (map scalar_last_byte u) u) (three_byte_flag_lanes (map (flag_from 0x800 0x8000) u) u)) u l
-    (record {
-      second = by (λ l t b x. cond (top 15 l) ((0xF0 + (x % 1024 + 64) % 65536 / 256) % 65536) (cond (top 15 t)
-          (((0x80 + b % 4 * 16 % 65536) % 65536 + x / 64 % 16) % 65536) (scalar_second_byte x))) second_byte second_byte-lane;
-      last = by (λ l t b x. cond (top 15 l) ((0x80 + (x % 1024 + 64) % 65536 / 4 % 64) % 65536) (scalar_last_byte x)) (λ d t. last_byte t)
-          (λ b d x t k. last_byte-lane x t);
-      long = by (λ l t b x. cond (top 15 (bit_or l t)) 0 (flag_from 0x800 0x8000 x)) (λ d t. three_byte_flag t)
-          (λ b d x t k. three_byte_flag-lane x t);
-    }))
+pub pair_lanes : (own lasts m u : List ℕ) → length u ≡ 16 → Each1 (Fits w16) u → own ≡ map scalar_head u → lasts ≡ map scalar_last_byte u
+    → m ≡ map three_byte_flag u → AreUnitBytes (tagged_block u) (head_lanes own u) (last_lanes lasts m u)
+pair_lanes own lasts m u l fits x y z = rw (x, y, z) (of_sixteen (λ u. Each1 (Fits w16) u → AreUnitBytes (tagged_block u)
+    (head_lanes (map scalar_head u) u) (last_lanes (map scalar_last_byte u) (map three_byte_flag u) u)) u l
+    (λ f. record {
+      head = by f (λ l t b x. cond (top 15 l) ((0xF0ED + (x % 1024 + 64) % 65536 / 256 * 256 % 65536) % 65536) (cond (top 15 t)
+          (((0x80ED + b % 4 * 4096 % 65536) % 65536 + x / 64 % 16 * 256 % 65536) % 65536) (scalar_head x))) head head-lane;
+      last = by f (λ l t b x. (cond (top 15 l) ((0x80 + (x % 1024 + 64) % 65536 / 4 % 64) % 65536) (scalar_last_byte x)
+          + cond (top 15 (bit_or l t)) 0 (three_byte_flag x)) % 65536) (λ d t. last t) (λ b d x t k m _. last-lane x t m);
+    }) fits)
   where
-    by : (f : ℕ → ℕ → ℕ → ℕ → ℕ) (g : ℕ → ℕ → ℕ)
-        → ((b d x t : ℕ) → IsTag b d → IsTag x t → f (lead_mask t) (trail_mask t) b x ≡ g d t) → lanes_by f 0 (sixteen_lanes u) 0xDC00
-        ≡ zip2 g (0 ∷ tagged_block (sixteen_lanes u)) (tagged_block (sixteen_lanes u))
-    by f g h = lanes_by-tagged f g h 0 0 (sixteen_lanes u) 0xDC00 (inl refl)
+    by : Each1 (Fits w16) (sixteen_lanes u) → (f : ℕ → ℕ → ℕ → ℕ → ℕ) (g : ℕ → ℕ → ℕ)
+        → ((b d x t : ℕ) → IsTag b d → IsTag x t → x < 0x10000 → f (lead_mask t) (trail_mask t) b x ≡ g d t)
+        → lanes_by f 0 (sixteen_lanes u) 0xDC00 ≡ zip2 g (0 ∷ tagged_block (sixteen_lanes u)) (tagged_block (sixteen_lanes u))
+    by e f g h = lanes_by-tagged f g h 0 0 (sixteen_lanes u) 0xDC00 (inl refl) e
 
 -- if no lane is a surrogate that is no half of a pair, no unit is tagged
 abbrev lone_lane : ℕ → ℕ → ℕ → ℕ → ℕ
@@ -228,47 +219,54 @@ units-from_lone_mask u l = of_sixteen (λ u. Each1 (Fits w16) u → mask_l (map 
     (sym (mask_l-mod (map (top 15) (lanes_by lone_lane 0 (sixteen_lanes u) 0xDC00)) 64 (omega arith)) ∙ e))
 
 -- a unit that is no surrogate has the same bytes by both computations
-candidate_bytes-scalar : (x : ℕ) → ¬ (IsSurrogate x) → (b : ℕ)
-    → (scalar_second_byte x ≡ second_byte b x) × (scalar_last_byte x ≡ last_byte x) × (flag_from 0x800 0x8000 x ≡ three_byte_flag x)
-candidate_bytes-scalar x n b = grind (arith, cases_lt, lt-ltb, le-ltb)
+scalar_bytes-same : (x : ℕ) → x < 0x10000 → ¬ (IsSurrogate x) → (b : ℕ)
+    → (scalar_head x ≡ head b x) × ((scalar_last_byte x + three_byte_flag x) % 65536 ≡ last x)
+scalar_bytes-same x f n b = grind (arith, cases_lt, lt-ltb, le-ltb)
 
 -- units of which none is a surrogate are not changed by tags
 scalar_candidates : (b : ℕ) (u : List ℕ) (a : ℕ) → AreScalarUnits u → (tagged_units b u a ≡ u) × Each1 IsUnit u
-    × (map scalar_second_byte u ≡ zip2 second_byte (b ∷ u) u) × (map scalar_last_byte u ≡ map last_byte u)
-    × (map (flag_from 0x800 0x8000) u ≡ map three_byte_flag u)
-scalar_candidates b [] a h = (refl, tt, refl, refl, refl)
-scalar_candidates b (x ∷ u) a h = grind (arith, candidate_bytes-scalar, tagged-scalar, scalar_candidates x u a h.1)
+    × (map scalar_head u ≡ zip2 head (b ∷ u) u) × (lanes_add (map scalar_last_byte u) (map three_byte_flag u) ≡ map last u)
+scalar_candidates b [] a h = (refl, tt, refl, refl)
+scalar_candidates b (x ∷ u) a h =
+    let more = scalar_candidates x u a h.1 in
+    let own = scalar_bytes-same x h.0.0 h.0.1 b in
+    let same = tagged-scalar b x (get_or u 0 a) h.0.1 in (
+      λ i. same i ∷ more.0 i,
+      (omega (arith, h.0.0, h.0.1), more.1),
+      λ i. own.0 i ∷ more.2 i,
+      λ i. own.1 i ∷ more.3 i,
+    )
 
-pub scalar_lanes : (own lasts m u : List ℕ) → AreScalarUnits u → own ≡ map scalar_second_byte u → lasts ≡ map scalar_last_byte u
-    → m ≡ map (flag_from 0x800 0x8000) u → AreLaterBytes (tagged_block u) own lasts m × Each1 IsUnit (tagged_block u)
+pub scalar_lanes : (own lasts m u : List ℕ) → AreScalarUnits u → own ≡ map scalar_head u → lasts ≡ map scalar_last_byte u
+    → m ≡ map three_byte_flag u → AreUnitBytes (tagged_block u) own (lanes_add lasts m) × Each1 IsUnit (tagged_block u)
 scalar_lanes own lasts m u h x y z =
     let all = scalar_candidates 0 u 0xDC00 h in
-    rw all.0 (record { second = x ∙ all.2; last = y ∙ all.3; long = z ∙ all.4 }, all.1)
+    rw all.0 (record { head = x ∙ all.2; last = rw (y, z) all.3 }, all.1)
 
 -- The candidate bytes as 8-bit lanes, and the table index of their lengths.
 
 pub IsByteCount-byte_count : (n : ℕ) → IsByteCount (byte_count n)
 IsByteCount-byte_count n = (grind (arith, nat_tests), grind (arith, nat_tests))
 
--- the first and second byte in one lane, the last one in the next
 abbrev interleaved : ℕ → List ℕ → List ℕ
 interleaved b [] = []
-interleaved b (n ∷ u) = (first_byte n + second_byte b n * 256 % 65536) % 65536 ∷ last_byte n ∷ interleaved n u
+interleaved b (n ∷ u) = head b n ∷ last n ∷ interleaved n u
 
-bytes_fit : (b n : ℕ) → (first_byte n < 256) × (second_byte b n < 256) × (last_byte n < 256)
-bytes_fit b n = (omega arith, grind (arith, nat_tests), grind (arith, nat_tests))
+bytes_fit : (b n : ℕ) → (first_byte n < 256) × (second_byte b n < 256) × (last_byte n < 256) × (three_byte_bit n ≤ 1)
+bytes_fit b n = (omega arith, grind (arith, nat_tests), grind (arith, nat_tests), grind (arith, nat_tests))
 
 -- the bytes of two lanes before others
-byte_digits : (n h l x : ℕ) → l < 256 → (f s : ℕ) → f < 256 → s < 256 → h ≡ (f + s * 256 % 65536) % 65536
-    → digits_l 256 (suc (suc (suc (suc n)))) (h + 65536 * (l + 65536 * x)) ≡ f ∷ s ∷ l ∷ 0 ∷ digits_l 256 n x
-byte_digits n h l x i f s j k e =
-    let y = h + 65536 * (l + 65536 * x) in
+byte_digits : (m f s l t x : ℕ) → f < 256 → s < 256 → l < 256 → t ≤ 1
+    → digits_l 256 (suc (suc (suc (suc m)))) ((f + s * 256) + 65536 * ((l + t * 0x8000) + 65536 * x))
+    ≡ f ∷ s ∷ l ∷ (t * 0x80) ∷ digits_l 256 m x
+byte_digits m f s l t x i j k h =
+    let y = (f + s * 256) + 65536 * ((l + t * 0x8000) + 65536 * x) in
     let a : y % 256 ≡ f = omega arith in
     let b : y / 256 % 256 ≡ s = omega arith in
     let c : y / 256 / 256 % 256 ≡ l = omega arith in
-    let d : y / 256 / 256 / 256 % 256 ≡ 0 = omega arith in
+    let d : y / 256 / 256 / 256 % 256 ≡ t * 0x80 = omega arith in
     let rest : y / 256 / 256 / 256 / 256 ≡ x = omega arith in
-    λ i. a i ∷ b i ∷ c i ∷ d i ∷ digits_l 256 n (rest i)
+    λ i. a i ∷ b i ∷ c i ∷ d i ∷ digits_l 256 m (rest i)
 
 abbrev four_times : List ℕ → ℕ
 four_times [] = 0
@@ -278,103 +276,83 @@ digits-interleaved : (b : ℕ) (u : List ℕ) → digits_l 256 (four_times u) (n
 digits-interleaved b [] = refl
 digits-interleaved b (n ∷ u) =
     let fit = bytes_fit b n in
-    byte_digits (four_times u) _ (last_byte n) (number_l 65536 (interleaved n u)) fit.2 (first_byte n) (second_byte b n) fit.0 fit.1 refl
-    ∙ ap (λ w. first_byte n ∷ second_byte b n ∷ last_byte n ∷ 0 ∷ w) (digits-interleaved n u)
-
-abbrev head_lanes : List ℕ → List ℕ → List ℕ
-head_lanes f s = lanes_add f (zip2 (λ a b. a * b % 65536) s (replicate 16 256))
+    byte_digits (four_times u) (first_byte n) (second_byte b n) (last_byte n) (three_byte_bit n) (number_l 65536 (interleaved n u))
+    fit.0 fit.1 fit.2 fit.3
+    ∙ ap (λ w. first_byte n ∷ second_byte b n ∷ last_byte n ∷ (three_byte_bit n * 0x80) ∷ w) (digits-interleaved n u)
 
 abbrev four_lanes : List ℕ → List ℕ
 four_lanes u = pick_l 0 u (0 ∷ 1 ∷ 2 ∷ 3 ∷ [])
 
 -- the lanes of four units, by the indexes of their interleaved lanes
-abbrev quarter_lanes : List ℕ → List ℕ → List ℕ → List ℕ → List ℕ
-quarter_lanes f s l ks = digits_l 256 16 (number_l 65536 (pick_l 0 (head_lanes f s ++ l) ks))
+abbrev quarter_lanes : List ℕ → List ℕ → List ℕ → List ℕ
+quarter_lanes hs ls ks = digits_l 256 16 (number_l 65536 (pick_l 0 (hs ++ ls) ks))
 
-quarter-by : (own : List ℕ → List ℕ) (before : List ℕ → ℕ) (ks : List ℕ) → let lanes = λ (u : List ℕ). pick_l 0
-    (head_lanes (map first_byte u) (zip2 second_byte (0 ∷ u) u) ++ map last_byte u) ks in
-    ((u : List ℕ) → lanes (sixteen_lanes u) ≡ interleaved (before (sixteen_lanes u)) (four_lanes (own (sixteen_lanes u))))
-    → (u f s l : List ℕ) → length u ≡ 16 → length (own u) ≡ 4 → f ≡ map first_byte u → s ≡ zip2 second_byte (0 ∷ u) u → l ≡ map last_byte u
-    → quarter_lanes f s l ks ≡ byte_lanes (before u) (own u)
-quarter-by own before ks same u f s l long four x y z = rw (x, y, z)
-    (of_sixteen (λ u. quarter_lanes (map first_byte u) (zip2 second_byte (0 ∷ u) u) (map last_byte u) ks
-    ≡ byte_lanes (before u) (four_lanes (own u))) u long (ap (λ w. digits_l 256 16 (number_l 65536 w)) (same u)
-    ∙ digits-interleaved (before (sixteen_lanes u)) (four_lanes (own (sixteen_lanes u)))) ∙ ap (byte_lanes (before u)) (pick_l_whole 0 (own u) 4 four))
+quarter-by : (own : List ℕ → List ℕ) (before : List ℕ → ℕ) (ks : List ℕ)
+    → ((u : List ℕ) → let v = sixteen_lanes u in pick_l 0 (zip2 head (0 ∷ v) v ++ map last v) ks ≡ interleaved (before v) (four_lanes (own v)))
+    → (u : List ℕ) {hs ls : List ℕ} → length u ≡ 16 → length (own u) ≡ 4 → AreUnitBytes u hs ls
+    → quarter_lanes hs ls ks ≡ byte_lanes (before u) (own u)
+quarter-by own before ks same u long four are = rw (are.head, are.last)
+    (of_sixteen (λ u. quarter_lanes (zip2 head (0 ∷ u) u) (map last u) ks ≡ byte_lanes (before u) (four_lanes (own u))) u long
+    (ap (λ w. digits_l 256 16 (number_l 65536 w)) (same u) ∙ digits-interleaved (before (sixteen_lanes u)) (four_lanes (own (sixteen_lanes u))))
+    ∙ ap (byte_lanes (before u)) (pick_l_whole 0 (own u) 4 four))
 
-pub first_lanes : (u f s l : List ℕ) → length u ≡ 16 → f ≡ map first_byte u → s ≡ zip2 second_byte (0 ∷ u) u → l ≡ map last_byte u
-    → quarter_lanes f s l (0 ∷ 16 ∷ 1 ∷ 17 ∷ 2 ∷ 18 ∷ 3 ∷ 19 ∷ []) ≡ byte_lanes 0 (take 4 u)
-first_lanes u f s l long = quarter-by (take 4) (λ u. 0) (0 ∷ 16 ∷ 1 ∷ 17 ∷ 2 ∷ 18 ∷ 3 ∷ 19 ∷ []) (λ u. refl) u f s l long
+pub first_lanes : (u : List ℕ) {hs ls : List ℕ} → length u ≡ 16 → AreUnitBytes u hs ls
+    → quarter_lanes hs ls (0 ∷ 16 ∷ 1 ∷ 17 ∷ 2 ∷ 18 ∷ 3 ∷ 19 ∷ []) ≡ byte_lanes (0) (take 4 u)
+first_lanes u long = quarter-by (λ u. take 4 u) (λ u. 0) (0 ∷ 16 ∷ 1 ∷ 17 ∷ 2 ∷ 18 ∷ 3 ∷ 19 ∷ []) (λ u. refl) u long
     (omega (arith, long, length-take 4 u))
 
-pub second_lanes : (u f s l : List ℕ) → length u ≡ 16 → f ≡ map first_byte u → s ≡ zip2 second_byte (0 ∷ u) u → l ≡ map last_byte u
-    → quarter_lanes f s l (4 ∷ 20 ∷ 5 ∷ 21 ∷ 6 ∷ 22 ∷ 7 ∷ 23 ∷ []) ≡ byte_lanes (get_or u 3 0) (take 4 (drop 4 u))
-second_lanes u f s l long = quarter-by (λ u. take 4 (drop 4 u)) (λ u. get_or u 3 0) (4 ∷ 20 ∷ 5 ∷ 21 ∷ 6 ∷ 22 ∷ 7 ∷ 23 ∷ []) (λ u. refl) u f s l
-    long (omega (arith, long, length-take 4 (drop 4 u), length-drop 4 u))
+pub second_lanes : (u : List ℕ) {hs ls : List ℕ} → length u ≡ 16 → AreUnitBytes u hs ls
+    → quarter_lanes hs ls (4 ∷ 20 ∷ 5 ∷ 21 ∷ 6 ∷ 22 ∷ 7 ∷ 23 ∷ []) ≡ byte_lanes (get_or u 3 0) (take 4 (drop 4 u))
+second_lanes u long = quarter-by (λ u. take 4 (drop 4 u)) (λ u. get_or u 3 0) (4 ∷ 20 ∷ 5 ∷ 21 ∷ 6 ∷ 22 ∷ 7 ∷ 23 ∷ []) (λ u. refl) u long
+    (omega (arith, long, length-take 4 (drop 4 u), length-drop 4 u))
 
-pub third_lanes : (u f s l : List ℕ) → length u ≡ 16 → f ≡ map first_byte u → s ≡ zip2 second_byte (0 ∷ u) u → l ≡ map last_byte u
-    → quarter_lanes f s l (8 ∷ 24 ∷ 9 ∷ 25 ∷ 10 ∷ 26 ∷ 11 ∷ 27 ∷ []) ≡ byte_lanes (get_or (drop 4 u) 3 0) (take 4 (drop 4 (drop 4 u)))
-third_lanes u f s l long = quarter-by (λ u. take 4 (drop 4 (drop 4 u))) (λ u. get_or (drop 4 u) 3 0)
-    (8 ∷ 24 ∷ 9 ∷ 25 ∷ 10 ∷ 26 ∷ 11 ∷ 27 ∷ []) (λ u. refl) u f s l long
+pub third_lanes : (u : List ℕ) {hs ls : List ℕ} → length u ≡ 16 → AreUnitBytes u hs ls
+    → quarter_lanes hs ls (8 ∷ 24 ∷ 9 ∷ 25 ∷ 10 ∷ 26 ∷ 11 ∷ 27 ∷ []) ≡ byte_lanes (get_or (drop 4 u) 3 0) (take 4 (drop 4 (drop 4 u)))
+third_lanes u long = quarter-by (λ u. take 4 (drop 4 (drop 4 u))) (λ u. get_or (drop 4 u) 3 0) (8 ∷ 24 ∷ 9 ∷ 25 ∷ 10 ∷ 26 ∷ 11 ∷ 27 ∷ []) (λ u. refl) u long
     (omega (arith, long, length-take 4 (drop 4 (drop 4 u)), length-drop 4 (drop 4 u), length-drop 4 u))
 
-pub fourth_lanes : (u f s l : List ℕ) → length u ≡ 16 → f ≡ map first_byte u → s ≡ zip2 second_byte (0 ∷ u) u → l ≡ map last_byte u
-    → quarter_lanes f s l (12 ∷ 28 ∷ 13 ∷ 29 ∷ 14 ∷ 30 ∷ 15 ∷ 31 ∷ [])
-    ≡ byte_lanes (get_or (drop 4 (drop 4 u)) 3 0) (drop 4 (drop 4 (drop 4 u)))
-fourth_lanes u f s l long = quarter-by (λ u. drop 4 (drop 4 (drop 4 u))) (λ u. get_or (drop 4 (drop 4 u)) 3 0)
-    (12 ∷ 28 ∷ 13 ∷ 29 ∷ 14 ∷ 30 ∷ 15 ∷ 31 ∷ []) (λ u. refl) u f s l long
+pub fourth_lanes : (u : List ℕ) {hs ls : List ℕ} → length u ≡ 16 → AreUnitBytes u hs ls
+    → quarter_lanes hs ls (12 ∷ 28 ∷ 13 ∷ 29 ∷ 14 ∷ 30 ∷ 15 ∷ 31 ∷ []) ≡ byte_lanes (get_or (drop 4 (drop 4 u)) 3 0) (drop 4 (drop 4 (drop 4 u)))
+fourth_lanes u long = quarter-by (λ u. drop 4 (drop 4 (drop 4 u))) (λ u. get_or (drop 4 (drop 4 u)) 3 0) (12 ∷ 28 ∷ 13 ∷ 29 ∷ 14 ∷ 30 ∷ 15 ∷ 31 ∷ []) (λ u. refl) u long
     (omega (arith, long, length-drop 4 (drop 4 (drop 4 u)), length-drop 4 (drop 4 u), length-drop 4 u))
 
--- The flags of each unit in the two bytes of a lane: their mask is the table index.
+-- The mask of the lanes of last bytes is the table index.
 
-abbrev flag_is_set : ℕ → Bool
-flag_is_set y = top 7 (cond (leb 128 y) 255 0)
+abbrev is_set : ℕ → Bool
+is_set y = top 7 (cond (leb 128 y) 255 0)
 
-abbrev flags_of : ℕ → ℕ
-flags_of n = (flag_from 0x80 0x80 n + three_byte_flag n) % 65536
+last_bits-byte_count : (n : ℕ) → (cond (is_set (last_byte n)) 1 0 ≡ byte_count n / 2)
+    × (cond (is_set (three_byte_bit n * 0x80)) 1 0 ≡ byte_count n / 3)
+last_bits-byte_count n = (grind (arith, nat_tests, cases_lt), grind (arith, nat_tests, cases_lt))
 
-flags-byte_count : (n : ℕ) → (cond (flag_is_set (flags_of n % 256)) 1 0 ≡ byte_count n / 2)
-    × (cond (flag_is_set (flags_of n / 256)) 1 0 ≡ byte_count n / 3)
-flags-byte_count n = (grind (arith, nat_tests, cases_lt), grind (arith, nat_tests, cases_lt))
+two_digits : (m l t x : ℕ) → l < 256 → t ≤ 1
+    → digits_l 256 (suc (suc m)) ((l + t * 0x8000) + 65536 * x) ≡ l ∷ (t * 0x80) ∷ digits_l 256 m x
+two_digits m l t x i j =
+    let y = (l + t * 0x8000) + 65536 * x in
+    let a : y % 256 ≡ l = omega arith in
+    let b : y / 256 % 256 ≡ t * 0x80 = omega arith in
+    let rest : y / 256 / 256 ≡ x = omega arith in
+    λ i. a i ∷ b i ∷ digits_l 256 m (rest i)
 
 abbrev twice : List ℕ → ℕ
 twice [] = 0
 twice (x ∷ u) = suc (suc (twice u))
 
-two_digits : (n x y : ℕ) → x < 65536 → digits_l 256 (suc (suc n)) (x + 65536 * y) ≡ (x % 256) ∷ (x / 256) ∷ digits_l 256 n y
-two_digits n x y f =
-    let z = x + 65536 * y in
-    let low : z % 256 ≡ x % 256 = omega arith in
-    let high : z / 256 % 256 ≡ x / 256 = omega arith in
-    let rest : z / 256 / 256 ≡ y = omega arith in
-    λ i. low i ∷ high i ∷ digits_l 256 n (rest i)
-
-mask-table_index : (u : List ℕ) → mask_l (map flag_is_set (digits_l 256 (twice u) (number_l 65536 (map flags_of u)))) ≡ units_table_index u
+mask-table_index : (u : List ℕ) → mask_l (map is_set (digits_l 256 (twice u) (number_l 65536 (map last u)))) ≡ units_table_index u
 mask-table_index [] = refl
 mask-table_index (n ∷ u) =
-    let bits = flags-byte_count n in
-    ap (λ w. mask_l (map flag_is_set w)) (two_digits (twice u) (flags_of n) (number_l 65536 (map flags_of u)) (omega arith))
+    let fit = bytes_fit 0 n in
+    let bits = last_bits-byte_count n in
+    ap (λ w. mask_l (map is_set w)) (two_digits (twice u) (last_byte n) (three_byte_bit n) (number_l 65536 (map last u)) fit.2 fit.3)
     ∙ omega (arith, bits.0, bits.1, mask-table_index u)
 
-multi_byte_flag-tagged : (x t : ℕ) → IsTag x t → flag_from 0x80 0x80 x ≡ flag_from 0x80 0x80 t
-multi_byte_flag-tagged x t k = grind (arith, le-ltb)
-
-abbrev flag_lanes : List ℕ → List ℕ → List ℕ
-flag_lanes m n = digits_l 256 32 (number_l 65536 (lanes_add m n))
-
--- the mask of the flags of a block is the index of its units
-pub block-table_index : (u m n : List ℕ) → length u ≡ 16 → m ≡ map (flag_from 0x80 0x80) u → n ≡ map three_byte_flag (tagged_block u)
-    → mask_l (map (top 7) (zip2 (λ a b. cond (leb b a) 255 0) (flag_lanes m n) (replicate 32 128))) % 2 ^ 64
-    ≡ units_table_index (tagged_block u)
-block-table_index u m n long x y =
-    rw (x ∙ map-tagged (flag_from 0x80 0x80) multi_byte_flag-tagged 0 u 0xDC00, y) (by (tagged_block u) (length-tagged_block u long))
-  where
-    by : (t : List ℕ) → length t ≡ 16
-        → mask_l (map (top 7) (zip2 (λ a b. cond (leb b a) 255 0) (flag_lanes (map (flag_from 0x80 0x80) t) (map three_byte_flag t))
-        (replicate 32 128))) % 2 ^ 64 ≡ units_table_index t
-    by t l = of_sixteen (λ t. mask_l (map (top 7) (zip2 (λ a b. cond (leb b a) 255 0) (flag_lanes (map (flag_from 0x80 0x80) t)
-        (map three_byte_flag t)) (replicate 32 128))) % 2 ^ 64 ≡ units_table_index t) t l
-        (mask_l-mod (map flag_is_set (digits_l 256 32 (number_l 65536 (map flags_of (sixteen_lanes t))))) 64 (omega arith)
-        ∙ mask-table_index (sixteen_lanes t))
+pub block-table_index : (u : List ℕ) {hs ls : List ℕ} → length u ≡ 16 → AreUnitBytes u hs ls
+    → mask_l (map (top 7) (zip2 (λ a b. cond (leb b a) 255 0) (digits_l 256 32 (number_l 65536 ls)) (replicate 32 128))) % 2 ^ 64
+    ≡ units_table_index u
+block-table_index u long are = rw are.last (of_sixteen (λ u. mask_l (map (top 7) (zip2 (λ a b. cond (leb b a) 255 0)
+    (digits_l 256 32 (number_l 65536 (map last u))) (replicate 32 128))) % 2 ^ 64 ≡ units_table_index u) u long
+    (mask_l-mod (map is_set (digits_l 256 32 (number_l 65536 (map last (sixteen_lanes u))))) 64 (omega arith)
+    ∙ mask-table_index (sixteen_lanes u)))
 
 table_index_four : (u : List ℕ) → 4 ≤ length u → units_table_index u ≡ units_table_index (take 4 u) + 256 * units_table_index (drop 4 u)
 table_index_four [] l = absurd (omega arith)
@@ -475,8 +453,15 @@ packed_units-quarters kept u long first second third fourth =
     let v = drop 4 u in
     let lv : length v ≡ 12 = omega (arith, long, length-drop 4 u) in
     let lw : length (drop 4 v) ≡ 8 = omega (arith, lv, length-drop 4 v) in
-    rw (fourth, third, second, first, packed_units-four 0 u (omega (arith, long)), packed_units-four (get_or u 3 0) v (omega (arith, lv)),
-    packed_units-four (get_or v 3 0) (drop 4 v) (omega (arith, lw))) (simp append_assoc)
+    rw (
+      fourth,
+      third,
+      second,
+      first,
+      packed_units-four 0 u (omega (arith, long)),
+      packed_units-four (get_or u 3 0) v (omega (arith, lv)),
+      packed_units-four (get_or v 3 0) (drop 4 v) (omega (arith, lw)),
+    ) (simp append_assoc)
 
 -- the last of sixteen units is not tagged if it is a lead
 last-tagged : (u : List ℕ) → length u ≡ 16 → IsLead (get_or u 15 0) → IsLead (get_or (tagged_block u) 15 0)

@@ -19,3 +19,6 @@ loop-preserved c =
           (packed_units-read w (take c.loop.len
           c.loop.scratch) written.units (before.read w known front read) within c.type_inv.v own.taken own.scalar own.bytes);
     }
+
+pub returns-then-len-MIN_SPARE-clause-read : goal.returns-then-len-MIN_SPARE-clause-read
+returns-then-len-MIN_SPARE-clause-read c w known front read = ?

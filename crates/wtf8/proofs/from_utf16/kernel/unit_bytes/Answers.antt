@@ -1,11 +1,11 @@
 use Rattle.wtf8.proofs.Common.{arith, eqb-true}
-use Rattle.wtf8.proofs.lemmas.from_utf16.Kernel.{later_lanes, units-from_lone_mask}
 use Rattle.wtf8.proofs.lemmas.lanes.AsciiFronts.{by_all}
-use Rattle.wtf8.proofs.from_utf16.kernel.later_bytes.Goals as goal
+use Rattle.wtf8.proofs.lemmas.from_utf16.Kernel.{pair_lanes, before_lanes, units-from_lone_mask}
+use Rattle.wtf8.proofs.from_utf16.kernel.unit_bytes.Goals as goal
 
 pub returns-clause-bytes : goal.returns-clause-bytes
-returns-clause-bytes c = later_lanes c.scalar_second_bytes.result c.scalar_last_bytes.result c.flags_from.result c.args.units c.fits-units.0
-    c.scalar_second_bytes.ensures c.scalar_last_bytes.ensures c.flags_from.ensures
+returns-clause-bytes c = pair_lanes c.scalar_heads.result c.scalar_lasts.result c.scalar_flags.result c.args.units c.fits-units.0
+    c.fits-units.1 c.scalar_heads.ensures c.scalar_lasts.ensures c.scalar_flags.ensures
 
 pub returns-clause-scalar : goal.returns-clause-scalar
 returns-clause-scalar c t = units-from_lone_mask c.args.units c.fits-units.0 c.fits-units.1 (eqb-true _ 0 t)
@@ -19,8 +19,8 @@ nonzero_div-surrogates c = by_all c.args.units 2048 (omega arith)
 pub nonzero_rem-high : goal.nonzero_rem-high
 nonzero_rem-high c = by_all c.args.units 1024 (omega arith)
 
-pub nonzero_div-lead_firsts : goal.nonzero_div-lead_firsts
-nonzero_div-lead_firsts c = by_all _ 256 (omega arith)
+pub nonzero_div-lead_heads : goal.nonzero_div-lead_heads
+nonzero_div-lead_heads c = by_all _ 256 (omega arith)
 
 pub nonzero_div-lead_lasts : goal.nonzero_div-lead_lasts
 nonzero_div-lead_lasts c = by_all _ 4 (omega arith)
@@ -28,8 +28,11 @@ nonzero_div-lead_lasts c = by_all _ 4 (omega arith)
 pub nonzero_rem-lead_lasts : goal.nonzero_rem-lead_lasts
 nonzero_rem-lead_lasts c = by_all _ 64 (omega arith)
 
-pub nonzero_div-trail_firsts : goal.nonzero_div-trail_firsts
-nonzero_div-trail_firsts c = by_all c.args.units 64 (omega arith)
+pub nonzero_rem-low_bits : goal.nonzero_rem-low_bits
+nonzero_rem-low_bits c = by_all (before_lanes c.args.units) 4 (omega arith)
 
-pub nonzero_rem-trail_firsts : goal.nonzero_rem-trail_firsts
-nonzero_rem-trail_firsts c = by_all _ 16 (omega arith)
+pub nonzero_div-high_bits : goal.nonzero_div-high_bits
+nonzero_div-high_bits c = by_all c.args.units 64 (omega arith)
+
+pub nonzero_rem-high_bits : goal.nonzero_rem-high_bits
+nonzero_rem-high_bits c = by_all _ 16 (omega arith)
