@@ -221,13 +221,13 @@ taken_whole u k few (inr t) =
     absurd (omega (arith, zero_at, t.1.0))
 
 -- fewer than sixteen units, encoded as a block with zeros behind them, have the form of its bytes without the zeros
-pub last_block-form : {w kept : List ℕ} (u : List ℕ) {more : Bool} (k end : ℕ) → length u < 16 → ((i : ℕ) → Fits w16 (get_or u i 0))
+pub last_block-form : (w kept u : List ℕ) {more : Bool} (k end : ℕ) → length u < 16 → ((i : ℕ) → Fits w16 (get_or u i 0))
     → let block = u ++ replicate (16 - length u) 0 in
     ((k ≡ 16) × ¬ (IsLead (get_or block 15 0))) ⊎ ((k ≡ 15) × IsLead (get_or block 15 0)) → (IsTrue more → Each1 IsUnit (tagged_block block))
     → take end w ≡ kept ++ packed_units 0 (take k (tagged_block block)) → end ≤ length w
     → let part = packed_units 0 (tagged_units 0 u 0) in
     (length kept + (16 - length u) ≤ end) × (take (end - (16 - length u)) w ≡ kept ++ part) × IsKnownForm part u more
-last_block-form {w} {kept} u {more} k end few fits taken units e within = by (16 - length u) (omega arith) refl
+last_block-form w kept u {more} k end few fits taken units e within = by (16 - length u) (omega arith) refl
   where
     block : List ℕ
     block = u ++ replicate (16 - length u) 0

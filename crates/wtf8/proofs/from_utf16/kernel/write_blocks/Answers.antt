@@ -1,5 +1,5 @@
-use Rattle.wtf8.proofs.Common.{◌+◌, ◌≤◌, length, arith, subst, take, IsReadTo}
-use Rattle.wtf8.proofs.lemmas.from_utf16.PackedUnits.{packed_units-read, and_assoc}
+use Rattle.wtf8.proofs.Common.{◌+◌, ◌≤◌, ◌++◌, ◌&&◌, length, arith, subst, take, IsReadTo, append_assoc}
+use Rattle.wtf8.proofs.lemmas.from_utf16.PackedUnits.{packed_units-read, last_units-read, and_assoc}
 use Rattle.wtf8.proofs.from_utf16.kernel.write_blocks.Goals as goal
 
 pub loop-preserved : goal.loop-preserved
@@ -20,5 +20,14 @@ loop-preserved c =
           c.loop.scratch) written.units (before.read w known front read) within c.type_inv.v own.taken own.scalar own.bytes);
     }
 
-pub returns-then-len-MIN_SPARE-clause-read : goal.returns-then-len-MIN_SPARE-clause-read
-returns-then-len-MIN_SPARE-clause-read c w known front read = ?
+pub returns-then-len-scratch-clause-read : goal.returns-then-len-scratch-clause-read
+returns-then-len-scratch-clause-read c w known front read =
+    let before = c.loop.invariant in
+    let to = c.loop.to in
+    let last = c.write_last_block-end in
+    let kept = take c.loop.len c.loop.scratch in
+    let more = last_units-read (before.read w known front read) (omega (arith, c.if-left-ge-LAST_UNITS.true)) last.ensures.form in
+    subst (λ b. IsReadTo (w ++ take last.result.0 last.new.scratch) front c.args.v.now (length c.args.v.now) b)
+    (and_assoc known to.is_utf8 last.result.1)
+    (rw last.ensures.bytes (subst (λ v. IsReadTo v front c.args.v.now (length c.args.v.now) ((known && to.is_utf8) && last.result.1))
+    (append_assoc w kept _) more))
