@@ -6,7 +6,7 @@ use Rattle.wtf8.proofs.Common.{map-append, ◌&&◌, mask_l-mod, eq-eqb, pick_l_
 use Rattle.wtf8.proofs.Common.{bit_or, nat_tests, swz_l, IsLead, IsUnit, length-take-le, take-take, AreScalarUnits, length-take, length-drop}
 use lib.Lanes.{pick_l, digits_l, number_l}
 use Rattle.std.specs.Prelude.{nat_lt, if◌then◌else◌, bit_xor}
-use Rattle.std.proofs.lemmas.List.{take-map, drop-map, get_or-take}
+use Rattle.std.proofs.lemmas.List.{take-map, drop-map}
 use Rattle.std.proofs.lemmas.Simd.{get_or-swz_l_below}
 use Rattle.wtf8.specs.private.PackedUnits.{first_byte, second_byte, scalar_last_byte, last_byte, scalar_head, three_byte_flag}
 use Rattle.wtf8.specs.private.PackedUnits.{three_byte_bit, byte_count, byte_lanes, units_table_index, source_lanes}

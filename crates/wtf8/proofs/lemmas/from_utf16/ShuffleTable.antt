@@ -1,5 +1,5 @@
 -- The shuffle table, checked row by row: the lanes that a row picks, and the number of bytes.
-use Rattle.wtf8.proofs.Common.{◌≡◌, ℕ, ◌+◌, ◌<◌, ◌&&◌, List, [], ◌∷◌, ◌++◌, take, get_or, Each1, eqb, Bool, true, refl, sym, ap, ◌∙◌, arith}
+use Rattle.wtf8.proofs.Common.{◌≡◌, ℕ, ◌+◌, ◌<◌, ◌&&◌, List, [], ◌∷◌, take, get_or, Each1, eqb, Bool, true, refl, sym, ap, ◌∙◌, arith}
 use Rattle.wtf8.proofs.Common.{cases_lt, and_parts, eqb-true, nat_eq, pointwise}
 use Rattle.std.proofs.lemmas.Bool.{ltb-true}
 use Rattle.std.proofs.lemmas.List.Recursion.{and_at}

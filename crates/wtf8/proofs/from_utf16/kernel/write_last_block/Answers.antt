@@ -1,4 +1,4 @@
-use Rattle.wtf8.proofs.Common.{ℕ, List, ◌≡◌, ◌⊎◌, ◌-◌, ◌++◌, arith, ap, length, length-take-le, get_or, take, drop, replicate, subst}
+use Rattle.wtf8.proofs.Common.{ℕ, List, ◌≡◌, ◌⊎◌, ◌-◌, ◌++◌, arith, length, get_or, take, drop, replicate, subst}
 use Rattle.wtf8.proofs.Common.{IsTrue, Bool, Each1, IsLead, IsUnit}
 use Rattle.std.proofs.lemmas.List.{drop-replicate}
 use Rattle.wtf8.specs.private.PackedUnits.{packed_units, tagged_block}
