@@ -16,7 +16,7 @@
 // that packs the bytes to be written: 4, and one more for each set bit of its index.
 #![tactic(auto)]
 
-ghost use Rattle.std.specs.Prelude.{◌≡◌, ◌⊎◌, ℕ, List, Bool, ◌&&◌, ◌+◌, ◌-◌, ◌*◌, ◌%◌, ◌/◌, ◌^◌, ◌<◌, ◌≤◌, ◌++◌, length, map, take, slice_index_or, vec_capacity, IfOk, IsOk, IsTrue};
+ghost use Rattle.std.specs.Prelude.{◌≡◌, ◌⊎◌, ℕ, List, Bool, ◌&&◌, ◌+◌, ◌-◌, ◌*◌, ◌%◌, ◌/◌, ◌^◌, ◌<◌, ◌≤◌, ◌++◌, length, map, take, drop, replicate, slice_index_or, vec_capacity, IfOk, IsOk, IsTrue};
 ghost use lib.Lanes.{Each1};
 ghost use Rattle.wtf8.specs.Unicode.{IsLead, IsUnit};
 ghost use Rattle.wtf8.specs.private.Prefixes.{AreScalarUnits, HasRoomFrom, IsKnownForm, ReadsOn};
@@ -29,6 +29,12 @@ use std::simd::prelude::*;
 
 /// The number of units that are encoded together: the 16-bit lanes of a vector of 32 bytes, or of two of 16.
 pub(crate) const BLOCK_UNITS: usize = 16;
+
+/// Half of a block's units.
+const HALF_BLOCK: usize = BLOCK_UNITS / 2;
+
+/// A quarter of a block's units.
+const QUARTER_BLOCK: usize = BLOCK_UNITS / 4;
 
 /// The least number of the last units, fewer than a block, that are encoded as one.
 pub(crate) const LAST_UNITS: usize = 5;
@@ -251,20 +257,49 @@ fn write_block(units: u16x16, scratch: &mut [u8], len: usize) -> Written
     }
 }
 
+/// Copies `N` to `2 * N` units to the front of a block, by their first and their last `N`. A copy of a number that only
+/// the call knows would be a call of `memcpy`.
+#[inline(always)]
+fn copy_by_ends<const N: usize>(units: &[u16], block: &mut [u16])
+    requires within { (N ≤ length units.now) × (length units.now ≤ 2 * N) }
+    requires room { length units.now ≤ length block.old }
+    ensures len { length block.new ≡ length block.old }
+    ensures after { block.new ≡ units.now ++ drop (length units.now) block.old }
+{
+    let last = units.len() - N;
+    block[..N].copy_from_slice(&units[..N]);
+    block[last..units.len()].copy_from_slice(&units[last..]);
+}
+
+/// Units, `LAST_UNITS` or more and fewer than a block, with zeros behind them.
+#[inline(always)]
+fn padded(units: &[u16]) -> u16x16
+    requires least { LAST_UNITS ≤ length units.now }
+    requires most { length units.now < BLOCK_UNITS }
+    ensures { result ≡ units.now ++ replicate (16 - length units.now) 0 }
+{
+    let mut block = [0; BLOCK_UNITS];
+    if HALF_BLOCK <= units.len() {
+        copy_by_ends::<HALF_BLOCK>(units, &mut block);
+        return u16x16::from_array(block);
+    }
+    copy_by_ends::<QUARTER_BLOCK>(units, &mut block);
+    u16x16::from_array(block)
+}
+
 /// Encodes units, fewer than a block, at index `len` of a scratch buffer: as a block with zeros behind them. A lead before
 /// these is lone, and each of them takes one byte, a zero, which is left out. Returns the index after their bytes, and
 /// whether no unit is a lone surrogate.
 #[inline(always)]
 fn write_last_block(units: &[u16], scratch: &mut [u8], len: usize) -> (usize, bool)
-    requires few { length units.now < BLOCK_UNITS }
+    requires least { LAST_UNITS ≤ length units.now }
+    requires most { length units.now < BLOCK_UNITS }
     requires room { len + MIN_SPARE ≤ length scratch.old }
     ensures within { result.0 ≤ len + MAX_BLOCK_BYTES }
     ensures bytes { take result.0 scratch.new ≡ take len scratch.old ++ packed_units 0 (tagged_units 0 units.now 0) }
     ensures form { IsKnownForm (packed_units 0 (tagged_units 0 units.now 0)) units.now result.1 }
 {
-    let mut block = [0; BLOCK_UNITS];
-    block[..units.len()].copy_from_slice(units);
-    let written = write_block(u16x16::from_array(block), scratch, len);
+    let written = write_block(padded(units), scratch, len);
     (written.end - (BLOCK_UNITS - units.len()), written.is_utf8)
 }
 

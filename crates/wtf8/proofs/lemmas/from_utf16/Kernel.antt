@@ -131,7 +131,7 @@ lanes_by-tagged f g h b d (x ∷ u) a k fits =
 abbrev lanes_of_kind : ℕ → List ℕ → List ℕ
 lanes_of_kind k kinds = zip2 (λ a b. cond (eqb a b) 0xFFFF 0) kinds (replicate 16 k)
 
-abbrev pub before_lanes : List ℕ → List ℕ
+abbrev before_lanes : List ℕ → List ℕ
 before_lanes u = pick_l 0 (u ++ replicate 16 0) (16 ∷ 0 ∷ 1 ∷ 2 ∷ 3 ∷ 4 ∷ 5 ∷ 6 ∷ 7 ∷ 8 ∷ 9 ∷ 10 ∷ 11 ∷ 12 ∷ 13 ∷ 14 ∷ [])
 
 abbrev pair_lead_lanes : List ℕ → List ℕ

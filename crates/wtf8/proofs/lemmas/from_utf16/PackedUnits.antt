@@ -209,29 +209,25 @@ Each1-front P [] v e = tt
 Each1-front P (x ∷ u) v e = (e.0, Each1-front P u v e.1)
 
 -- a block of fewer than sixteen units and zeros is taken whole
-taken_whole : (u : List ℕ) (k : ℕ) → length u < 16 → let block = u ++ replicate (16 - length u) 0 in
-    ((k ≡ 16) × ¬ (IsLead (get_or block 15 0))) ⊎ ((k ≡ 15) × IsLead (get_or block 15 0)) → k ≡ 16
-taken_whole u k few (inl t) = t.0
-taken_whole u k few (inr t) =
-    let block = u ++ replicate (16 - length u) 0 in
+taken_whole : (u : List ℕ) {block : List ℕ} (k : ℕ) → length u < 16 → block ≡ u ++ replicate (16 - length u) 0
+    → ((k ≡ 16) × ¬ (IsLead (get_or block 15 0))) ⊎ ((k ≡ 15) × IsLead (get_or block 15 0)) → k ≡ 16
+taken_whole u k few is (inl t) = t.0
+taken_whole u {block} k few is (inr t) =
     let at : 15 ≡ length u + (15 - length u) = omega arith in
-    let zero_at : get_or block 15 0 ≡ 0 = ap (λ i. get_or block i 0) at
+    let zero_at : get_or block 15 0 ≡ 0 = (λ i. get_or (is i) (at i) 0)
     ∙ get_or-append-add u (replicate (16 - length u) 0) (15 - length u) 0
     ∙ get_or-replicate (16 - length u) (15 - length u) 0 0 (omega arith) in
     absurd (omega (arith, zero_at, t.1.0))
 
 -- fewer than sixteen units, encoded as a block with zeros behind them, have the form of its bytes without the zeros
-pub last_block-form : (w kept u : List ℕ) {more : Bool} (k end : ℕ) → length u < 16 → ((i : ℕ) → Fits w16 (get_or u i 0))
-    → let block = u ++ replicate (16 - length u) 0 in
-    ((k ≡ 16) × ¬ (IsLead (get_or block 15 0))) ⊎ ((k ≡ 15) × IsLead (get_or block 15 0)) → (IsTrue more → Each1 IsUnit (tagged_block block))
+pub last_block-form : (w kept u : List ℕ) {block : List ℕ} {more : Bool} (k end : ℕ) → length u < 16 → ((i : ℕ) → Fits w16 (get_or u i 0))
+    → block ≡ u ++ replicate (16 - length u) 0
+    → ((k ≡ 16) × ¬ (IsLead (get_or block 15 0))) ⊎ ((k ≡ 15) × IsLead (get_or block 15 0)) → (IsTrue more → Each1 IsUnit (tagged_block block))
     → take end w ≡ kept ++ packed_units 0 (take k (tagged_block block)) → end ≤ length w
     → let part = packed_units 0 (tagged_units 0 u 0) in
     (length kept + (16 - length u) ≤ end) × (take (end - (16 - length u)) w ≡ kept ++ part) × IsKnownForm part u more
-last_block-form w kept u {more} k end few fits taken units e within = by (16 - length u) (omega arith) refl
+last_block-form w kept u {block} {more} k end few fits is taken units e within = by (16 - length u) (omega arith) refl
   where
-    block : List ℕ
-    block = u ++ replicate (16 - length u) 0
-
     part : List ℕ
     part = packed_units 0 (tagged_units 0 u 0)
 
@@ -239,10 +235,10 @@ last_block-form w kept u {more} k end few fits taken units e within = by (16 - l
     by zero some same = absurd (omega arith)
     by (suc m) some same =
         let zeros : List ℕ = replicate (suc m) 0 in
-        let own : block ≡ u ++ zeros = ap (λ m. u ++ replicate m 0) (sym same) in
-        let long : length block ≡ 16 = omega (arith, length-append u (replicate (16 - length u) 0), length-replicate {A = ℕ} (16 - length u) 0) in
+        let own : block ≡ u ++ zeros = is ∙ ap (λ m. u ++ replicate m 0) (sym same) in
+        let long : length block ≡ 16 = omega (arith, ap length own, length-append u zeros, length-replicate {A = ℕ} (suc m) 0) in
         let all : take k (tagged_block block) ≡ tagged_block block = take_all k (tagged_block block)
-        (omega (arith, taken_whole u k few taken, length-tagged_units 0 block 0xDC00, long)) in
+        (omega (arith, taken_whole u k few is taken, length-tagged_units 0 block 0xDC00, long)) in
         let tags : tagged_block block ≡ tagged_units 0 u 0 ++ zeros = ap tagged_block own ∙ tagged_units-padded 0 u m 0xDC00 in
         let whole : take end w ≡ (kept ++ part) ++ zeros = e ∙ ap (λ t. kept ++ packed_units 0 t) (all ∙ tags)
         ∙ ap (λ v. kept ++ v) (packed_units-padded 0 (tagged_units 0 u 0) (suc m)) ∙ sym (append_assoc kept part zeros) in

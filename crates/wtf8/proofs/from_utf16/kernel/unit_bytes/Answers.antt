@@ -1,6 +1,6 @@
 use Rattle.wtf8.proofs.Common.{arith, eqb-true}
 use Rattle.wtf8.proofs.lemmas.lanes.AsciiFronts.{by_all}
-use Rattle.wtf8.proofs.lemmas.from_utf16.Kernel.{pair_lanes, before_lanes, units-from_lone_mask}
+use Rattle.wtf8.proofs.lemmas.from_utf16.Kernel.{pair_lanes, units-from_lone_mask}
 use Rattle.wtf8.proofs.from_utf16.kernel.unit_bytes.Goals as goal
 
 pub returns-clause-bytes : goal.returns-clause-bytes
@@ -29,7 +29,7 @@ pub nonzero_rem-lead_lasts : goal.nonzero_rem-lead_lasts
 nonzero_rem-lead_lasts c = by_all _ 64 (omega arith)
 
 pub nonzero_rem-low_bits : goal.nonzero_rem-low_bits
-nonzero_rem-low_bits c = by_all (before_lanes c.args.units) 4 (omega arith)
+nonzero_rem-low_bits c = search (arith, by_all)
 
 pub nonzero_div-high_bits : goal.nonzero_div-high_bits
 nonzero_div-high_bits c = by_all c.args.units 64 (omega arith)
