@@ -1,4 +1,4 @@
-use Rattle.wtf8.proofs.Common.{ℕ, List, ◌≡◌, ◌+◌, ◌-◌, ◌≤◌, ◌++◌, ◌∙◌, ap, arith, length, length-take, length-drop, take, drop, sym}
+use Rattle.wtf8.proofs.Common.{ℕ, List, ◌≡◌, ◌+◌, ◌≤◌, ◌++◌, ◌∙◌, ap, arith, length, length-take, length-drop, take, drop, sym}
 use Rattle.wtf8.proofs.Common.{take-take, take_all, take-append-drop, drop-append-add, drop-drop, append_assoc}
 use Rattle.std.proofs.lemmas.List.{take-append-le}
 use Rattle.wtf8.proofs.from_utf16.kernel.copy_by_ends.Goals as goal
