@@ -37,7 +37,7 @@ const HALF_BLOCK: usize = BLOCK_UNITS / 2;
 const QUARTER_BLOCK: usize = BLOCK_UNITS / 4;
 
 /// The least number of the last units, fewer than a block, that are encoded as one.
-pub(crate) const LAST_UNITS: usize = 5;
+pub(crate) const LAST_UNITS: usize = QUARTER_BLOCK;
 
 /// The bytes that must be left in the scratch buffer for a block: at most 12 for each of three quarters, then a store of
 /// 16.
@@ -118,8 +118,8 @@ fn scalar_heads(units: u16x16) -> u16x16
     prefixes + units / u16x16::splat(4096) + middle * u16x16::splat(256)
 }
 
-/// The last byte of each unit's encoding, for the trail of a pair that of the pair. Not used for the leads of pairs. A
-/// unit below 0x80 is the lesser of the two.
+/// The last byte of each unit's encoding, for the trail of a pair that of the pair. Not used for the leads of pairs. It
+/// is the lesser of the unit and a continuation byte, without a test whether the unit is ASCII.
 #[inline(always)]
 fn scalar_lasts(units: u16x16) -> u16x16
     ensures { result ≡ map scalar_last_byte units }
