@@ -111,11 +111,12 @@ fn are_scalar(units: u16x16) -> bool
 fn scalar_heads(units: u16x16) -> u16x16
     ensures { result ≡ map scalar_head units }
 {
-    let prefixes = units
+    let first_of_two = units
         .simd_lt(u16x16::splat(0x800))
-        .select(u16x16::splat(0xC0E0), u16x16::splat(0x80E0));
+        .select(u16x16::splat(0x4000), u16x16::splat(0));
+    let firsts = u16x16::splat(0x80E0) + units / u16x16::splat(4096);
     let middle = units / u16x16::splat(64) % u16x16::splat(64);
-    prefixes + units / u16x16::splat(4096) + middle * u16x16::splat(256)
+    firsts + middle * u16x16::splat(256) + first_of_two
 }
 
 /// The last byte of each unit's encoding, for the trail of a pair that of the pair. Not used for the leads of pairs. It
@@ -175,10 +176,9 @@ fn unit_bytes(units: u16x16) -> UnitBytes
     let lead_heads = u16x16::splat(0xF0ED) + high / u16x16::splat(256) * u16x16::splat(256);
     let lead_lasts = u16x16::splat(0x80) + high / u16x16::splat(4) % u16x16::splat(64);
     let before = units.shuffle(u16x16::splat(0), LANES_BEFORE);
-    let low_bits = before % u16x16::splat(4) * u16x16::splat(4096);
-    let high_bits = units / u16x16::splat(64) % u16x16::splat(16) * u16x16::splat(256);
-    let trail_heads = u16x16::splat(0x80ED) + low_bits + high_bits;
-    let no_lead = pair_trails.select(trail_heads, scalar_heads(units));
+    // In a scalar value's second byte every trail has 11 in the two bits that a pair's trail has of its lead.
+    let unset_bits = (u16x16::splat(3) - before % u16x16::splat(4)) * u16x16::splat(4096);
+    let no_lead = scalar_heads(units) - pair_trails.select(unset_bits, u16x16::splat(0));
     let flags = halves.select(u16x16::splat(0), scalar_flags(units));
     UnitBytes {
         heads: pair_leads.select(lead_heads, no_lead),

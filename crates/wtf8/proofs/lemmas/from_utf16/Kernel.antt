@@ -53,14 +53,14 @@ lanes_mul k u = zip2 (λ a b. a * b % 65536) u (replicate 16 k)
 -- The three candidate bytes of scalar values.
 
 abbrev scalar_head_lanes : List ℕ → List ℕ
-scalar_head_lanes u = lanes_add (lanes_add (select_by ltb 0x800 u (replicate 16 0xC0E0) (replicate 16 0x80E0)) (lanes_div 4096 u))
-    (lanes_mul 256 (lanes_rem 64 (lanes_div 64 u)))
+scalar_head_lanes u = lanes_add (lanes_add (lanes_add (replicate 16 0x80E0) (lanes_div 4096 u))
+    (lanes_mul 256 (lanes_rem 64 (lanes_div 64 u)))) (select_by ltb 0x800 u (replicate 16 0x4000) (replicate 16 0))
 
 pub scalar_head_lanes-map : (u : List ℕ) → length u ≡ 16 → Each1 (Fits w16) u → scalar_head_lanes u ≡ map scalar_head u
 scalar_head_lanes-map = map_lanes scalar_head_lanes lane (λ u. refl)
   where
-    lane : (x : ℕ) → Fits w16 x → ((cond (top 15 (cond (ltb x 0x800) 0xFFFF 0)) 0xC0E0 0x80E0 + x / 4096) % 65536
-        + x / 64 % 64 * 256 % 65536) % 65536 ≡ scalar_head x
+    lane : (x : ℕ) → Fits w16 x → (((0x80E0 + x / 4096) % 65536 + x / 64 % 64 * 256 % 65536) % 65536
+        + cond (top 15 (cond (ltb x 0x800) 0xFFFF 0)) 0x4000 0) % 65536 ≡ scalar_head x
     lane x h = elim (cases_lt x 0x800) [
       | inl l ↦ rw (lt-ltb x 0x800 l) (omega (arith, h.fits))
       | inr g ↦ rw (le-ltb x 0x800 g) (omega (arith, h.fits))
@@ -144,12 +144,15 @@ pair_trail_lanes u =
     let kinds = lanes_div 1024 u in
     zip2 bit_and (lanes_of_kind 55 kinds) (lanes_of_kind 54 (before_lanes kinds))
 
+abbrev lanes_sub : List ℕ → List ℕ → List ℕ
+lanes_sub = zip2 (λ a b. (a + (65536 - b)) % 65536)
+
 abbrev head_lanes : List ℕ → List ℕ → List ℕ
 head_lanes own u =
     let high = lanes_add (lanes_rem 1024 u) (replicate 16 64) in
+    let unset = lanes_mul 4096 (lanes_sub (replicate 16 3) (lanes_rem 4 (before_lanes u))) in
     sel_l (map (top 15) (pair_lead_lanes u)) (lanes_add (replicate 16 0xF0ED) (lanes_mul 256 (lanes_div 256 high)))
-    (sel_l (map (top 15) (pair_trail_lanes u)) (lanes_add (lanes_add (replicate 16 0x80ED) (lanes_mul 4096 (lanes_rem 4 (before_lanes u))))
-    (lanes_mul 256 (lanes_rem 16 (lanes_div 64 u)))) own)
+    (lanes_sub own (sel_l (map (top 15) (pair_trail_lanes u)) unset (replicate 16 0)))
 
 abbrev last_lanes : List ℕ → List ℕ → List ℕ → List ℕ
 last_lanes own flags u = lanes_add (sel_l (map (top 15) (pair_lead_lanes u))
@@ -164,9 +167,12 @@ head before n = first_byte n + second_byte before n * 256
 abbrev last : ℕ → ℕ
 last n = last_byte n + three_byte_bit n * 0x8000
 
-head-lane : (b d x t : ℕ) → IsTag b d → IsTag x t → x < 0x10000 → cond (top 15 (lead_mask t))
-    ((0xF0ED + (x % 1024 + 64) % 65536 / 256 * 256 % 65536) % 65536) (cond (top 15 (trail_mask t))
-    (((0x80ED + b % 4 * 4096 % 65536) % 65536 + x / 64 % 16 * 256 % 65536) % 65536) (scalar_head x)) ≡ head d t
+-- `f` of the masks `l` and `t`
+abbrev head_by : ℕ → ℕ → ℕ → ℕ → ℕ
+head_by l t b x = cond (top 15 l) ((0xF0ED + (x % 1024 + 64) % 65536 / 256 * 256 % 65536) % 65536)
+    ((scalar_head x + (65536 - cond (top 15 t) ((3 + (65536 - b % 4)) % 65536 * 4096 % 65536) 0)) % 65536)
+
+head-lane : (b d x t : ℕ) → IsTag b d → IsTag x t → x < 0x10000 → head_by (lead_mask t) (trail_mask t) b x ≡ head d t
 head-lane b d x t k m f = grind (arith)
 
 last-lane : (x t : ℕ) → IsTag x t → (cond (top 15 (lead_mask t)) ((0x80 + (x % 1024 + 64) % 65536 / 4 % 64) % 65536) (scalar_last_byte x)
@@ -178,8 +184,7 @@ pub pair_lanes : (own lasts m u : List ℕ) → length u ≡ 16 → Each1 (Fits 
 pair_lanes own lasts m u l fits x y z = rw (x, y, z) (of_sixteen (λ u. Each1 (Fits w16) u → AreUnitBytes (tagged_block u)
     (head_lanes (map scalar_head u) u) (last_lanes (map scalar_last_byte u) (map three_byte_flag u) u)) u l
     (λ f. record {
-      head = by f (λ l t b x. cond (top 15 l) ((0xF0ED + (x % 1024 + 64) % 65536 / 256 * 256 % 65536) % 65536) (cond (top 15 t)
-          (((0x80ED + b % 4 * 4096 % 65536) % 65536 + x / 64 % 16 * 256 % 65536) % 65536) (scalar_head x))) head head-lane;
+      head = by f head_by head head-lane;
       last = by f (λ l t b x. (cond (top 15 l) ((0x80 + (x % 1024 + 64) % 65536 / 4 % 64) % 65536) (scalar_last_byte x)
           + cond (top 15 (bit_or l t)) 0 (three_byte_flag x)) % 65536) (λ d t. last t) (λ b d x t k m _. last-lane x t m);
     }) fits)

@@ -12,5 +12,5 @@ nonzero_div-middle c = by_all c.args.units 64 (omega arith)
 pub nonzero_rem-middle : goal.nonzero_rem-middle
 nonzero_rem-middle c = by_all _ 64 (omega arith)
 
-pub nonzero_div-result : goal.nonzero_div-result
-nonzero_div-result c = by_all c.args.units 4096 (omega arith)
+pub nonzero_div-firsts : goal.nonzero_div-firsts
+nonzero_div-firsts c = by_all c.args.units 4096 (omega arith)

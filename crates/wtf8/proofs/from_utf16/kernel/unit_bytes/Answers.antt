@@ -28,11 +28,5 @@ nonzero_div-lead_lasts c = by_all _ 4 (omega arith)
 pub nonzero_rem-lead_lasts : goal.nonzero_rem-lead_lasts
 nonzero_rem-lead_lasts c = by_all _ 64 (omega arith)
 
-pub nonzero_rem-low_bits : goal.nonzero_rem-low_bits
-nonzero_rem-low_bits c = search (arith, by_all)
-
-pub nonzero_div-high_bits : goal.nonzero_div-high_bits
-nonzero_div-high_bits c = by_all c.args.units 64 (omega arith)
-
-pub nonzero_rem-high_bits : goal.nonzero_rem-high_bits
-nonzero_rem-high_bits c = by_all _ 16 (omega arith)
+pub nonzero_rem-unset_bits : goal.nonzero_rem-unset_bits
+nonzero_rem-unset_bits c = search (arith, by_all)
