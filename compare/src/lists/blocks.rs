@@ -137,8 +137,8 @@ const LAST_OF_FILLED: [[u16; 8]; 2] = [
 ];
 
 /// Up to 14 groups of eight units, first units of three bytes and then units of two, in each proportion; after them
-/// one of `LAST_OF_FILLED`. So a buffer that is filled eight units at a time has each possible number of free bytes when
-/// the last eight come.
+/// one of `LAST_OF_FILLED`. So a buffer that is filled sixteen units at a time has each possible number of free bytes
+/// when the last eight come, as half of a block or as a block with zeros.
 pub fn filled_blocks() -> Vec<Vec<Call>> {
     let of_last = |last| (1..=14).map(move |groups| filled_by(groups, last));
     LAST_OF_FILLED.into_iter().flat_map(of_last).collect()

@@ -13,7 +13,7 @@ type Row = (Call, &'static [u16], u64, usize);
 
 /// A growing string requests the greatest of eight bytes, twice its capacity and what is needed. A string made of units
 /// first reserves one byte for each unit.
-fn rows() -> [Row; 17] {
+fn rows() -> [Row; 18] {
     [
         (Call::WithCapacity, &[0x0061], 1, 1),
         (Call::WithCapacity, &[0x0061; 1000], 1, 1000),
@@ -22,8 +22,9 @@ fn rows() -> [Row; 17] {
         (Call::FromUnits, &[0xE000, 0xE000], 2, 2 + 8),
         (Call::FromUnits, &[0xD83D, 0xDCA9, 0x0061], 2, 3 + 8),
         (Call::FromUnits, &[0xE000; 8], 2, 8 + 24),
-        (Call::FromUnits, &[0xE000; 9], 3, 9 + 24 + 48),
+        (Call::FromUnits, &[0xE000; 9], 2, 9 + 27),
         (Call::FromUnits, &[0xE000; 16], 2, 16 + 48),
+        (Call::FromUnits, &[0xE000; 17], 3, 17 + 48 + 96),
         (Call::FromUnits, &[0x00E9; 8], 2, 8 + 16),
         (Call::FromUnits, &[0x00E9; 16], 2, 16 + 32),
         (

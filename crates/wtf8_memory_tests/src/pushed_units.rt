@@ -11,7 +11,7 @@ use wtf8_tests::wrong::{Wrong, expect, expect_bytes};
 /// A lead and its trail, by which a split between them joins.
 const PAIR: [u16; 2] = [0xD83D, 0xDCA9];
 
-/// Units of three bytes with a pair among them, then units of two bytes: more than two blocks of eight.
+/// Units of three bytes with a pair among them, then units of two bytes: a block of sixteen and six units more.
 const WIDE: [u16; 22] = [
     0x3042, 0x3042, 0x3042, 0x3042, 0x3042, 0x3042, 0x3042, 0x3042, 0x3042, 0xD83D, 0xDCA9, 0x3042,
     0x00E9, 0x00E9, 0x00E9, 0x00E9, 0x00E9, 0x00E9, 0x00E9, 0x00E9, 0x00E9, 0xDC00,
@@ -145,11 +145,11 @@ fn units_are_pushed_without_a_request_just_if_they_fit(rt: HostRuntime) -> Resul
 }
 
 /// Units pushed to "a" and D83D, whose four bytes fill the capacity; the bytes after the push, and the numbers of its
-/// requests and of the bytes in them. First a byte for each unit is reserved, then what a block of eight or one code
-/// point needs; each request is for the greatest of eight bytes, twice the capacity and what is needed.
+/// requests and of the bytes in them. First a byte for each unit is reserved, then what a block of up to sixteen or one
+/// code point needs; each request is for the greatest of eight bytes, twice the capacity and what is needed.
 type Row = (&'static [u16], &'static str, u64, usize);
 
-fn rows() -> [Row; 7] {
+fn rows() -> [Row; 8] {
     [
         (&[], FULL, 0, 0),
         (&[0x0061], "61 ED A0 BD 61", 1, 8),
@@ -167,8 +167,14 @@ fn rows() -> [Row; 7] {
                 0xE000, 0xE000, 0xE000, 0xE000, 0xE000, 0xE000, 0xE000, 0xE000, 0xE000,
             ],
             "61 ED A0 BD EE 80 80 EE 80 80 EE 80 80 EE 80 80 EE 80 80 EE 80 80 EE 80 80 EE 80 80 EE 80 80",
+            2,
+            13 + 31,
+        ),
+        (
+            &[0xE000; 17],
+            "61 ED A0 BD EE 80 80 EE 80 80 EE 80 80 EE 80 80 EE 80 80 EE 80 80 EE 80 80 EE 80 80 EE 80 80 EE 80 80 EE 80 80 EE 80 80 EE 80 80 EE 80 80 EE 80 80 EE 80 80 EE 80 80",
             3,
-            13 + 28 + 56,
+            21 + 52 + 104,
         ),
     ]
 }

@@ -27,6 +27,10 @@ first_byte n = 0xE0 + n / 4096 % 16
 abbrev pub scalar_second_byte : ℕ → ℕ
 scalar_second_byte n = (if nat_lt n 0x800 then 0xC0 else 0x80) + n / 64 % 64
 
+-- The first and the second of the three bytes of a unit that is no surrogate, as a number of two bytes.
+abbrev pub scalar_head : ℕ → ℕ
+scalar_head n = first_byte n + scalar_second_byte n * 256
+
 -- The last of the three bytes of a unit that is no surrogate.
 abbrev pub scalar_last_byte : ℕ → ℕ
 scalar_last_byte n = if nat_lt n 0x80 then n else 0x80 + n % 64
@@ -54,11 +58,14 @@ three_byte_bit n = if nat_lt n 0x800 then 0 else if nat_lt n 0xD800 then 1 else 
 abbrev pub byte_count : ℕ → ℕ
 byte_count n = (if nat_lt n 0x80 then 1 else 2) + three_byte_bit n
 
--- The second and the last bytes of the units, as if after a 0, and for each unit 0x80 if it adds three bytes, else 0.
-pub record AreLaterBytes (u seconds lasts longs : List ℕ) : Type 0 where
-  pub second : seconds ≡ zip2 second_byte (0 ∷ u) u
-  pub last : lasts ≡ map last_byte u
-  pub long : longs ≡ map (λ n. three_byte_bit n * 0x80) u
+-- 0x8000 if a unit that is no half of a pair adds three bytes, else 0.
+abbrev pub three_byte_flag : ℕ → ℕ
+three_byte_flag n = (if nat_lt n 0x800 then 0 else 1) * 0x8000
+
+-- The first and the second byte of each unit, as if after a 0; the last bytes, 0x8000 higher if the unit adds three bytes.
+pub record AreUnitBytes (u heads lasts : List ℕ) : Type 0 where
+  pub head : heads ≡ zip2 (λ before n. first_byte n + second_byte before n * 256) (0 ∷ u) u
+  pub last : lasts ≡ map (λ n. last_byte n + three_byte_bit n * 0x8000) u
 
 -- The bytes that the unit `n` adds after the unit `before`.
 abbrev pub packed_unit : ℕ → ℕ → List ℕ
@@ -69,21 +76,24 @@ abbrev pub packed_units : ℕ → List ℕ → List ℕ
 packed_units before [] = []
 packed_units before (n ∷ u) = packed_unit before n ++ packed_units n u
 
--- The three bytes of the units after `before`: all first bytes, then all second ones, then all last ones.
+-- The three bytes of each of the units after `before`, and behind them 0x80 if it adds three bytes, else 0.
 abbrev pub byte_lanes : ℕ → List ℕ → List ℕ
-byte_lanes before u = map first_byte u ++ zip2 second_byte (before ∷ u) u ++ map last_byte u
+byte_lanes before [] = []
+byte_lanes before (n ∷ u) = first_byte n ∷ second_byte before n ∷ last_byte n ∷ (three_byte_bit n * 0x80) ∷ byte_lanes n u
 
--- The table index for four lengths: bit `k` is set if length `k` is above one, bit `4 + k` if it is three.
-abbrev pub table_index : ℕ → ℕ → ℕ → ℕ → ℕ
-table_index a b c d = a / 2 + b / 2 * 2 + c / 2 * 4 + d / 2 * 8 + (a / 3 + b / 3 * 2 + c / 3 * 4 + d / 3 * 8) * 16
+-- The table index for some lengths: bit `2 * k` is set if length `k` is above one, bit `2 * k + 1` if it is three.
+abbrev pub table_index : List ℕ → ℕ
+table_index [] = 0
+table_index (n ∷ lens) = n / 2 + n / 3 * 2 + 4 * table_index lens
 
--- The table index for the first four units of a list.
+-- The table index for the lengths of some units.
 abbrev pub units_table_index : List ℕ → ℕ
-units_table_index u = let count = λ (k : ℕ). byte_count (get_or u k 0) in table_index (count 0) (count 1) (count 2) (count 3)
+units_table_index u = table_index (map byte_count u)
 
--- The lanes of the last `n` of the three bytes of unit `k` of four.
-abbrev pub source_lanes : ℕ → ℕ → List ℕ
-source_lanes n k = drop (3 - n) (k ∷ (4 + k) ∷ (8 + k) ∷ [])
+-- The lanes of the bytes of units of some lengths: of the first unit the last ones of three from lane `k` on.
+abbrev pub source_lanes : ℕ → List ℕ → List ℕ
+source_lanes k [] = []
+source_lanes k (n ∷ lens) = drop (3 - n) (k ∷ (1 + k) ∷ (2 + k) ∷ []) ++ source_lanes (4 + k) lens
 
 -- A length is one, two or three.
 abbrev pub IsByteCount : ℕ → Type 0
@@ -91,10 +101,10 @@ IsByteCount n = (1 ≤ n) × (n ≤ 3)
 
 -- The row at table index `number` begins with the lanes of the bytes of four units of these lengths, in order.
 abbrev pub IsPackingShuffle : ℕ → List ℕ → Type 0
-IsPackingShuffle number row = (a b c d : ℕ) → IsByteCount a → IsByteCount b → IsByteCount c → IsByteCount d → number ≡ table_index a b c d
-    → take (a + b + c + d) row ≡ source_lanes a 0 ++ source_lanes b 1 ++ source_lanes c 2 ++ source_lanes d 3
+IsPackingShuffle number row = (a b c d : ℕ) → IsByteCount a → IsByteCount b → IsByteCount c → IsByteCount d
+    → number ≡ table_index (a ∷ b ∷ c ∷ d ∷ []) → take (a + b + c + d) row ≡ source_lanes 0 (a ∷ b ∷ c ∷ d ∷ [])
 
 -- The count at table index `number` is the sum of the four lengths.
 abbrev pub IsPackedLen : ℕ → ℕ → Type 0
-IsPackedLen number count =
-    (a b c d : ℕ) → IsByteCount a → IsByteCount b → IsByteCount c → IsByteCount d → number ≡ table_index a b c d → count ≡ a + b + c + d
+IsPackedLen number count = (a b c d : ℕ) → IsByteCount a → IsByteCount b → IsByteCount c → IsByteCount d
+    → number ≡ table_index (a ∷ b ∷ c ∷ d ∷ []) → count ≡ a + b + c + d

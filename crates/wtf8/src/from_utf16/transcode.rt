@@ -1,45 +1,44 @@
-// Encodes code units in steps, by what the next units are: an ASCII run of up to 32, 16 or 8 units and the code point
-// after it, blocks of `kernel`, or one code point. `decode_utf16` decodes the last units, fewer than 8.
+// Encodes code units in steps, by what the next units are: an ASCII run of up to 32, 16, 8 or 4 units and the code point
+// after it, blocks of `kernel`, or one code point. `decode_utf16` decodes the last units, fewer than `LAST_UNITS`.
 ghost use Rattle.std.specs.Prelude.{◌≡◌, ℕ, List, ◌++◌, ◌+◌, ◌^◌, ◌<◌, ◌≤◌, length, take, map, min, vec_capacity, IfOk, IsOk};
 ghost use Rattle.wtf8.specs.private.Prefixes.{IsKnownForm, IsReadTo, ReadsOn, HasRoomFrom};
 
 use crate::codec::code_point::CodePoint;
 use crate::codec::encoding;
 use crate::from_utf16::decode;
-use crate::from_utf16::kernel::{self, MIN_SPARE, Progress};
+use crate::from_utf16::kernel::{self, LAST_UNITS, MIN_SPARE, Progress};
 use crate::lanes::ascii::ascii_run_len;
 use crate::vec::capacity::spare_capacity;
 use std::alloc::{AllocError, Allocator};
 use std::simd::prelude::*;
 
-/// The number of units that are searched for an ASCII run at once while at least `ASCII_BLOCK` are left.
-const ASCII_BLOCK: usize = 2 * TAIL_ASCII_BLOCK;
+/// The number of units that are searched for an ASCII run at once while as many are left.
+const LONG_RUN: usize = 32;
 
-/// The number of units that are searched for an ASCII run at once if fewer than `ASCII_BLOCK` are left.
-const TAIL_ASCII_BLOCK: usize = 16;
+/// The number of units that are searched for an ASCII run at once while as many are left, and fewer than `LONG_RUN`.
+const MEDIUM_RUN: usize = LONG_RUN / 2;
 
-/// The least number of units that are encoded as a block, and the number that are searched for an ASCII run at once if
-/// fewer than `TAIL_ASCII_BLOCK` are left.
-const SMALL_BLOCK: usize = TAIL_ASCII_BLOCK / 2;
+/// The number of units that are searched for an ASCII run at once while as many are left, and fewer than `MEDIUM_RUN`.
+/// Also the least number that a caller with few units appends by blocks.
+const SMALL_RUN: usize = MEDIUM_RUN / 2;
 
-/// The number of units that are searched for an ASCII run at once if fewer than `SMALL_BLOCK` are appended.
-const SHORT_RUN: usize = SMALL_BLOCK / 2;
+/// The number of units that are searched for an ASCII run at once if fewer than `SMALL_RUN` are left.
+const SHORT_RUN: usize = SMALL_RUN / 2;
 
 /// The number of units from which on the kernel's scratch buffer has `LONG_SCRATCH_BYTES`. If it has them from 32 units
 /// on, lists of 40 with lone surrogates take 1.5 to 2.9% more instructions.
 const LONG_LIST: usize = 128;
 
-/// The size in bytes of the kernel's scratch buffer while `LONG_LIST` or more units are left: room for 21 blocks of
-/// three-byte code points between two appends.
+/// The size in bytes of the kernel's scratch buffer while `LONG_LIST` or more units are left: room for ten blocks.
 const LONG_SCRATCH_BYTES: usize = 512;
 
-/// The size in bytes of the kernel's scratch buffer while `ASCII_BLOCK` or more units are left, and fewer than
-/// `LONG_LIST`: room for ten blocks. No more are zeroed without a call of `memset`.
+/// The size in bytes of the kernel's scratch buffer while `LONG_RUN` or more units are left, and fewer than `LONG_LIST`:
+/// room for five blocks. No more are zeroed without a call of `memset`.
 const SCRATCH_BYTES: usize = 256;
 
-/// The size in bytes of the kernel's scratch buffer if fewer than `ASCII_BLOCK` units are left: room for three blocks
-/// of three-byte code points, after which fewer than eight units are left. It is no longer, since it is zeroed first.
-const TAIL_SCRATCH_BYTES: usize = 80;
+/// The size in bytes of the kernel's scratch buffer if fewer than `LONG_RUN` units are left: room for these. It is no
+/// longer, since it is zeroed first.
+const SHORT_SCRATCH_BYTES: usize = 112;
 
 /// Units narrowed to bytes. A unit above 0xFF becomes 0xFF, so that it is not ASCII.
 #[inline(always)]
@@ -103,28 +102,31 @@ fn append_ascii_run<const N: usize, A: Allocator>(
     let count = ascii_run_len(block);
     let end = bytes.len() + count;
     bytes.extend_from_slice(&block.to_array())?;
+    if count == N {
+        // By a constant: the next load does not wait for the mask of this block.
+        return Ok(Progress {
+            at: from.at + N,
+            is_utf8: from.is_utf8,
+        });
+    }
+    bytes.truncate(end);
     let to = Progress {
         at: from.at + count,
         is_utf8: from.is_utf8,
     };
-    if count == N {
-        return Ok(to);
-    }
-    bytes.truncate(end);
     append_point(bytes, v, to)
 }
 
-/// Appends the bytes of the next units: an ASCII run of up to `RUN` and the code point after it, blocks of eight
-/// through a scratch buffer of `SCRATCH` bytes, or one code point. Returns how far units are encoded.
+/// Appends the bytes of the next units, `LONG_RUN` or more: an ASCII run of up to `LONG_RUN` and the code point after it,
+/// blocks through a scratch buffer of `SCRATCH` bytes, or one code point. Returns how far units are encoded.
 #[inline(always)]
-fn append_next<const RUN: usize, const SCRATCH: usize, A: Allocator>(
+fn append_next<const SCRATCH: usize, A: Allocator>(
     bytes: &mut Vec<u8, A>,
     v: &[u16],
     from: Progress,
 ) -> Result<Progress, AllocError>
-    requires lanes { (SMALL_BLOCK ≤ RUN) × (RUN ≤ u64.BITS) }
     requires room { (MIN_SPARE ≤ SCRATCH) × (SCRATCH < 2 ^ 16) }
-    requires within { from.at + RUN ≤ length v.now }
+    requires within { from.at + LONG_RUN ≤ length v.now }
     ensures order { IfOk result (λ to. (from.at < to.at) × (to.at ≤ length v.now)) }
     ensures read { IfOk result (λ to. ReadsOn bytes.old.items bytes.new.items v.now from.at from.is_utf8 to.at to.is_utf8) }
     ensures begins { take (length bytes.old.items) bytes.new.items ≡ bytes.old.items }
@@ -133,7 +135,7 @@ fn append_next<const RUN: usize, const SCRATCH: usize, A: Allocator>(
 {
     let at = from.at;
     if v[at] < 0x80 {
-        return append_ascii_run::<RUN, A>(bytes, v, from);
+        return append_ascii_run::<LONG_RUN, A>(bytes, v, from);
     }
     // ASCII that follows soon is most often a run: encode one code point, and leave the run to a later step.
     if v[at + 1] < 0x80 || v[at + 2] < 0x80 {
@@ -142,29 +144,36 @@ fn append_next<const RUN: usize, const SCRATCH: usize, A: Allocator>(
     kernel::append_blocks::<SCRATCH, A>(bytes, v, from)
 }
 
-/// Appends the bytes of units from index `from.at` on, with `SMALL_BLOCK` or more left: an ASCII run of up to
-/// `SMALL_BLOCK` and the code point after it, or blocks of eight. Returns how far units are encoded.
+/// Appends the bytes of the next units, `LAST_UNITS` or more: an ASCII run and the code point after it, or blocks, of
+/// which the last may have fewer units. Returns how far units are encoded.
 #[inline(always)]
-fn append_small_block<A: Allocator>(
+fn append_last<A: Allocator>(
     bytes: &mut Vec<u8, A>,
     v: &[u16],
     from: Progress,
 ) -> Result<Progress, AllocError>
-    requires within { from.at + SMALL_BLOCK ≤ length v.now }
+    requires within { from.at + LAST_UNITS ≤ length v.now }
     ensures order { IfOk result (λ to. (from.at < to.at) × (to.at ≤ length v.now)) }
     ensures read { IfOk result (λ to. ReadsOn bytes.old.items bytes.new.items v.now from.at from.is_utf8 to.at to.is_utf8) }
     ensures begins { take (length bytes.old.items) bytes.new.items ≡ bytes.old.items }
     ensures room { HasRoomFrom bytes.old v.now from.at from.is_utf8 → IsOk result }
     ensures capacity { vec_capacity bytes.old ≤ vec_capacity bytes.new }
 {
-    if v[from.at] < 0x80 {
-        return append_ascii_run::<SMALL_BLOCK, A>(bytes, v, from);
+    if 0x80 <= v[from.at] {
+        return kernel::append_blocks::<SHORT_SCRATCH_BYTES, A>(bytes, v, from);
     }
-    kernel::append_blocks::<TAIL_SCRATCH_BYTES, A>(bytes, v, from)
+    let left = v.len() - from.at;
+    if MEDIUM_RUN <= left {
+        return append_ascii_run::<MEDIUM_RUN, A>(bytes, v, from);
+    }
+    if SMALL_RUN <= left {
+        return append_ascii_run::<SMALL_RUN, A>(bytes, v, from);
+    }
+    append_ascii_run::<SHORT_RUN, A>(bytes, v, from)
 }
 
-/// Appends the bytes of units from index `from.at` on, until fewer than `SMALL_BLOCK` are left. Returns how far units
-/// are encoded. With these loops in `append_utf16` itself, 40 units whose ends join take 1.4% more instructions.
+/// Appends the bytes of units from index `from.at` on, until fewer than `LAST_UNITS` are left. Returns how far units are
+/// encoded. With these loops in `append_utf16` itself, 40 units whose ends join take 1.4% more instructions.
 #[inline(always)]
 fn append_steps<A: Allocator>(
     bytes: &mut Vec<u8, A>,
@@ -180,16 +189,13 @@ fn append_steps<A: Allocator>(
 {
     let mut read = from;
     while LONG_LIST <= v.len() - read.at {
-        read = append_next::<ASCII_BLOCK, LONG_SCRATCH_BYTES, A>(bytes, v, read)?;
+        read = append_next::<LONG_SCRATCH_BYTES, A>(bytes, v, read)?;
     }
-    while ASCII_BLOCK <= v.len() - read.at {
-        read = append_next::<ASCII_BLOCK, SCRATCH_BYTES, A>(bytes, v, read)?;
+    while LONG_RUN <= v.len() - read.at {
+        read = append_next::<SCRATCH_BYTES, A>(bytes, v, read)?;
     }
-    while TAIL_ASCII_BLOCK <= v.len() - read.at {
-        read = append_next::<TAIL_ASCII_BLOCK, TAIL_SCRATCH_BYTES, A>(bytes, v, read)?;
-    }
-    while SMALL_BLOCK <= v.len() - read.at {
-        read = append_small_block(bytes, v, read)?;
+    while LAST_UNITS <= v.len() - read.at {
+        read = append_last(bytes, v, read)?;
     }
     Ok(read)
 }
@@ -282,7 +288,7 @@ fn append_few<A: Allocator>(
     Ok(read.is_utf8)
 }
 
-/// `append_utf16` for a caller that often has fewer than `SMALL_BLOCK` units: these do not pay for what blocks need of
+/// `append_utf16` for a caller that often has fewer than `SMALL_RUN` units: these do not pay for what blocks need of
 /// registers and stack.
 #[inline(always)]
 pub(crate) fn append_few_or_many<A: Allocator>(
@@ -296,7 +302,7 @@ pub(crate) fn append_few_or_many<A: Allocator>(
     ensures room { HasRoomFrom bytes.old v.now from.at from.is_utf8 → IsOk result }
     ensures capacity { vec_capacity bytes.old ≤ vec_capacity bytes.new }
 {
-    if v.len() - from.at < SMALL_BLOCK {
+    if v.len() - from.at < SMALL_RUN {
         return append_few(bytes, v, from);
     }
     append_utf16(bytes, v, from)

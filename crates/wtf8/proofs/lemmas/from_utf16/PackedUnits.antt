@@ -3,14 +3,15 @@ use Rattle.wtf8.proofs.Common.{◌≡◌, ℕ, zero, suc, ◌+◌, ◌-◌, ◌/
 use Rattle.wtf8.proofs.Common.{ap, ◌∙◌, arith, lt-ltb, le-ltb, subst, cases_lt, inl, inr, true, drop, append-nil, append_assoc, units_of}
 use Rattle.wtf8.proofs.Common.{IsSurrogate, encoding, IsKnownForm, Fits, Each1, Bool, IsTrue, ◌&&◌, DividesPair}
 use Rattle.wtf8.proofs.Common.{length-chunk, take_all, w16, take-append-add, length-take-le, take-take, get_or-drop}
-use Rattle.wtf8.proofs.Common.{◌⊎◌, IsUnit, IsLead, IsTrail, pair, same_from_push}
-use Rattle.std.proofs.lemmas.List.{take-append-le, get_or-take, drop_more}
+use Rattle.wtf8.proofs.Common.{◌⊎◌, IsUnit, IsLead, IsTrail, pair, same_from_push, replicate, length-append, length-replicate, drop_all, get_or-append-add}
+use Rattle.std.proofs.lemmas.List.{take-append-le, get_or-take, drop_more, get_or-replicate}
 use Rattle.std.proofs.lemmas.Grind.{get_or_default_zero}
 use Rattle.std.proofs.lemmas.Simd.{chunk-fits}
+use Rattle.std.proofs.Math.Seq.{take-append_seam}
 use Rattle.wtf8.specs.private.Prefixes.{IsReadTo}
 use Rattle.wtf8.specs.private.PackedUnits.{packed_unit, packed_units, tagged, tagged_units, tagged_block}
 use Rattle.wtf8.proofs.lemmas.codec.Encoding.{encoding_one, encoding_two, encoding_three, encoding_four, third_row}
-use Rattle.wtf8.proofs.lemmas.codec.Readings.{unpaired-after_no_lead, unpaired-before_no_trail, units_one, units_pair}
+use Rattle.wtf8.proofs.lemmas.codec.Readings.{unpaired-after_no_lead, unpaired-nil_right, unpaired-before_no_trail, units_one, units_pair}
 use Rattle.wtf8.proofs.lemmas.from_utf16.Transcode.{IsKnownForm-append, IsKnownForm-nil, IsReadTo-append, undivided-after_no_lead}
 
 -- The tag of a unit.
@@ -40,6 +41,10 @@ tagged-trail_after_lead b x n t l = grind (arith, le-ltb, lt-ltb)
 
 pub IsTag-tagged : (b x n : ℕ) → IsTag x (tagged b x n)
 IsTag-tagged b x n = grind (arith, cases_lt, le-ltb, lt-ltb)
+
+pub length-tagged_units : (b : ℕ) (u : List ℕ) (a : ℕ) → length (tagged_units b u a) ≡ length u
+length-tagged_units b [] a = refl
+length-tagged_units b (x ∷ u) a = ap suc (length-tagged_units x u a)
 
 -- the first units, each tagged
 take-tagged_units : (k b : ℕ) (u : List ℕ) (a : ℕ) → take k (tagged_units b u a) ≡ tagged_units b (take k u) (get_or u k a)
@@ -147,31 +152,114 @@ Each1-take P (suc k) (x ∷ u) e = (e.0, Each1-take P k u e.1)
 pub and_assoc : (a b c : Bool) → ((a && b) && c) ≡ (a && (b && c))
 and_assoc a b c = grind (arith)
 
--- eight units of which the last is no lead, or the seven before a lead, are encoded by appending their pieces
+-- sixteen units of which the last is no lead, or the fifteen before a lead, are encoded by appending their pieces
 pub packed_units-read : (w kept : List ℕ) {bytes f u : List ℕ} {at : ℕ} {known more : Bool} (k : ℕ) → IsReadTo (w ++ kept) f u at known
-    → at + 8 ≤ length u → ((i : ℕ) → Fits w16 (get_or u i 0))
-    → (((k ≡ 8) × ¬ (IsLead (get_or (take 8 (drop at u)) 7 0))) ⊎ ((k ≡ 7) × IsLead (get_or (take 8 (drop at u)) 7 0)))
-    → (IsTrue more → Each1 IsUnit (tagged_block (take 8 (drop at u))))
-    → bytes ≡ kept ++ packed_units 0 (take k (tagged_block (take 8 (drop at u)))) → IsReadTo (w ++ bytes) f u (at + k) (known && more)
+    → at + 16 ≤ length u → ((i : ℕ) → Fits w16 (get_or u i 0))
+    → (((k ≡ 16) × ¬ (IsLead (get_or (take 16 (drop at u)) 15 0))) ⊎ ((k ≡ 15) × IsLead (get_or (take 16 (drop at u)) 15 0)))
+    → (IsTrue more → Each1 IsUnit (tagged_block (take 16 (drop at u))))
+    → bytes ≡ kept ++ packed_units 0 (take k (tagged_block (take 16 (drop at u)))) → IsReadTo (w ++ bytes) f u (at + k) (known && more)
 packed_units-read w kept {bytes} {f} {u} {at} {known} {more} k x within fits taken units e =
-    let eight = take 8 (drop at u) in
-    let own = take k eight in
-    let after = get_or eight k 0xDC00 in
-    let few : (0 < k) × (k ≤ 8) = grind (arith) in
-    let here : get_or eight 7 0 ≡ get_or u (at + 7) 0 = get_or-take 8 (drop at u) 7 0 (omega arith) ∙ get_or-drop at u 7 0 in
-    let whole : length eight ≡ 8 = length-chunk at 8 u within in
-    let next : drop (at + 7) u ≡ get_or u (at + 7) 0 ∷ drop (at + 7 + 1) u = drop_more u (at + 7) 0 (omega (arith, within)) in
-    let end : at + 8 ≡ at + 7 + 1 = omega arith in
+    let all = take 16 (drop at u) in
+    let own = take k all in
+    let after = get_or all k 0xDC00 in
+    let few : (0 < k) × (k ≤ 16) = grind (arith) in
+    let here : get_or all 15 0 ≡ get_or u (at + 15) 0 = get_or-take 16 (drop at u) 15 0 (omega arith) ∙ get_or-drop at u 15 0 in
+    let whole : length all ≡ 16 = length-chunk at 16 u within in
+    let next : drop (at + 15) u ≡ get_or u (at + 15) 0 ∷ drop (at + 15 + 1) u = drop_more u (at + 15) 0 (omega (arith, within)) in
+    let end : at + 16 ≡ at + 15 + 1 = omega arith in
     let divides : ¬ (DividesPair u (at + k)) = elim taken [
-      | inl t ↦ rw (t.0, end) (undivided-after_no_lead u (at + 7) (omega (arith, within)) (rw here at t.1))
+      | inl t ↦ rw (t.0, end) (undivided-after_no_lead u (at + 15) (omega (arith, within)) (rw here at t.1))
       | inr t ↦ rw (t.0, next) (unpaired-before_no_trail _ _ (λ l. omega (arith, here, t.1.1, l.0)))
     ] in
     let last : ¬ (IsLead (get_or (0 ∷ own) (length own) 0) × IsTrail after) = grind (arith, take_all, get_or_default_zero) in
-    let tags = take-tagged_units k 0 eight 0xDC00 in
-    let form = packed_units-form 0 own after more (Each1-take (Fits w16) k eight (chunk-fits w16 at 8 u fits)) (λ l. omega (arith, l.0.0))
-    last (λ t. subst (Each1 IsUnit) tags (Each1-take IsUnit k (tagged_block eight) (units t))) in
+    let tags = take-tagged_units k 0 all 0xDC00 in
+    let form = packed_units-form 0 own after more (Each1-take (Fits w16) k all (chunk-fits w16 at 16 u fits)) (λ l. omega (arith, l.0.0))
+    last (λ t. subst (Each1 IsUnit) tags (Each1-take IsUnit k (tagged_block all) (units t))) in
     let count : k ≡ at + k - at = omega arith in
-    let same : own ≡ take (at + k - at) (drop at u) = take-take k 8 (drop at u) few.1 ∙ ap (λ k. take k (drop at u)) count in
+    let same : own ≡ take (at + k - at) (drop at u) = take-take k 16 (drop at u) few.1 ∙ ap (λ k. take k (drop at u)) count in
     IsReadTo-append x (omega (arith, few)) (omega (arith, few, within)) divides
     (ap (λ v. w ++ v) (e ∙ ap (λ t. kept ++ packed_units 0 t) tags) ∙ sym (append_assoc w kept (packed_units 0 (tagged_units 0 own after))))
     (subst (λ v. IsKnownForm (packed_units 0 (tagged_units 0 own after)) v more) same form)
+
+-- Units with zeros behind them: each zero adds a zero byte, and a lead before them is in no pair.
+
+tagged_units-zeros : (b m a : ℕ) → tagged_units b (replicate m 0) a ≡ replicate m 0
+tagged_units-zeros b zero a = refl
+tagged_units-zeros b (suc m) a = ap (λ t. 0 ∷ t) (tagged_units-zeros 0 m a)
+
+first-padded : (u : List ℕ) (m a : ℕ) → get_or (u ++ replicate (suc m) 0) 0 a ≡ get_or u 0 0
+first-padded [] m a = refl
+first-padded (x ∷ u) m a = refl
+
+tagged_units-padded : (b : ℕ) (u : List ℕ) (m a : ℕ) → tagged_units b (u ++ replicate (suc m) 0) a ≡ tagged_units b u 0 ++ replicate (suc m) 0
+tagged_units-padded b [] m a = tagged_units-zeros b (suc m) a
+tagged_units-padded b (x ∷ u) m a = λ i. tagged b x (first-padded u m a i) ∷ tagged_units-padded x u m a i
+
+packed_units-zeros : (b m : ℕ) → packed_units b (replicate m 0) ≡ replicate m 0
+packed_units-zeros b zero = refl
+packed_units-zeros b (suc m) = ap (λ w. 0 ∷ w) (packed_units-zeros 0 m)
+
+packed_units-padded : (b : ℕ) (t : List ℕ) (m : ℕ) → packed_units b (t ++ replicate m 0) ≡ packed_units b t ++ replicate m 0
+packed_units-padded b [] m = packed_units-zeros b m
+packed_units-padded b (x ∷ t) m = ap (λ w. packed_unit b x ++ w) (packed_units-padded x t m)
+    ∙ sym (append_assoc (packed_unit b x) (packed_units x t) (replicate m 0))
+
+Each1-front : (P : ℕ → Type 0) (u v : List ℕ) → Each1 P (u ++ v) → Each1 P u
+Each1-front P [] v e = tt
+Each1-front P (x ∷ u) v e = (e.0, Each1-front P u v e.1)
+
+-- a block of fewer than sixteen units and zeros is taken whole
+taken_whole : (u : List ℕ) {block : List ℕ} (k : ℕ) → length u < 16 → block ≡ u ++ replicate (16 - length u) 0
+    → ((k ≡ 16) × ¬ (IsLead (get_or block 15 0))) ⊎ ((k ≡ 15) × IsLead (get_or block 15 0)) → k ≡ 16
+taken_whole u k few is (inl t) = t.0
+taken_whole u {block} k few is (inr t) =
+    let at : 15 ≡ length u + (15 - length u) = omega arith in
+    let zero_at : get_or block 15 0 ≡ 0 = (λ i. get_or (is i) (at i) 0)
+    ∙ get_or-append-add u (replicate (16 - length u) 0) (15 - length u) 0
+    ∙ get_or-replicate (16 - length u) (15 - length u) 0 0 (omega arith) in
+    absurd (omega (arith, zero_at, t.1.0))
+
+-- fewer than sixteen units, encoded as a block with zeros behind them, have the form of its bytes without the zeros
+pub last_block-form : (w kept u : List ℕ) {block : List ℕ} {more : Bool} (k end : ℕ) → length u < 16 → ((i : ℕ) → Fits w16 (get_or u i 0))
+    → block ≡ u ++ replicate (16 - length u) 0
+    → ((k ≡ 16) × ¬ (IsLead (get_or block 15 0))) ⊎ ((k ≡ 15) × IsLead (get_or block 15 0)) → (IsTrue more → Each1 IsUnit (tagged_block block))
+    → take end w ≡ kept ++ packed_units 0 (take k (tagged_block block)) → end ≤ length w
+    → let part = packed_units 0 (tagged_units 0 u 0) in
+    (length kept + (16 - length u) ≤ end) × (take (end - (16 - length u)) w ≡ kept ++ part) × IsKnownForm part u more
+last_block-form w kept u {block} {more} k end few fits is taken units e within = by (16 - length u) (omega arith) refl
+  where
+    part : List ℕ
+    part = packed_units 0 (tagged_units 0 u 0)
+
+    by : (m : ℕ) → 0 < m → m ≡ 16 - length u → (length kept + m ≤ end) × (take (end - m) w ≡ kept ++ part) × IsKnownForm part u more
+    by zero some same = absurd (omega arith)
+    by (suc m) some same =
+        let zeros : List ℕ = replicate (suc m) 0 in
+        let own : block ≡ u ++ zeros = is ∙ ap (λ m. u ++ replicate m 0) (sym same) in
+        let long : length block ≡ 16 = omega (arith, ap length own, length-append u zeros, length-replicate {A = ℕ} (suc m) 0) in
+        let all : take k (tagged_block block) ≡ tagged_block block = take_all k (tagged_block block)
+        (omega (arith, taken_whole u k few is taken, length-tagged_units 0 block 0xDC00, long)) in
+        let tags : tagged_block block ≡ tagged_units 0 u 0 ++ zeros = ap tagged_block own ∙ tagged_units-padded 0 u m 0xDC00 in
+        let whole : take end w ≡ (kept ++ part) ++ zeros = e ∙ ap (λ t. kept ++ packed_units 0 t) (all ∙ tags)
+        ∙ ap (λ v. kept ++ v) (packed_units-padded 0 (tagged_units 0 u 0) (suc m)) ∙ sym (append_assoc kept part zeros) in
+        let count : end ≡ length (kept ++ part) + suc m = omega (
+          arith,
+          length-take-le end w within,
+          ap length whole,
+          length-append (kept ++ part) zeros,
+          length-replicate {A = ℕ} (suc m) 0,
+        ) in
+        let left : end - suc m ≡ length (kept ++ part) = omega (arith, count) in
+        let fit : Each1 (Fits w16) u = subst (Each1 (Fits w16)) (take_all (length u) u (omega arith)) (chunk-fits w16 0 (length u) u fits) in (
+          omega (arith, count, length-append kept part),
+          sym (take-take (end - suc m) end w (omega arith)) ∙ ap (take (end - suc m)) whole
+              ∙ ap (λ n. take n ((kept ++ part) ++ zeros)) left ∙ take-append_seam (kept ++ part) zeros,
+          packed_units-form 0 u 0 more fit (λ l. omega (arith, l.0.0)) (λ l. omega (arith, l.1.0))
+              (λ t. Each1-front IsUnit (tagged_units 0 u 0) zeros (subst (Each1 IsUnit) tags (units t))),
+        )
+
+-- the last units are encoded by appending their form
+pub last_units-read : {w part f u : List ℕ} {at : ℕ} {known more : Bool} → IsReadTo w f u at known → at < length u
+    → IsKnownForm part (take (length u - at) (drop at u)) more → IsReadTo (w ++ part) f u (length u) (known && more)
+last_units-read {w} {part} {f} {u} x some form =
+    IsReadTo-append x some (omega arith) (rw (drop_all (length u) u (omega arith)) unpaired-nil_right) refl form

@@ -1,5 +1,5 @@
 -- The shuffle table, checked row by row: the lanes that a row picks, and the number of bytes.
-use Rattle.wtf8.proofs.Common.{◌≡◌, ℕ, ◌+◌, ◌<◌, ◌&&◌, List, [], ◌∷◌, ◌++◌, take, get_or, Each1, eqb, Bool, true, refl, sym, ap, ◌∙◌, arith}
+use Rattle.wtf8.proofs.Common.{◌≡◌, ℕ, ◌+◌, ◌<◌, ◌&&◌, List, [], ◌∷◌, take, get_or, Each1, eqb, Bool, true, refl, sym, ap, ◌∙◌, arith}
 use Rattle.wtf8.proofs.Common.{cases_lt, and_parts, eqb-true, nat_eq, pointwise}
 use Rattle.std.proofs.lemmas.Bool.{ltb-true}
 use Rattle.std.proofs.lemmas.List.Recursion.{and_at}
@@ -26,8 +26,8 @@ of_four p a b c d i j k l e =
     (of_length (λ a. each_length (λ b. each_length (λ c. each_length (p a b c)))) a i e)))
 
 abbrev is_packing : List ℕ → ℕ → ℕ → ℕ → ℕ → Bool
-is_packing none a b c d = pointwise nat_eq (take (a + b + c + d) (get_or SHUFFLES.now (table_index a b c d) none))
-    (source_lanes a 0 ++ source_lanes b 1 ++ source_lanes c 2 ++ source_lanes d 3)
+is_packing none a b c d = pointwise nat_eq (take (a + b + c + d) (get_or SHUFFLES.now (table_index (a ∷ b ∷ c ∷ d ∷ [])) none))
+    (source_lanes 0 (a ∷ b ∷ c ∷ d ∷ []))
 
 pub IsPackingShuffle-table : (none : List ℕ) (number : ℕ) → IsPackingShuffle number (get_or SHUFFLES.now number none)
 IsPackingShuffle-table none number a b c d i j k l e =
@@ -49,7 +49,7 @@ table_below_16 none number h =
 -- four plus the number of one bits in the index is the number of bytes
 has_packed_len : ℕ → ℕ → ℕ → ℕ → Bool
 unfolding count_ones
-has_packed_len a b c d = eqb (4 + count_ones (table_index a b c d)) (a + b + c + d)
+has_packed_len a b c d = eqb (4 + count_ones (table_index (a ∷ b ∷ c ∷ d ∷ []))) (a + b + c + d)
 
 pub IsPackedLen-count_ones : (number : ℕ) → IsPackedLen number (4 + count_ones number)
 unfolding count_ones has_packed_len

@@ -27,14 +27,14 @@ each_unset p P Q h [] f e = tt
 each_unset p P Q h (x ∷ xs) f e = grind (arith, cases_Bool, h x f.0, each_unset p P Q h xs f.1)
 
 -- if the mask is 0, no unit is a surrogate
-pub none_surrogate : (xs : List ℕ) → length xs ≡ 8 → Each1 (Fits w16) xs
-    → mask_l (map (top 15) (zip2 (λ a b. cond (eqb a b) 0xFFFF 0) (zip2 (λ a b. a / b) xs (replicate 8 2048)) (replicate 8 27))) % 2 ^ 64
+pub none_surrogate : (xs : List ℕ) → length xs ≡ 16 → Each1 (Fits w16) xs
+    → mask_l (map (top 15) (zip2 (λ a b. cond (eqb a b) 0xFFFF 0) (zip2 (λ a b. a / b) xs (replicate 16 2048)) (replicate 16 27))) % 2 ^ 64
     ≡ 0 → AreScalarUnits xs
 none_surrogate xs l f e =
-    let kinds = bitmask_splat w16 eqb (map (λ x. x / 2048) xs) 8 27 (length-map xs (λ x. x / 2048) ∙ l) (omega arith)
+    let kinds = bitmask_splat w16 eqb (map (λ x. x / 2048) xs) 16 27 (length-map xs (λ x. x / 2048) ∙ l) (omega arith)
     ∙ ap mask_l (map-map (λ x. eqb x 27) (λ x. x / 2048) xs) in
     each_unset (λ x. eqb (x / 2048) 27) (Fits w16) (λ n. (n < 0x10000) × ¬ (IsSurrogate n)) own xs f (sym kinds ∙ ap (λ v. mask_l
-    (map (top 15) (zip2 (λ a b. cond (eqb a b) 0xFFFF 0) v (replicate 8 27))) % 2 ^ 64) (sym (zip2_splat (λ a b. a / b) xs 8 2048 l)) ∙ e)
+    (map (top 15) (zip2 (λ a b. cond (eqb a b) 0xFFFF 0) v (replicate 16 27))) % 2 ^ 64) (sym (zip2_splat (λ a b. a / b) xs 16 2048 l)) ∙ e)
   where
     own : (x : ℕ) → Fits w16 x → eqb (x / 2048) 27 ≡ false → (x < 0x10000) × ¬ (IsSurrogate x)
     own x f u = (f.fits, λ s. eqb-false (x / 2048) 27 u (omega (arith, s.0, s.1)))

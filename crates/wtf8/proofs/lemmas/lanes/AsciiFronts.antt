@@ -46,9 +46,9 @@ ascii_in_block n at w room all i l m =
     let low = Each1-get_or (λ b. b < 0x80) (chunk at n w) (i - at) 0 (omega (arith, length-chunk at n w room, l, m)) all in
     subst (λ k. get_or w k 0 < 0x80) same (subst (λ b. b < 0x80) (get_or-chunk at n w (i - at) 0 (omega (arith, l, m))) low)
 
--- division by `k` > 0 in all lanes divides by 0 in none
-pub by_all : (xs : List ℕ) (k : ℕ) → 0 < k → Each2 (λ (a b : ℕ). 0 < b) xs (k ∷ k ∷ k ∷ k ∷ k ∷ k ∷ k ∷ k ∷ [])
-by_all xs k h = Each2-splat (λ (a b : ℕ). 0 < b) xs 8 k (Each1-all (λ (a : ℕ). 0 < k) (λ a. h) xs)
+-- division by `k` > 0 in all of sixteen lanes divides by 0 in none
+pub by_all : (xs : List ℕ) (k : ℕ) → 0 < k → Each2 (λ (a b : ℕ). 0 < b) xs (replicate 16 k)
+by_all xs k h = Each2-splat (λ (a b : ℕ). 0 < b) xs 16 k (Each1-all (λ (a : ℕ). 0 < k) (λ a. h) xs)
 
 -- `f` of each lane satisfies `P` if `f` of each number does
 pub Each1-map_all : (P : ℕ → Type 0) (f : ℕ → ℕ) → ((x : ℕ) → P (f x)) → (xs : List ℕ) → Each1 P (map f xs)

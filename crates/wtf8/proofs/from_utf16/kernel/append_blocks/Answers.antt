@@ -13,14 +13,14 @@ returns-in_err-extend_from_slice-clause-room g c room =
       c.loop-read.bytes.ok.0,
     ))))
 
-pub returns-then-v-read-lt-BLOCK_UNITS-clause-read : goal.returns-then-v-read-lt-BLOCK_UNITS-clause-read
-returns-then-v-read-lt-BLOCK_UNITS-clause-read g c front read = rw c.in_ok-extend_from_slice.ensures.items
+pub returns-then-v-read-lt-LAST_UNITS-clause-read : goal.returns-then-v-read-lt-LAST_UNITS-clause-read
+returns-then-v-read-lt-LAST_UNITS-clause-read g c front read = rw c.in_ok-extend_from_slice.ensures.items
     (c.write_blocks-len.ensures.read c.loop-read.bytes.items c.loop-read.read.is_utf8 front (c.loop-read.invariant.read front read))
 
 pub loop-read-preserved : goal.loop-read-preserved
 loop-read-preserved g c = record {
   order = omega (arith, c.write_blocks-len.ensures.order, c.loop-read.invariant.order);
-  within = omega (arith, c.if-v-read-lt-BLOCK_UNITS.false);
+  within = omega (arith, c.if-v-read-lt-LAST_UNITS.false);
   read = λ front read. rw c.in_ok-extend_from_slice.ensures.items
       (c.write_blocks-len.ensures.read c.loop-read.bytes.items c.loop-read.read.is_utf8 front (c.loop-read.invariant.read front read));
   begins = grind (arith, common_steps, c.loop-read.invariant.begins, c.in_ok-extend_from_slice.ensures.items);

@@ -5,8 +5,8 @@ use Rattle.wtf8.proofs.from_utf16.kernel.write_block.Goals as goal
 pub overflow_sub-result-then-units-eq-LEAD_KIND : goal.overflow_sub-result-then-units-eq-LEAD_KIND
 overflow_sub-result-then-units-eq-LEAD_KIND c =
     let lead = c.if-units-eq-LEAD_KIND.true in
-    let packed = c.pack_eight-end in
-    (take-without_lead packed.new.block (take c.args.len c.args.block.now) c.args.units packed.result c.fits-units.0
+    let packed = c.pack_block-end in
+    (take-without_lead packed.new.scratch (take c.args.len c.args.scratch.now) c.args.units packed.result c.fits-units.0
     (omega (arith, packed.ensures.order, c.requires)) (omega (arith, lead), omega (arith, lead)) packed.ensures.bytes).0
 
 pub returns-then-units-eq-LEAD_KIND-clause-bytes : goal.returns-then-units-eq-LEAD_KIND-clause-bytes

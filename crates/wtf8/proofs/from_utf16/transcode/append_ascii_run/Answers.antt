@@ -1,4 +1,4 @@
-use Rattle.wtf8.proofs.Common.{◌+◌, arith, sym, take_all, ReadsOn, common_steps}
+use Rattle.wtf8.proofs.Common.{◌≡◌, ◌+◌, arith, sym, subst, take_all, ReadsOn, IsReadTo, common_steps}
 use Rattle.std.proofs.lemmas.Result.{IfOk-weaker}
 use Rattle.wtf8.proofs.lemmas.from_utf16.Transcode.{front_read, HasRoomFrom-after, begins_after}
 use Rattle.wtf8.proofs.from_utf16.transcode.append_ascii_run.Goals.{After-truncate}
@@ -7,10 +7,12 @@ use Rattle.wtf8.proofs.from_utf16.transcode.append_ascii_run.Goals as goal
 pub returns-then-count-clause-read : goal.returns-then-count-clause-read
 returns-then-count-clause-read g c front read =
     let whole = c.extend_from_slice.new.self.items in
-    front_read c.ascii_run_len-count.result g.row.N _ read c.ascii_run_len-count.ensures.within c.requires.within
+    let all : c.ascii_run_len-count.result ≡ g.row.N = omega (arith, c.if-count.true) in
+    subst (λ k. IsReadTo whole front c.args.v.now (c.args.from.at + k) c.args.from.is_utf8) all
+    (front_read c.ascii_run_len-count.result g.row.N _ read c.ascii_run_len-count.ensures.within c.requires.within
     c.narrow_saturating-block.ensures c.ascii_run_len-count.ensures.ascii c.in_ok-extend_from_slice.ensures.items
     (omega (arith, c.args.bytes.now.ok.0, c.len.ensures))
-    (sym (take_all (c.len.result + c.ascii_run_len-count.result) whole (omega (arith, c.in_ok-extend_from_slice.ensures.len))))
+    (sym (take_all (c.len.result + c.ascii_run_len-count.result) whole (omega (arith, c.in_ok-extend_from_slice.ensures.len)))))
 
 -- the run is encoded after the truncation
 run_read : (g : _) (c : After-truncate g) → ReadsOn c.args.bytes.now.items c.truncate.new.self.items c.args.v.now c.args.from.at

@@ -13,7 +13,3 @@ returns-in_err-read-2-clause-room g c room = absurd (false≢true (c.in_err-read
 pub returns-in_err-read-3-clause-room : goal.returns-in_err-read-3-clause-room
 returns-in_err-read-3-clause-room g c room = absurd (false≢true (c.in_err-read-3.ensures.room
     (HasRoomFrom-after c.args.bytes.now c.loop-read-3.bytes c.loop-read-3.invariant.read c.loop-read-3.invariant.capacity room)))
-
-pub returns-in_err-read-4-clause-room : goal.returns-in_err-read-4-clause-room
-returns-in_err-read-4-clause-room g c room = absurd (false≢true (c.in_err-read-4.ensures.room
-    (HasRoomFrom-after c.args.bytes.now c.loop-read-4.bytes c.loop-read-4.invariant.read c.loop-read-4.invariant.capacity room)))

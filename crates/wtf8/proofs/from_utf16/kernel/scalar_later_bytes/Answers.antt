@@ -1,7 +1,0 @@
-use Rattle.wtf8.proofs.lemmas.from_utf16.Kernel.{scalar_lanes}
-use Rattle.wtf8.proofs.from_utf16.kernel.scalar_later_bytes.Goals as goal
-
-pub returns : goal.returns
-returns c =
-    let own = scalar_lanes _ _ _ _ c.requires c.scalar_second_bytes.ensures c.scalar_last_bytes.ensures c.flags_from.ensures in
-    record { bytes = own.0; scalar = own.1 }
