@@ -159,17 +159,19 @@ fn append_last<A: Allocator>(
     ensures room { HasRoomFrom bytes.old v.now from.at from.is_utf8 → IsOk result }
     ensures capacity { vec_capacity bytes.old ≤ vec_capacity bytes.new }
 {
-    if 0x80 <= v[from.at] {
+    let left = v.len() - from.at;
+    let is_ascii = v[from.at] < 0x80;
+    if is_ascii && left < SMALL_RUN {
+        return append_ascii_run::<SHORT_RUN, A>(bytes, v, from);
+    }
+    // One ASCII unit is no run: a block that takes it too costs no more than one without it.
+    if !is_ascii || 0x80 <= v[from.at + 1] {
         return kernel::append_blocks::<SHORT_SCRATCH_BYTES, A>(bytes, v, from);
     }
-    let left = v.len() - from.at;
-    if MEDIUM_RUN <= left {
-        return append_ascii_run::<MEDIUM_RUN, A>(bytes, v, from);
-    }
-    if SMALL_RUN <= left {
+    if left < MEDIUM_RUN {
         return append_ascii_run::<SMALL_RUN, A>(bytes, v, from);
     }
-    append_ascii_run::<SHORT_RUN, A>(bytes, v, from)
+    append_ascii_run::<MEDIUM_RUN, A>(bytes, v, from)
 }
 
 /// Appends the bytes of units from index `from.at` on, until fewer than `LAST_UNITS` are left. Returns how far units are
