@@ -1,0 +1,114 @@
+// Decodes 32 bytes of any kinds of code points at once. The unit whose encoding ends at a byte is computed from that
+// byte and the three before it, in 8-bit lanes; where none ends, what is computed is dropped when lanes are packed.
+ghost use Rattle.std.specs.Prelude.{◌≡◌, ◌<◌, List, Bool, length, take, IsTrue};
+ghost use lib.Lanes.{Each1, mask_l};
+ghost use Rattle.wtf8.specs.private.UnitEnds.{by_position, low_byte, high_byte, low_of_any, high_of_any, set_lanes, words, picked};
+
+use crate::to_utf16::packing_table::packing_row;
+use std::simd::prelude::*;
+
+/// The number of positions that are decoded together.
+pub(crate) const POSITIONS: usize = 32;
+
+/// Moves each byte up by one lane, by two and by three. Lane 32 is the first of another vector.
+const UP_BY_ONE: [usize; 32] = [
+    32, 0, 1, 2, 3, 4, 5, 6, 7, 8, 9, 10, 11, 12, 13, 14, 15, 16, 17, 18, 19, 20, 21, 22, 23, 24, 25,
+    26, 27, 28, 29, 30,
+];
+
+const UP_BY_TWO: [usize; 32] = [
+    32, 33, 0, 1, 2, 3, 4, 5, 6, 7, 8, 9, 10, 11, 12, 13, 14, 15, 16, 17, 18, 19, 20, 21, 22, 23, 24,
+    25, 26, 27, 28, 29,
+];
+
+const UP_BY_THREE: [usize; 32] = [
+    32, 33, 34, 0, 1, 2, 3, 4, 5, 6, 7, 8, 9, 10, 11, 12, 13, 14, 15, 16, 17, 18, 19, 20, 21, 22, 23,
+    24, 25, 26, 27, 28,
+];
+
+/// FF in the last lane.
+const LAST_LANE: [u8; 32] = [
+    0, 0, 0, 0, 0, 0, 0, 0, 0, 0, 0, 0, 0, 0, 0, 0, 0, 0, 0, 0, 0, 0, 0, 0, 0, 0, 0, 0, 0, 0, 0, 255,
+];
+
+/// Shuffle indices: low and high bytes of positions 0 to 7 by turns; below, of 8 to 15, 16 to 23 and 24 to 31.
+const WORDS_FROM_0: [usize; 16] = [0, 32, 1, 33, 2, 34, 3, 35, 4, 36, 5, 37, 6, 38, 7, 39];
+
+const WORDS_FROM_8: [usize; 16] = [8, 40, 9, 41, 10, 42, 11, 43, 12, 44, 13, 45, 14, 46, 15, 47];
+
+const WORDS_FROM_16: [usize; 16] = [
+    16, 48, 17, 49, 18, 50, 19, 51, 20, 52, 21, 53, 22, 54, 23, 55,
+];
+
+const WORDS_FROM_24: [usize; 16] = [
+    24, 56, 25, 57, 26, 58, 27, 59, 28, 60, 29, 61, 30, 62, 31, 63,
+];
+
+/// The low and the high byte of the unit that ends at each position, and the mask of the positions at which one ends.
+#[derive(Clone, Copy)]
+pub(crate) struct UnitEnds {
+    pub(crate) low: u8x32,
+    pub(crate) high: u8x32,
+    pub(crate) ends: u64,
+}
+
+/// The units that end at the positions of a block that begins with a code point. A lead in the last lane is left out:
+/// its trail is beyond the block.
+#[inline(always)]
+pub(crate) fn unit_ends(bytes: u8x32) -> UnitEnds {
+    let one_before: u8x32 = bytes.shuffle(u8x32::splat(0), UP_BY_ONE);
+    let two_before: u8x32 = bytes.shuffle(u8x32::splat(0), UP_BY_TWO);
+    let middle = bytes
+        .simd_lt(u8x32::splat(0x80))
+        .select(u8x32::splat(0), one_before % u8x32::splat(64));
+    let low = bytes % u8x32::splat(128) + middle * u8x32::splat(64);
+    let above = two_before.saturating_sub(u8x32::splat(0xE0)) * u8x32::splat(16);
+    let high = middle / u8x32::splat(4) + above;
+    let not_ends = bytes.simd_max(one_before.saturating_sub(u8x32::splat(0x20)));
+    if bytes.simd_ge(u8x32::splat(0xF0)).to_bitmask() == 0 {
+        return UnitEnds {
+            low,
+            high,
+            ends: not_ends.simd_lt(u8x32::splat(0xC0)).to_bitmask(),
+        };
+    }
+    let three_before: u8x32 = bytes.shuffle(u8x32::splat(0), UP_BY_THREE);
+    let leads = two_before.simd_ge(u8x32::splat(0xF0));
+    let trails = three_before.simd_ge(u8x32::splat(0xF0));
+    let offset = high.saturating_sub(u8x32::splat(4));
+    let lead_low = low / u8x32::splat(16) + offset * u8x32::splat(16);
+    let lead_high = u8x32::splat(0xD8) + offset / u8x32::splat(16);
+    let trail_high = u8x32::splat(0xDC) + high % u8x32::splat(4);
+    let cut_lead = two_before
+        .saturating_sub(u8x32::splat(0x30))
+        .simd_min(u8x32::from_array(LAST_LANE));
+    UnitEnds {
+        low: leads.select(lead_low, low),
+        high: leads.select(lead_high, trails.select(trail_high, high)),
+        ends: not_ends
+            .simd_max(cut_lead)
+            .simd_lt(u8x32::splat(0xC0))
+            .to_bitmask(),
+    }
+}
+
+/// Packs the words whose bit is set in `index`; the units after these are not used.
+#[inline(always)]
+pub(crate) fn pack_words(lanes: u8x16, index: usize) -> [u16; 8]
+    requires { index < 256 }
+{
+    u16x8::from_le_bytes(lanes.swizzle_dyn(packing_row(index))).to_array()
+}
+
+impl UnitEnds {
+    /// The words of positions 0 to 7, 8 to 15, 16 to 23 and 24 to 31.
+    #[inline(always)]
+    pub(crate) fn words(self) -> [u8x16; 4] {
+        [
+            self.low.shuffle(self.high, WORDS_FROM_0),
+            self.low.shuffle(self.high, WORDS_FROM_8),
+            self.low.shuffle(self.high, WORDS_FROM_16),
+            self.low.shuffle(self.high, WORDS_FROM_24),
+        ]
+    }
+}
