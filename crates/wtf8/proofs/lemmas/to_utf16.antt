@@ -1,2 +1,4 @@
 pub mod Blocks
+pub mod PackedWords
 pub mod UnitEnds
+pub mod UnitLanes

@@ -1,12 +1,22 @@
 -- The units whose encodings end at the bytes of a block, each computed from its byte and the three before it.
 use Rattle.std.specs.Prelude.{◌≡◌, ℕ, zero, suc, ◌+◌, ◌-◌, ◌*◌, ◌/◌, ◌%◌, List, [], ◌∷◌, Bool, true, false, length, take, nat_lt}
 use Rattle.std.specs.Prelude.{if◌then◌else◌}
-use lib.Lanes.{mask_l}
+use lib.Lanes.{mask_l, zip2}
 
 -- What `f` computes from each byte of a list and the three bytes before it; before the list are `z`, `y` and `x`.
 abbrev pub by_position : {A : Type 0} → (ℕ → ℕ → ℕ → ℕ → A) → ℕ → ℕ → ℕ → List ℕ → List A
 by_position f z y x [] = []
 by_position f z y x (b ∷ w) = f z y x b ∷ by_position f y x b w
+
+-- For each byte of a block, the byte one, two and three positions before it, or 0.
+abbrev pub one_before : List ℕ → List ℕ
+one_before w = by_position (λ z y x b. x) 0 0 0 w
+
+abbrev pub two_before : List ℕ → List ℕ
+two_before w = by_position (λ z y x b. y) 0 0 0 w
+
+abbrev pub three_before : List ℕ → List ℕ
+three_before w = by_position (λ z y x b. z) 0 0 0 w
 
 -- The bits that the byte `x` before `b` adds to a unit: the low six, or none if `b` is ASCII (Unicode 3.9, Table 3-6).
 abbrev pub bits_before : ℕ → ℕ → ℕ
@@ -64,6 +74,10 @@ abbrev pub words : List ℕ → List ℕ
 words [] = []
 words (l ∷ []) = []
 words (l ∷ h ∷ w) = (l + 256 * h) ∷ words w
+
+-- The words of low bytes and high bytes.
+abbrev pub joined_words : List ℕ → List ℕ → List ℕ
+joined_words low high = zip2 (λ l h. l + 256 * h) low high
 
 -- The indexes of both bytes of each word, from word `k` on, whose lane is set.
 abbrev pub word_lanes : ℕ → List Bool → List ℕ

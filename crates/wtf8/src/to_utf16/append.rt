@@ -1,6 +1,8 @@
 // Appends the code units of a view to a vector.
-ghost use Rattle.std.specs.Prelude.{◌≡◌, ℕ, ◌++◌, ◌+◌, ◌*◌, ◌<◌, ◌≤◌, length, take, drop, IsOk, IsTrue, OnOk, OnErr, false, vec_len, vec_capacity};
+ghost use Rattle.std.specs.Prelude.{◌≡◌, ℕ, List, Bool, ◌++◌, ◌+◌, ◌*◌, ◌<◌, ◌≤◌, length, take, drop, IsOk, IsTrue, OnOk, OnErr, false, vec_len, vec_capacity};
+ghost use lib.Lanes.{mask_l};
 ghost use Rattle.wtf8.specs.private.Prefixes.{AreAscii};
+ghost use Rattle.wtf8.specs.private.UnitEnds.{picked, words};
 ghost use Rattle.wtf8.specs.private.EncodedBytes.{BecomesOrKeeps, BeginsWithUnits, Writes};
 ghost use Rattle.wtf8.specs.CodePoint.{number};
 ghost use Rattle.wtf8.specs.Unicode.{units_of};
@@ -202,6 +204,8 @@ fn decode_run<
 fn store_packed(units: &mut [u16], at: usize, lanes: u8x16, index: usize) -> usize
     requires index { index < 256 }
     requires room { at + 8 ≤ length units.old }
+    ensures { (s : List Bool) (rest : List ℕ) → length s ≡ 8 → index ≡ mask_l s
+        → Writes units.old at (picked (words lanes) s ++ rest) units.new result rest }
 {
     store_units(units, at, pack_words(lanes, index));
     at + index.count_ones() as usize
@@ -212,7 +216,7 @@ fn store_packed(units: &mut [u16], at: usize, lanes: u8x16, index: usize) -> usi
 #[inline(always)]
 fn decode_positions<'a>(units: &mut [u16], left: Undecoded<'a>) -> Undecoded<'a>
     requires room { left.at + length (view_units left.view) ≤ length units.old }
-    requires least { LONGEST_LOAD ≤ length left.view.bytes.now }
+    requires least { POSITIONS ≤ length left.view.bytes.now }
     ensures written { Writes units.old left.entry.at (view_units left.entry.view) units.new result.at (view_units result.view) }
     ensures shorter { length result.view.bytes.now < length left.entry.view.bytes.now }
 {
@@ -220,12 +224,12 @@ fn decode_positions<'a>(units: &mut [u16], left: Undecoded<'a>) -> Undecoded<'a>
         return decode_point(units, left);
     }
     let block = unit_ends(u8x32::from_slice(left.view.bytes));
-    let words = block.words();
+    let (front, second, third, last) = block.words();
     let ends = block.ends as usize;
-    let at = store_packed(units, left.at, words[0], ends % 256);
-    let at = store_packed(units, at, words[1], ends / 0x100 % 256);
-    let at = store_packed(units, at, words[2], ends / 0x1_0000 % 256);
-    let at = store_packed(units, at, words[3], ends / 0x100_0000);
+    let at = store_packed(units, left.at, front, ends % 0x100);
+    let at = store_packed(units, at, second, ends / 0x100 % 0x100);
+    let at = store_packed(units, at, third, ends / 0x1_0000 % 0x100);
+    let at = store_packed(units, at, last, ends / 0x100_0000);
     let width = (u64::BITS - block.ends.leading_zeros()) as usize;
     Undecoded {
         view: left.view.skip_bytes(width),

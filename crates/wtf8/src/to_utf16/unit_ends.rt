@@ -1,8 +1,8 @@
 // Decodes 32 bytes of any kinds of code points at once. The unit whose encoding ends at a byte is computed from that
 // byte and the three before it, in 8-bit lanes; where none ends, what is computed is dropped when lanes are packed.
-ghost use Rattle.std.specs.Prelude.{◌≡◌, ◌<◌, List, Bool, length, take, IsTrue};
+ghost use Rattle.std.specs.Prelude.{◌≡◌, ◌<◌, List, Bool, length, take, drop, IsTrue};
 ghost use lib.Lanes.{Each1, mask_l};
-ghost use Rattle.wtf8.specs.private.UnitEnds.{by_position, low_byte, high_byte, low_of_any, high_of_any, set_lanes, words, picked};
+ghost use Rattle.wtf8.specs.private.UnitEnds.{by_position, one_before, two_before, three_before, low_byte, high_byte, low_of_any, high_of_any, set_lanes, words, joined_words, picked};
 
 use crate::to_utf16::packing_table::packing_row;
 use std::simd::prelude::*;
@@ -52,43 +52,123 @@ pub(crate) struct UnitEnds {
     pub(crate) ends: u64,
 }
 
-/// The units that end at the positions of a block that begins with a code point. A lead in the last lane is left out:
-/// its trail is beyond the block.
+/// The bytes one, two and three positions before each byte of a block, and zeros before the block.
 #[inline(always)]
-pub(crate) fn unit_ends(bytes: u8x32) -> UnitEnds {
-    let one_before: u8x32 = bytes.shuffle(u8x32::splat(0), UP_BY_ONE);
-    let two_before: u8x32 = bytes.shuffle(u8x32::splat(0), UP_BY_TWO);
+fn bytes_before(bytes: u8x32) -> (u8x32, u8x32, u8x32)
+    ensures one { result.0 ≡ one_before bytes }
+    ensures two { result.1 ≡ two_before bytes }
+    ensures three { result.2 ≡ three_before bytes }
+{
+    let none = u8x32::splat(0);
+    (
+        bytes.shuffle(none, UP_BY_ONE),
+        bytes.shuffle(none, UP_BY_TWO),
+        bytes.shuffle(none, UP_BY_THREE),
+    )
+}
+
+/// The low and the high byte of the unit of one to three bytes that ends at each position.
+#[inline(always)]
+fn short_units(bytes: u8x32, one: u8x32, two: u8x32) -> (u8x32, u8x32)
+    requires one { one ≡ one_before bytes }
+    requires two { two ≡ two_before bytes }
+    ensures low { result.0 ≡ by_position (λ z y x b. low_byte x b) 0 0 0 bytes }
+    ensures high { result.1 ≡ by_position (λ z y x b. high_byte y x b) 0 0 0 bytes }
+{
     let middle = bytes
         .simd_lt(u8x32::splat(0x80))
-        .select(u8x32::splat(0), one_before % u8x32::splat(64));
+        .select(u8x32::splat(0), one % u8x32::splat(64));
     let low = bytes % u8x32::splat(128) + middle * u8x32::splat(64);
-    let above = two_before.saturating_sub(u8x32::splat(0xE0)) * u8x32::splat(16);
-    let high = middle / u8x32::splat(4) + above;
-    let not_ends = bytes.simd_max(one_before.saturating_sub(u8x32::splat(0x20)));
-    if bytes.simd_ge(u8x32::splat(0xF0)).to_bitmask() == 0 {
-        return UnitEnds {
-            low,
-            high,
-            ends: not_ends.simd_lt(u8x32::splat(0xC0)).to_bitmask(),
-        };
-    }
-    let three_before: u8x32 = bytes.shuffle(u8x32::splat(0), UP_BY_THREE);
-    let leads = two_before.simd_ge(u8x32::splat(0xF0));
-    let trails = three_before.simd_ge(u8x32::splat(0xF0));
+    let above = two.saturating_sub(u8x32::splat(0xE0)) * u8x32::splat(16);
+    (low, middle / u8x32::splat(4) + above)
+}
+
+/// The low and the high byte of any unit, from those that a unit of one to three bytes would have.
+#[inline(always)]
+fn any_units(
+    bytes: u8x32,
+    two: u8x32,
+    three: u8x32,
+    low: u8x32,
+    high: u8x32,
+) -> (u8x32, u8x32)
+    requires two { two ≡ two_before bytes }
+    requires three { three ≡ three_before bytes }
+    requires low { low ≡ by_position (λ z y x b. low_byte x b) 0 0 0 bytes }
+    requires high { high ≡ by_position (λ z y x b. high_byte y x b) 0 0 0 bytes }
+    ensures low { result.0 ≡ by_position (λ z y x b. low_of_any y x b) 0 0 0 bytes }
+    ensures high { result.1 ≡ by_position high_of_any 0 0 0 bytes }
+{
+    let leads = two.simd_ge(u8x32::splat(0xF0));
+    let trails = three.simd_ge(u8x32::splat(0xF0));
     let offset = high.saturating_sub(u8x32::splat(4));
     let lead_low = low / u8x32::splat(16) + offset * u8x32::splat(16);
     let lead_high = u8x32::splat(0xD8) + offset / u8x32::splat(16);
     let trail_high = u8x32::splat(0xDC) + high % u8x32::splat(4);
-    let cut_lead = two_before
+    let no_lead = trails.select(trail_high, high);
+    (leads.select(lead_low, low), leads.select(lead_high, no_lead))
+}
+
+/// The positions at which a unit ends, but for a lead in the last lane.
+#[inline(always)]
+fn any_ends(bytes: u8x32, one: u8x32, two: u8x32) -> u64
+    requires one { one ≡ one_before bytes }
+    requires two { two ≡ two_before bytes }
+    ensures { result ≡ mask_l (set_lanes 0 0 bytes) }
+{
+    let last_lead = two
         .saturating_sub(u8x32::splat(0x30))
         .simd_min(u8x32::from_array(LAST_LANE));
+    bytes
+        .simd_max(one.saturating_sub(u8x32::splat(0x20)))
+        .simd_max(last_lead)
+        .simd_lt(u8x32::splat(0xC0))
+        .to_bitmask()
+}
+
+/// The same without a supplementary code point.
+#[inline(always)]
+fn short_ends(bytes: u8x32, one: u8x32) -> u64
+    requires one { one ≡ one_before bytes }
+    requires short { Each1 (λ b. b < 0xF0) bytes }
+    ensures { result ≡ mask_l (set_lanes 0 0 bytes) }
+{
+    bytes
+        .simd_max(one.saturating_sub(u8x32::splat(0x20)))
+        .simd_lt(u8x32::splat(0xC0))
+        .to_bitmask()
+}
+
+/// Whether none of the bytes leads a supplementary code point.
+#[inline(always)]
+fn are_short(bytes: u8x32) -> bool
+    ensures { IsTrue result → Each1 (λ b. b < 0xF0) bytes }
+{
+    bytes.simd_ge(u8x32::splat(0xF0)).to_bitmask() == 0
+}
+
+/// The units that end at the positions of a block that begins with a code point. A lead in the last lane is left out:
+/// its trail is beyond the block.
+#[inline(always)]
+pub(crate) fn unit_ends(bytes: u8x32) -> UnitEnds
+    ensures low { result.low ≡ by_position (λ z y x b. low_of_any y x b) 0 0 0 bytes }
+    ensures high { result.high ≡ by_position high_of_any 0 0 0 bytes }
+    ensures ends { result.ends ≡ mask_l (set_lanes 0 0 bytes) }
+{
+    let (one, two, three) = bytes_before(bytes);
+    let (low, high) = short_units(bytes, one, two);
+    if are_short(bytes) {
+        return UnitEnds {
+            low,
+            high,
+            ends: short_ends(bytes, one),
+        };
+    }
+    let (low, high) = any_units(bytes, two, three, low, high);
     UnitEnds {
-        low: leads.select(lead_low, low),
-        high: leads.select(lead_high, trails.select(trail_high, high)),
-        ends: not_ends
-            .simd_max(cut_lead)
-            .simd_lt(u8x32::splat(0xC0))
-            .to_bitmask(),
+        low,
+        high,
+        ends: any_ends(bytes, one, two),
     }
 }
 
@@ -96,6 +176,8 @@ pub(crate) fn unit_ends(bytes: u8x32) -> UnitEnds {
 #[inline(always)]
 pub(crate) fn pack_words(lanes: u8x16, index: usize) -> [u16; 8]
     requires { index < 256 }
+    ensures { (s : List Bool) → length s ≡ 8 → index ≡ mask_l s
+        → take (length (picked (words lanes) s)) result ≡ picked (words lanes) s }
 {
     u16x8::from_le_bytes(lanes.swizzle_dyn(packing_row(index))).to_array()
 }
@@ -103,12 +185,17 @@ pub(crate) fn pack_words(lanes: u8x16, index: usize) -> [u16; 8]
 impl UnitEnds {
     /// The words of positions 0 to 7, 8 to 15, 16 to 23 and 24 to 31.
     #[inline(always)]
-    pub(crate) fn words(self) -> [u8x16; 4] {
-        [
+    pub(crate) fn words(self) -> (u8x16, u8x16, u8x16, u8x16)
+        ensures first { words result.0 ≡ take 8 (joined_words self.low self.high) }
+        ensures second { words result.1 ≡ take 8 (drop 8 (joined_words self.low self.high)) }
+        ensures third { words result.2 ≡ take 8 (drop 8 (drop 8 (joined_words self.low self.high))) }
+        ensures fourth { words result.3 ≡ drop 8 (drop 8 (drop 8 (joined_words self.low self.high))) }
+    {
+        (
             self.low.shuffle(self.high, WORDS_FROM_0),
             self.low.shuffle(self.high, WORDS_FROM_8),
             self.low.shuffle(self.high, WORDS_FROM_16),
             self.low.shuffle(self.high, WORDS_FROM_24),
-        ]
+        )
     }
 }

@@ -1,0 +1,297 @@
+-- The lanes that compute the units of a block.
+use Rattle.wtf8.proofs.Common.{◌≡◌, ℕ, zero, suc, ◌+◌, ◌-◌, ◌*◌, ◌/◌, ◌%◌, ◌^◌, ◌<◌, ◌≤◌, List, [], ◌∷◌, ◌++◌, Bool, true, false, length}
+use Rattle.wtf8.proofs.Common.{take, drop, get_or, map, cond, refl, sym, ap, ◌∙◌, subst, arith, Each1, Fits, w8, mask_l, top, sel_l, zip2, ltb, leb}
+use Rattle.wtf8.proofs.Common.{replicate, nat_tests, cases_lt, inl, inr, lt-ltb, le-ltb, le-leb, lt-leb, mask_l-mod, length-map, pick_l_whole}
+use Rattle.wtf8.proofs.Common.{tops_compared, eqb, eqb-true, IsTrue}
+use Rattle.std.proofs.lemmas.Simd.{zip2_splat_left}
+use lib.Lanes.{pick_l}
+use Rattle.std.specs.List.{range_with_len}
+use Rattle.wtf8.specs.private.UnitEnds.{by_position, one_before, two_before, three_before, low_byte, high_byte, low_of_any, high_of_any}
+use Rattle.wtf8.specs.private.UnitEnds.{ends_unit, ends_in_block, set_lanes, words, joined_words}
+
+-- The bytes before each byte.
+
+shifted_one : (z y x : ℕ) (u : List ℕ) → by_position (λ z y x b. x) z y x u ≡ take (length u) (x ∷ u)
+shifted_one z y x [] = refl
+shifted_one z y x (b ∷ u) = λ i. x ∷ shifted_one y x b u i
+
+shifted_two : (z y x : ℕ) (u : List ℕ) → by_position (λ z y x b. y) z y x u ≡ take (length u) (y ∷ x ∷ u)
+shifted_two z y x [] = refl
+shifted_two z y x (b ∷ u) = λ i. y ∷ shifted_two y x b u i
+
+shifted_three : (z y x : ℕ) (u : List ℕ) → by_position (λ z y x b. z) z y x u ≡ take (length u) (z ∷ y ∷ x ∷ u)
+shifted_three z y x [] = refl
+shifted_three z y x (b ∷ u) = λ i. z ∷ shifted_three y x b u i
+
+abbrev shuffled : List ℕ → List ℕ → List ℕ
+shuffled u js = pick_l 0 (u ++ replicate 32 0) js
+
+of_32 : (P : List ℕ → Type 0) (u : List ℕ) → length u ≡ 32 → P (pick_l 0 u (range_with_len 0 32)) → P u
+of_32 P u l p = subst P (pick_l_whole 0 u 32 l) p
+
+pub shuffled-one : (u : List ℕ) → length u ≡ 32 → shuffled u (32 ∷ range_with_len 0 31) ≡ one_before u
+shuffled-one u l = of_32 (λ u. shuffled u (32 ∷ range_with_len 0 31) ≡ one_before u) u l refl
+
+pub shuffled-two : (u : List ℕ) → length u ≡ 32 → shuffled u (32 ∷ 33 ∷ range_with_len 0 30) ≡ two_before u
+shuffled-two u l = of_32 (λ u. shuffled u (32 ∷ 33 ∷ range_with_len 0 30) ≡ two_before u) u l refl
+
+pub shuffled-three : (u : List ℕ) → length u ≡ 32 → shuffled u (32 ∷ 33 ∷ 34 ∷ range_with_len 0 29) ≡ three_before u
+shuffled-three u l = of_32 (λ u. shuffled u (32 ∷ 33 ∷ 34 ∷ range_with_len 0 29) ≡ three_before u) u l refl
+
+-- Operations on lanes of eight bits, and on one.
+
+abbrev flag : Bool → Bool
+flag t = top 7 (cond t 255 0)
+
+flag-same : (t : Bool) → flag t ≡ t
+flag-same true = refl
+flag-same false = refl
+
+abbrev are_less : List ℕ → List ℕ → List Bool
+are_less a b = map (top 7) (zip2 (λ a b. cond (ltb a b) 255 0) a b)
+
+abbrev are_at_least : ℕ → ℕ → List ℕ → List Bool
+are_at_least n k a = map (top 7) (zip2 (λ a b. cond (leb a b) 255 0) (replicate n k) a)
+
+abbrev add : List ℕ → List ℕ → List ℕ
+add = zip2 (λ a b. (a + b) % 256)
+
+abbrev times : ℕ → List ℕ → ℕ → List ℕ
+times n a k = zip2 (λ a b. a * b % 256) a (replicate n k)
+
+abbrev over : ℕ → List ℕ → ℕ → List ℕ
+over n a k = zip2 (λ a b. a / b) a (replicate n k)
+
+abbrev modulo : ℕ → List ℕ → ℕ → List ℕ
+modulo n a k = zip2 (λ a b. a % b) a (replicate n k)
+
+abbrev greater_lanes : List ℕ → List ℕ → List ℕ
+greater_lanes a b = sel_l (are_less a b) b a
+
+abbrev less_by : ℕ → List ℕ → ℕ → List ℕ
+less_by n a k = zip2 (λ a b. (a + (256 - b)) % 256) (greater_lanes a (replicate n k)) (replicate n k)
+
+greater_lane : ℕ → ℕ → ℕ
+greater_lane a b = cond (flag (ltb a b)) b a
+
+less_by_lane : (k a : ℕ) → k < 256 → a < 256 → (cond (flag (ltb a k)) k a + (256 - k)) % 256 ≡ a - k
+less_by_lane k a l m = elim (cases_lt a k) [ inl h ↦ rw (lt-ltb a k h) (omega (arith, h, l)) | inr h ↦ rw (le-ltb a k h) (omega (arith, h, m)) ]
+
+abbrev middle_lanes : ℕ → List ℕ → List ℕ → List ℕ
+middle_lanes n one u = sel_l (are_less u (replicate n 0x80)) (replicate n 0) (modulo n one 64)
+
+abbrev pub low_lanes : ℕ → List ℕ → List ℕ → List ℕ
+low_lanes n one u = add (modulo n u 128) (times n (middle_lanes n one u) 64)
+
+low_lanes-by_position : (z y x : ℕ) (u : List ℕ)
+    → low_lanes (length u) (by_position (λ z y x b. x) z y x u) u ≡ by_position (λ z y x b. low_byte x b) z y x u
+low_lanes-by_position z y x [] = refl
+low_lanes-by_position z y x (b ∷ u) =
+    let here = ap (λ t. (b % 128 + cond t 0 (x % 64) * 64 % 256) % 256) (flag-same (ltb b 128)) in
+    λ i. here i ∷ low_lanes-by_position y x b u i
+
+pub low_lanes-block : (u : List ℕ) → length u ≡ 32 → low_lanes 32 (one_before u) u ≡ by_position (λ z y x b. low_byte x b) 0 0 0 u
+low_lanes-block u l = subst (λ n. low_lanes n (one_before u) u ≡ by_position (λ z y x b. low_byte x b) 0 0 0 u) l (low_lanes-by_position 0 0 0 u)
+
+abbrev pub high_lanes : ℕ → List ℕ → List ℕ → List ℕ → List ℕ
+high_lanes n one two u = add (over n (middle_lanes n one u) 4) (times n (less_by n two 0xE0) 16)
+
+high_lanes-by_position : (z y x : ℕ) (u : List ℕ) → y < 256 → x < 256 → Each1 (Fits w8) u
+    → high_lanes (length u) (by_position (λ z y x b. x) z y x u) (by_position (λ z y x b. y) z y x u) u
+    ≡ by_position (λ z y x b. high_byte y x b) z y x u
+high_lanes-by_position z y x [] l m f = refl
+high_lanes-by_position z y x (b ∷ u) l m f =
+    let less = less_by_lane 0xE0 y (omega arith) l in
+    let tested = flag-same (ltb b 128) in
+    λ i. (cond (tested i) 0 (x % 64) / 4 + less i * 16 % 256) % 256 ∷ high_lanes-by_position y x b u m f.0.fits f.1 i
+
+pub high_lanes-block : (u : List ℕ) → length u ≡ 32 → Each1 (Fits w8) u
+    → high_lanes 32 (one_before u) (two_before u) u ≡ by_position (λ z y x b. high_byte y x b) 0 0 0 u
+high_lanes-block u l f = subst (λ n. high_lanes n (one_before u) (two_before u) u ≡ by_position (λ z y x b. high_byte y x b) 0 0 0 u) l
+    (high_lanes-by_position 0 0 0 u (omega arith) (omega arith) f)
+
+abbrev pub any_low_lanes : ℕ → List ℕ → List ℕ → List ℕ → List ℕ
+any_low_lanes n two low high = sel_l (are_at_least n 0xF0 two) (add (over n low 16) (times n (less_by n high 4) 16)) low
+
+any_low_lane : (y low high : ℕ) → high < 256
+    → cond (flag (leb 0xF0 y)) ((low / 16 + (cond (flag (ltb high 4)) 4 high + (256 - 4)) % 256 * 16 % 256) % 256) low
+    ≡ cond (ltb y 0xF0) low ((low / 16 + (high - 4) * 16 % 256) % 256)
+any_low_lane y low high l = elim (cases_lt y 0xF0) [
+  | inl h ↦ rw (lt-leb 0xF0 y h, lt-ltb y 0xF0 h) refl
+  | inr h ↦ rw (le-leb 0xF0 y h, le-ltb y 0xF0 h) (λ i. (low / 16 + less_by_lane 4 high (omega arith) l i * 16 % 256) % 256)
+]
+
+any_low_lanes-by_position : (z y x : ℕ) (u : List ℕ)
+    → any_low_lanes (length u) (by_position (λ z y x b. y) z y x u) (by_position (λ z y x b. low_byte x b) z y x u)
+    (by_position (λ z y x b. high_byte y x b) z y x u) ≡ by_position (λ z y x b. low_of_any y x b) z y x u
+any_low_lanes-by_position z y x [] = refl
+any_low_lanes-by_position z y x (b ∷ u) =
+    let here = any_low_lane y (low_byte x b) (high_byte y x b) (omega arith) in
+    λ i. here i ∷ any_low_lanes-by_position y x b u i
+
+pub any_low_lanes-block : (u : List ℕ) → length u ≡ 32
+    → any_low_lanes 32 (two_before u) (by_position (λ z y x b. low_byte x b) 0 0 0 u) (by_position (λ z y x b. high_byte y x b) 0 0 0 u)
+    ≡ by_position (λ z y x b. low_of_any y x b) 0 0 0 u
+any_low_lanes-block u l = subst (λ n. any_low_lanes n (two_before u) (by_position (λ z y x b. low_byte x b) 0 0 0 u)
+    (by_position (λ z y x b. high_byte y x b) 0 0 0 u) ≡ by_position (λ z y x b. low_of_any y x b) 0 0 0 u) l
+    (any_low_lanes-by_position 0 0 0 u)
+
+abbrev pub any_high_lanes : ℕ → List ℕ → List ℕ → List ℕ → List ℕ
+any_high_lanes n two three high = sel_l (are_at_least n 0xF0 two) (add (replicate n 0xD8) (over n (less_by n high 4) 16))
+    (sel_l (are_at_least n 0xF0 three) (add (replicate n 0xDC) (modulo n high 4)) high)
+
+any_high_lane : (z y high : ℕ) → high < 256
+    → cond (flag (leb 0xF0 y)) ((0xD8 + (cond (flag (ltb high 4)) 4 high + (256 - 4)) % 256 / 16) % 256)
+    (cond (flag (leb 0xF0 z)) ((0xDC + high % 4) % 256) high)
+    ≡ cond (ltb y 0xF0) (cond (ltb z 0xF0) high ((0xDC + high % 4) % 256)) ((0xD8 + (high - 4) / 16) % 256)
+any_high_lane z y high l = elim (cases_lt y 0xF0) [
+  | inl h ↦ rw (lt-leb 0xF0 y h, lt-ltb y 0xF0 h) (elim (cases_lt z 0xF0) [
+      | inl k ↦ rw (lt-leb 0xF0 z k, lt-ltb z 0xF0 k) refl
+      | inr k ↦ rw (le-leb 0xF0 z k, le-ltb z 0xF0 k) refl
+    ])
+  | inr h ↦ rw (le-leb 0xF0 y h, le-ltb y 0xF0 h) (λ i. (0xD8 + less_by_lane 4 high (omega arith) l i / 16) % 256)
+]
+
+any_high_lanes-by_position : (z y x : ℕ) (u : List ℕ)
+    → any_high_lanes (length u) (by_position (λ z y x b. y) z y x u) (by_position (λ z y x b. z) z y x u)
+    (by_position (λ z y x b. high_byte y x b) z y x u) ≡ by_position high_of_any z y x u
+any_high_lanes-by_position z y x [] = refl
+any_high_lanes-by_position z y x (b ∷ u) =
+    let here = any_high_lane z y (high_byte y x b) (omega arith) in
+    λ i. here i ∷ any_high_lanes-by_position y x b u i
+
+pub any_high_lanes-block : (u : List ℕ) → length u ≡ 32
+    → any_high_lanes 32 (two_before u) (three_before u) (by_position (λ z y x b. high_byte y x b) 0 0 0 u)
+    ≡ by_position high_of_any 0 0 0 u
+any_high_lanes-block u l = subst (λ n. any_high_lanes n (two_before u) (three_before u) (by_position (λ z y x b. high_byte y x b) 0 0 0 u)
+    ≡ by_position high_of_any 0 0 0 u) l (any_high_lanes-by_position 0 0 0 u)
+
+-- no unit of more than three bytes: the bytes of a unit are those of a short one
+pub low_of_any-short : (z y x : ℕ) (u : List ℕ) → y < 0xF0 → x < 0xF0 → Each1 (λ b. b < 0xF0) u
+    → by_position (λ z y x b. low_byte x b) z y x u ≡ by_position (λ z y x b. low_of_any y x b) z y x u
+low_of_any-short z y x [] l m e = refl
+low_of_any-short z y x (b ∷ u) l m e =
+    let here : low_byte x b ≡ low_of_any y x b = rw (lt-ltb y 0xF0 l) refl in
+    λ i. here i ∷ low_of_any-short y x b u m e.0 e.1 i
+
+pub high_of_any-short : (z y x : ℕ) (u : List ℕ) → z < 0xF0 → y < 0xF0 → x < 0xF0 → Each1 (λ b. b < 0xF0) u
+    → by_position (λ z y x b. high_byte y x b) z y x u ≡ by_position high_of_any z y x u
+high_of_any-short z y x [] k l m e = refl
+high_of_any-short z y x (b ∷ u) k l m e =
+    let here : high_byte y x b ≡ high_of_any z y x b = rw (lt-ltb y 0xF0 l, lt-ltb z 0xF0 k) refl in
+    λ i. here i ∷ high_of_any-short y x b u l m e.0 e.1 i
+
+-- The mask of the positions at which a unit ends.
+
+abbrev ends_mask : List ℕ → ℕ → ℕ
+ends_mask lanes n = mask_l (are_less lanes (replicate n 0xC0)) % 2 ^ 64
+
+abbrev short_end_lanes : ℕ → List ℕ → List ℕ → List ℕ
+short_end_lanes n one u = greater_lanes u (less_by n one 0x20)
+
+greater_lane-less : (a b k : ℕ) → flag (ltb (cond (flag (ltb a b)) b a) k) ≡ cond (ltb a k) (ltb b k) false
+greater_lane-less a b k = grind (arith, nat_tests, cases_lt)
+
+short_end_lane : (y x b : ℕ) (w : List ℕ) → y < 0xF0 → x < 256
+    → (let before = (cond (flag (ltb x 0x20)) 0x20 x + (256 - 0x20)) % 256 in flag (ltb (cond (flag (ltb b before)) before b) 0xC0))
+    ≡ ends_in_block y x b w
+short_end_lane y x b [] l m = grind (arith, nat_tests, cases_lt)
+short_end_lane y x b (c ∷ w) l m = grind (arith, nat_tests, cases_lt)
+
+short_end_lanes-by_position : (z y x : ℕ) (u : List ℕ) → y < 0xF0 → x < 0xF0 → Each1 (λ b. b < 0xF0) u
+    → are_less (short_end_lanes (length u) (by_position (λ z y x b. x) z y x u) u) (replicate (length u) 0xC0) ≡ set_lanes y x u
+short_end_lanes-by_position z y x [] l m e = refl
+short_end_lanes-by_position z y x (b ∷ u) l m e =
+    let here = short_end_lane y x b u l (omega (arith, m)) in
+    λ i. here i ∷ short_end_lanes-by_position y x b u m e.0 e.1 i
+
+length-set_lanes : (y x : ℕ) (u : List ℕ) → length (set_lanes y x u) ≡ length u
+length-set_lanes y x [] = refl
+length-set_lanes y x (b ∷ u) = ap suc (length-set_lanes x b u)
+
+-- the mask of up to 64 lanes
+mask-set_lanes : (lanes : List Bool) (u : List ℕ) → length u ≡ 32 → lanes ≡ set_lanes 0 0 u → mask_l lanes % 2 ^ 64 ≡ mask_l (set_lanes 0 0 u)
+mask-set_lanes lanes u l e =
+    ap (λ s. mask_l s % 2 ^ 64) e ∙ mask_l-mod (set_lanes 0 0 u) 64 (omega (arith, length-set_lanes 0 0 u, l))
+
+pub short_ends-mask : (u : List ℕ) → length u ≡ 32 → Each1 (λ b. b < 0xF0) u
+    → ends_mask (short_end_lanes 32 (one_before u) u) 32 ≡ mask_l (set_lanes 0 0 u)
+short_ends-mask u l e = mask-set_lanes _ u l (subst (λ n. are_less (short_end_lanes n (one_before u) u) (replicate n 0xC0) ≡ set_lanes 0 0 u) l
+    (short_end_lanes-by_position 0 0 0 u (omega arith) (omega arith) e))
+
+-- 255 in the last of `n` lanes
+abbrev last_lane : ℕ → List ℕ
+last_lane zero = []
+last_lane (suc zero) = 255 ∷ []
+last_lane (suc (suc n)) = 0 ∷ last_lane (suc n)
+
+abbrev lesser_lanes : List ℕ → List ℕ → List ℕ
+lesser_lanes a b = sel_l (are_less a b) a b
+
+abbrev any_end_lanes : ℕ → List ℕ → List ℕ → List ℕ → List ℕ
+any_end_lanes n one two u = greater_lanes (greater_lanes u (less_by n one 0x20)) (lesser_lanes (less_by n two 0x30) (last_lane n))
+
+any_end_lane : ℕ → ℕ → ℕ → ℕ → Bool
+any_end_lane y x b last =
+    let one = (cond (flag (ltb x 0x20)) 0x20 x + (256 - 0x20)) % 256 in
+    let two = (cond (flag (ltb y 0x30)) 0x30 y + (256 - 0x30)) % 256 in
+    let both = cond (flag (ltb b one)) one b in
+    let cut = cond (flag (ltb two last)) two last in
+    flag (ltb (cond (flag (ltb both cut)) cut both) 0xC0)
+
+any_end_lane-inner : (y x b c : ℕ) (w : List ℕ) → y < 256 → x < 256 → any_end_lane y x b 0 ≡ ends_in_block y x b (c ∷ w)
+unfolding any_end_lane
+any_end_lane-inner y x b c w l m = grind (arith, nat_tests, cases_lt)
+
+any_end_lane-last : (y x b : ℕ) → y < 256 → x < 256 → any_end_lane y x b 255 ≡ ends_in_block y x b []
+unfolding any_end_lane
+any_end_lane-last y x b l m = grind (arith, nat_tests, cases_lt)
+
+any_end_lanes-by_position : (z y x : ℕ) (u : List ℕ) → y < 256 → x < 256 → Each1 (Fits w8) u
+    → are_less (any_end_lanes (length u) (by_position (λ z y x b. x) z y x u) (by_position (λ z y x b. y) z y x u) u)
+    (replicate (length u) 0xC0) ≡ set_lanes y x u
+unfolding any_end_lane
+any_end_lanes-by_position z y x [] l m f = refl
+any_end_lanes-by_position z y x (b ∷ []) l m f = λ i. any_end_lane-last y x b l m i ∷ []
+any_end_lanes-by_position z y x (b ∷ c ∷ u) l m f =
+    let more = any_end_lanes-by_position y x b (c ∷ u) m f.0.fits f.1 in
+    λ i. any_end_lane-inner y x b c u l m i ∷ more i
+
+pub any_ends-mask : (u : List ℕ) → length u ≡ 32 → Each1 (Fits w8) u
+    → ends_mask (any_end_lanes 32 (one_before u) (two_before u) u) 32 ≡ mask_l (set_lanes 0 0 u)
+any_ends-mask u l f = mask-set_lanes _ u l
+    (subst (λ n. are_less (any_end_lanes n (one_before u) (two_before u) u) (replicate n 0xC0) ≡ set_lanes 0 0 u) l
+    (any_end_lanes-by_position 0 0 0 u (omega arith) (omega arith) f))
+
+below_all : (xs : List ℕ) → mask_l (map (leb 0xF0) xs) ≡ 0 → Each1 (λ b. b < 0xF0) xs
+below_all [] e = tt
+below_all (x ∷ xs) e = elim (cases_lt x 0xF0) [
+  | inl l ↦ (l, below_all xs (omega (arith, e)))
+  | inr g ↦ absurd (omega (arith, rw (le-leb 0xF0 x g) at e))
+]
+
+-- if the mask of the bytes from F0 on is 0, all are below F0
+pub short_if_none : (xs : List ℕ) → length xs ≡ 32 → IsTrue (eqb (mask_l (are_at_least 32 0xF0 xs) % 2 ^ 64) 0) → Each1 (λ b. b < 0xF0) xs
+short_if_none xs long t =
+    let lanes = tops_compared w8 leb (replicate 32 0xF0) xs ∙ zip2_splat_left leb 0xF0 32 xs long in
+    below_all xs (sym (mask_l-mod (map (leb 0xF0) xs) 64 (omega (arith, length-map xs (leb 0xF0), long)))
+    ∙ (ap (λ ms. mask_l ms % 2 ^ 64) (sym lanes) ∙ eqb-true _ 0 t))
+
+-- The words of eight positions each.
+
+abbrev words_of : List ℕ → List ℕ → List ℕ → List ℕ
+words_of low high js = words (pick_l 0 (low ++ high) js)
+
+-- the interleaved bytes of positions from `k` on, and those `n` words of all
+abbrev WordsAre : (List ℕ → List ℕ) → List ℕ → Type 0
+WordsAre part js = (low high : List ℕ) → length low ≡ 32 → length high ≡ 32 → words_of low high js ≡ part (joined_words low high)
+
+words_are : (part : List ℕ → List ℕ) (js : List ℕ)
+    → ((low high : List ℕ) → let a = pick_l 0 low (range_with_len 0 32) in let b = pick_l 0 high (range_with_len 0 32) in
+    words_of a b js ≡ part (joined_words a b)) → WordsAre part js
+words_are part js same low high l m = of_32 (λ a. words_of a high js ≡ part (joined_words a high)) low l
+    (of_32 (λ b. words_of (pick_l 0 low (range_with_len 0 32)) b js ≡ part (joined_words (pick_l 0 low (range_with_len 0 32)) b)) high m
+    (same low high))
+
+pub words_from_0 : WordsAre (take 8) (0 ∷ 32 ∷ 1 ∷ 33 ∷ 2 ∷ 34 ∷ 3 ∷ 35 ∷ 4 ∷ 36 ∷ 5 ∷ 37 ∷ 6 ∷ 38 ∷ 7 ∷ 39 ∷ [])
+words_from_0 = words_are (take 8) _ (λ low high. refl)
