@@ -15,7 +15,7 @@ use crate::lanes::VECTOR;
 use crate::lanes::ascii::is_ascii_overlapping;
 use crate::strings::view::Wtf8;
 use crate::to_utf16::blocks::{EncodedLength, OneByte, ThreeBytes, TwoBytes, is_lead_byte, widen};
-use crate::to_utf16::unit_ends::{POSITIONS, pack_words, unit_ends};
+use crate::to_utf16::unit_ends::{POSITIONS, interleave, pack_words, unit_ends};
 use crate::vec::copies::push_block;
 use std::alloc::{AllocError, Allocator};
 use std::simd::prelude::*;
@@ -224,7 +224,7 @@ fn decode_positions<'a>(units: &mut [u16], left: Undecoded<'a>) -> Undecoded<'a>
         return decode_point(units, left);
     }
     let block = unit_ends(u8x32::from_slice(left.view.bytes));
-    let (front, second, third, last) = block.words();
+    let (front, second, third, last) = interleave(block.low, block.high);
     let ends = block.ends as usize;
     let at = store_packed(units, left.at, front, ends % 0x100);
     let at = store_packed(units, at, second, ends / 0x100 % 0x100);

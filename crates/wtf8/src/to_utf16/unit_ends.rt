@@ -182,20 +182,18 @@ pub(crate) fn pack_words(lanes: u8x16, index: usize) -> [u16; 8]
     u16x8::from_le_bytes(lanes.swizzle_dyn(packing_row(index))).to_array()
 }
 
-impl UnitEnds {
-    /// The words of positions 0 to 7, 8 to 15, 16 to 23 and 24 to 31.
-    #[inline(always)]
-    pub(crate) fn words(self) -> (u8x16, u8x16, u8x16, u8x16)
-        ensures first { words result.0 ≡ take 8 (joined_words self.low self.high) }
-        ensures second { words result.1 ≡ take 8 (drop 8 (joined_words self.low self.high)) }
-        ensures third { words result.2 ≡ take 8 (drop 8 (drop 8 (joined_words self.low self.high))) }
-        ensures fourth { words result.3 ≡ drop 8 (drop 8 (drop 8 (joined_words self.low self.high))) }
-    {
-        (
-            self.low.shuffle(self.high, WORDS_FROM_0),
-            self.low.shuffle(self.high, WORDS_FROM_8),
-            self.low.shuffle(self.high, WORDS_FROM_16),
-            self.low.shuffle(self.high, WORDS_FROM_24),
-        )
-    }
+/// The words of positions 0 to 7, 8 to 15, 16 to 23 and 24 to 31.
+#[inline(always)]
+pub(crate) fn interleave(low: u8x32, high: u8x32) -> (u8x16, u8x16, u8x16, u8x16)
+    ensures first { words result.0 ≡ take 8 (joined_words low high) }
+    ensures second { words result.1 ≡ take 8 (drop 8 (joined_words low high)) }
+    ensures third { words result.2 ≡ take 8 (drop 8 (drop 8 (joined_words low high))) }
+    ensures fourth { words result.3 ≡ drop 8 (drop 8 (drop 8 (joined_words low high))) }
+{
+    (
+        low.shuffle(high, WORDS_FROM_0),
+        low.shuffle(high, WORDS_FROM_8),
+        low.shuffle(high, WORDS_FROM_16),
+        low.shuffle(high, WORDS_FROM_24),
+    )
 }

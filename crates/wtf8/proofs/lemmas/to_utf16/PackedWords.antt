@@ -1,13 +1,14 @@
 -- The rows that pack words, and the words that they pack.
 use Rattle.wtf8.proofs.Common.{◌≡◌, ℕ, zero, suc, ◌+◌, ◌-◌, ◌*◌, ◌/◌, ◌%◌, ◌^◌, ◌<◌, ◌≤◌, ◌&&◌, List, [], ◌∷◌, ◌++◌, Bool, true, false, length}
 use Rattle.wtf8.proofs.Common.{take, drop, get_or, map, cond, refl, sym, ap, ◌∙◌, subst, arith, Each1, Fits, w8, swz_l, mask_l, and_parts}
-use Rattle.wtf8.proofs.Common.{nat_eq, pointwise, cases_lt, cases_Bool, inl, inr, lt-ltb, le-ltb, length-map, take-append-drop}
+use Rattle.wtf8.proofs.Common.{nat_eq, pointwise, cases_lt, cases_Bool, inl, inr, lt-ltb, le-ltb, length-map, take-append-drop, append_assoc, length-drop}
 use Rattle.std.proofs.lemmas.List.Recursion.{and_at}
-use Rattle.std.proofs.lemmas.Simd.{ones-mask_l_cons, pick_l-range_with_len}
+use Rattle.std.proofs.lemmas.Simd.{ones-mask_l_cons, pick_l-range_with_len, mask_l-lt}
 use Rattle.std.proofs.Math.Nat.{pow-suc}
 use Rattle.std.specs.Cmp.Lexicographic.{same_text}
 use Rattle.std.specs.Int.Count.{leading_unique, count_leading_zeros}
 use Rattle.std.specs.Int.RustNames.{count_ones}
+use lib.Count.{ones}
 use lib.Lanes.{all_below, digits_l, number_l, pick_l}
 use Rattle.wtf8.proofs.lemmas.lanes.AsciiFronts.{Each1-map_all}
 use Rattle.wtf8.proofs.lemmas.from_utf16.Kernel.{swz_l-below_16}
@@ -108,13 +109,24 @@ take-packed lanes row number long wide fits within packs s eight e =
     (length-words 8 lanes (omega (arith, long)) ∙ sym eight)
     (λ i l. get_or-words lanes i (omega (arith, l, eight, long)) ∙ ap (λ j. g (2 * j) + 256 * g (2 * j + 1)) (omega arith))
 
-pub count_ones-picked : (u : List ℕ) (s : List Bool) → length u ≡ length s → count_ones (mask_l s) ≡ length (picked u s)
+pub length-picked : (u : List ℕ) (s : List Bool) → length (picked u s) ≤ length s
+length-picked [] s = omega arith
+length-picked (n ∷ u) [] = omega arith
+length-picked (n ∷ u) (false ∷ s) = omega (arith, length-picked u s)
+length-picked (n ∷ u) (true ∷ s) = omega (arith, length-picked u s)
+
+count_ones-picked : (u : List ℕ) (s : List Bool) → length u ≡ length s → count_ones (mask_l s) ≡ length (picked u s)
 unfolding count_ones
 count_ones-picked [] [] l = refl
 count_ones-picked [] (b ∷ s) l = absurd (omega arith)
 count_ones-picked (n ∷ u) [] l = absurd (omega arith)
 count_ones-picked (n ∷ u) (false ∷ s) l = omega (arith, ones-mask_l_cons false s, count_ones-picked u s (omega arith))
 count_ones-picked (n ∷ u) (true ∷ s) l = omega (arith, ones-mask_l_cons true s, count_ones-picked u s (omega arith))
+
+-- the number of ones in the mask of eight lanes is that of the words that they pick
+pub ones-picked : (lanes : List ℕ) (s : List Bool) → length lanes ≡ 16 → length s ≡ 8 → ones (mask_l s) ≡ length (picked (words lanes) s)
+unfolding count_ones
+ones-picked lanes s long eight = count_ones-picked (words lanes) s (length-words 8 lanes (omega (arith, long)) ∙ sym eight)
 
 -- The mask of set lanes: its lowest eight bits, the others, and its highest bit.
 
@@ -145,11 +157,14 @@ eight_lowest s l =
 -- the highest bit of the mask is that of the last set lane
 record MaskLength (m n k : ℕ) : Type 0 where
   pub above : m < 2 ^ n
-  pub least : 2 ^ n ≤ 2 * m + 1
+  pub least : 0 < n → 2 ^ n ≤ 2 * m
   pub within : n ≤ k
 
 double_pow : (n : ℕ) → 2 ^ (1 + n) ≡ 2 * 2 ^ n
-double_pow n = ap {x = 1 + n} {y = suc n} (λ k. 2 ^ k) (omega arith) ∙ omega (arith, pow-suc 2 n)
+double_pow n =
+    let more : 1 + n ≡ suc n = omega arith in
+    let doubled : 2 ^ suc n ≡ 2 * 2 ^ n = omega (arith, pow-suc 2 n) in
+    ap (λ k. 2 ^ k) more ∙ doubled
 
 no_more : (b : Bool) (s : List Bool) → whole_len s ≡ 0 → MaskLength (mask_l s) (whole_len s) (length s)
     → MaskLength (mask_l (b ∷ s)) (whole_len (b ∷ s)) (length (b ∷ s))
@@ -157,15 +172,15 @@ no_more false s e k =
     let none : mask_l s ≡ 0 = omega (arith, rw e at k.above) in
     let n : whole_len (false ∷ s) ≡ 0 = rw e refl in
     subst (λ n. MaskLength (mask_l (false ∷ s)) n (length (false ∷ s))) (sym n)
-    (record { above = omega (arith, none); least = omega arith; within = omega arith })
+    (record { above = omega (arith, none); least = λ l. absurd (omega (arith, l)); within = omega arith })
 no_more true s e k =
     let none : mask_l s ≡ 0 = omega (arith, rw e at k.above) in
     let n : whole_len (true ∷ s) ≡ 1 = rw e refl in
     subst (λ n. MaskLength (mask_l (true ∷ s)) n (length (true ∷ s))) (sym n)
-    (record { above = omega (arith, none); least = omega arith; within = omega arith })
+    (record { above = omega (arith, none); least = λ _. omega arith; within = omega arith })
 
 MaskLength-whole_len : (s : List Bool) → MaskLength (mask_l s) (whole_len s) (length s)
-MaskLength-whole_len [] = record { above = omega arith; least = omega arith; within = omega arith }
+MaskLength-whole_len [] = record { above = omega arith; least = λ l. absurd (omega (arith, l)); within = omega arith }
 MaskLength-whole_len (b ∷ s) =
     let more = MaskLength-whole_len s in
     let next : 2 ^ (1 + whole_len s) ≡ 2 * 2 ^ whole_len s = double_pow (whole_len s) in
@@ -174,14 +189,65 @@ MaskLength-whole_len (b ∷ s) =
           let n : whole_len (b ∷ s) ≡ 1 + whole_len s = rw (lt-ltb 0 (whole_len s) l) refl in
           subst (λ n. MaskLength (mask_l (b ∷ s)) n (length (b ∷ s))) (sym n) (record {
             above = omega (arith, next, more.above, bit_bound b);
-            least = omega (arith, next, more.least, bit_bound b);
+            least = λ _. omega (arith, next, more.least l, bit_bound b);
             within = omega (arith, more.within);
           })
       | inr g ↦ no_more b s (omega (arith, g)) more
     ]
 
+MaskLength-least : {m n k : ℕ} → MaskLength m n k → 2 ^ n ≤ 2 * m + 1
+MaskLength-least {m} {n} {k} h = elim (cases_lt 0 n) [
+  | inl l ↦ omega (arith, h.least l)
+  | inr g ↦ let none : n ≡ 0 = omega (arith, g) in rw none (omega arith)
+]
+
 pub leading_zeros-mask_l : (s : List Bool) → length s ≤ 64 → 64 - count_leading_zeros 64 (mask_l s) ≡ whole_len s
 leading_zeros-mask_l s l =
     let own = MaskLength-whole_len s in
-    let unique = leading_unique 64 (mask_l s) (64 - whole_len s) (whole_len s) (omega (arith, own.within, l)) own.above own.least in
+    let unique = leading_unique 64 (mask_l s) (64 - whole_len s) (whole_len s) (omega (arith, own.within, l)) own.above (MaskLength-least own) in
     omega (arith, own.within, l, unique)
+
+-- The numbers that lanes pick, eight by eight.
+
+picked-nil : (u : List ℕ) → picked u [] ≡ []
+picked-nil [] = refl
+picked-nil (x ∷ u) = refl
+
+picked-parts : (n : ℕ) (u : List ℕ) (s : List Bool) → picked u s ≡ picked (take n u) (take n s) ++ picked (drop n u) (drop n s)
+picked-parts zero u s = refl
+picked-parts (suc n) [] s = refl
+picked-parts (suc n) (x ∷ u) [] = sym (picked-nil (drop n u))
+picked-parts (suc n) (x ∷ u) (false ∷ s) = picked-parts n u s
+picked-parts (suc n) (x ∷ u) (true ∷ s) = ap (λ v. x ∷ v) (picked-parts n u s)
+
+-- the numbers of 32 lanes, then others, by eight lanes each
+pub picked_by_eight : (u : List ℕ) (s : List Bool) (rest : List ℕ) → picked u s ++ rest ≡ picked (take 8 u) (take 8 s)
+    ++ (picked (take 8 (drop 8 u)) (take 8 (drop 8 s)) ++ (picked (take 8 (drop 8 (drop 8 u))) (take 8 (drop 8 (drop 8 s)))
+    ++ (picked (drop 8 (drop 8 (drop 8 u))) (drop 8 (drop 8 (drop 8 s))) ++ rest)))
+picked_by_eight u s rest = ap (λ v. v ++ rest) (picked-parts 8 u s ∙ ap (λ v. picked (take 8 u) (take 8 s) ++ v)
+    (picked-parts 8 (drop 8 u) (drop 8 s) ∙ ap (λ v. picked (take 8 (drop 8 u)) (take 8 (drop 8 s)) ++ v)
+    (picked-parts 8 (drop 8 (drop 8 u)) (drop 8 (drop 8 s))))) ∙ simp append_assoc
+
+-- the mask of 32 lanes holds four masks of eight
+pub record FourMasks (s : List Bool) (m : ℕ) : Type 0 where
+  pub first : m % 256 ≡ mask_l (take 8 s)
+  pub second : m / 256 % 256 ≡ mask_l (take 8 (drop 8 s))
+  pub third : m / 65536 % 256 ≡ mask_l (take 8 (drop 8 (drop 8 s)))
+  pub fourth : m / 16777216 ≡ mask_l (drop 8 (drop 8 (drop 8 s)))
+  pub bound : m / 16777216 < 256
+
+pub four_masks : (s : List Bool) (m : ℕ) → length s ≡ 32 → m ≡ mask_l s → FourMasks s m
+four_masks s m l e =
+    let a = eight_lowest s (omega (arith, l)) in
+    let b = eight_lowest (drop 8 s) (omega (arith, l, length-drop 8 s)) in
+    let d = eight_lowest (drop 8 (drop 8 s)) (omega (arith, l, length-drop 8 s, length-drop 8 (drop 8 s))) in
+    let last = drop 8 (drop 8 (drop 8 s)) in
+    let few : length last ≡ 8 = omega (arith, l, length-drop 8 s, length-drop 8 (drop 8 s), length-drop 8 (drop 8 (drop 8 s))) in
+    let top : mask_l last < 256 = subst (λ n. mask_l last < 2 ^ n) few (mask_l-lt last) in
+    record {
+      first = omega (arith, e, a.low);
+      second = omega (arith, e, a.rest, b.low);
+      third = omega (arith, e, a.rest, b.rest, d.low);
+      fourth = omega (arith, e, a.rest, b.rest, d.rest);
+      bound = omega (arith, e, a.rest, b.rest, d.rest, top);
+    }

@@ -1,7 +1,7 @@
 -- The units whose encodings end at the bytes of a block are the units of the code points that it holds whole.
 use Rattle.wtf8.proofs.Common.{◌≡◌, ℕ, zero, suc, ◌+◌, ◌-◌, ◌*◌, ◌/◌, ◌%◌, ◌<◌, ◌≤◌, List, [], ◌∷◌, ◌++◌, Bool, true, false, length, take}
 use Rattle.wtf8.proofs.Common.{drop, get_or, refl, sym, ap, ◌∙◌, subst, arith, cases_lt, lt-ltb, le-ltb, inl, inr, encoding, bytes, units, units_of}
-use Rattle.wtf8.proofs.Common.{IsClean, IsWellFormed, BeginsWithUnits, length-append, append_assoc, nat_tests, drop_at}
+use Rattle.wtf8.proofs.Common.{IsClean, IsWellFormed, BeginsWithUnits, length-append, append_assoc, nat_tests, drop_at, take-append-drop}
 use Rattle.wtf8.proofs.lemmas.codec.Encoding.{encoding_cases, one, two, three, four, bytes-append, length-encoding_bounds, second_row, third_row, fourth_row}
 use Rattle.wtf8.proofs.lemmas.codec.Readings.{units_one, units_two, units-append, clean-first, clean-rest, clean-back, lead_of, trail_of}
 use Rattle.wtf8.specs.private.UnitEnds.{by_position, bits_before, low_byte, high_byte, low_of_any, high_of_any, unit_at_end, ends_unit}
@@ -250,3 +250,23 @@ holds_points z y x (p ∷ c) v r k clean g =
       | three m l e ↦ holds_three z y x p c v r k m l e (subst (λ w. Begins w c v r) e g) more
       | four m e ↦ holds_four z y x p c v r k m (clean-first p c clean) e (subst (λ w. Begins w c v r) e g) more
     ]
+
+-- the units that end in the front of well-formed bytes are the next units
+pub begins_with_block : (w block : List ℕ) → block ≡ take 32 w
+    → BeginsWithUnits w (picked (by_position unit_at_end 0 0 0 block) (set_lanes 0 0 block)) (whole_len (set_lanes 0 0 block))
+begins_with_block w block same h =
+    let whole : bytes h.points ≡ block ++ drop 32 w = h.encoded ∙ (sym (take-append-drop 32 w) ∙ ap (λ b. b ++ drop 32 w) (sym same)) in
+    let own = holds_points 0 0 0 h.points block (drop 32 w) (record { first = omega arith; second = omega arith; third = omega arith }) h.clean whole in
+    let front = bytes own.front in
+    let divided : w ≡ front ++ bytes own.back = sym h.encoded ∙ (ap bytes own.joined ∙ bytes-append own.front own.back) in
+    let rest : bytes own.back ≡ drop (whole_len (set_lanes 0 0 block)) w =
+    sym (ap (λ n. drop n w) own.len ∙ (ap (drop (length front)) divided ∙ drop_at front (bytes own.back) (length front) refl)) in (
+      record { points = own.back; clean = clean-back own.front own.back (subst IsClean own.joined h.clean); encoded = rest },
+      ap units own.joined ∙ (units-append own.front own.back ∙ ap (λ u. u ++ units own.back) (sym own.picks)),
+    )
+
+-- a block of four bytes and more has a first code point whole
+pub some_held : (w block : List ℕ) → IsWellFormed w → block ≡ take 32 w → 4 ≤ length block → 0 < whole_len (set_lanes 0 0 block)
+some_held w block h same long =
+    let whole : bytes h.points ≡ block ++ drop 32 w = h.encoded ∙ (sym (take-append-drop 32 w) ∙ ap (λ b. b ++ drop 32 w) (sym same)) in
+    (holds_points 0 0 0 h.points block (drop 32 w) (record { first = omega arith; second = omega arith; third = omega arith }) h.clean whole).some long

@@ -282,7 +282,7 @@ short_if_none xs long t =
 abbrev words_of : List ℕ → List ℕ → List ℕ → List ℕ
 words_of low high js = words (pick_l 0 (low ++ high) js)
 
--- the interleaved bytes of positions from `k` on, and those `n` words of all
+-- the interleaved bytes of some positions are a part of all words
 abbrev WordsAre : (List ℕ → List ℕ) → List ℕ → Type 0
 WordsAre part js = (low high : List ℕ) → length low ≡ 32 → length high ≡ 32 → words_of low high js ≡ part (joined_words low high)
 
@@ -293,5 +293,26 @@ words_are part js same low high l m = of_32 (λ a. words_of a high js ≡ part (
     (of_32 (λ b. words_of (pick_l 0 low (range_with_len 0 32)) b js ≡ part (joined_words (pick_l 0 low (range_with_len 0 32)) b)) high m
     (same low high))
 
-pub words_from_0 : WordsAre (take 8) (0 ∷ 32 ∷ 1 ∷ 33 ∷ 2 ∷ 34 ∷ 3 ∷ 35 ∷ 4 ∷ 36 ∷ 5 ∷ 37 ∷ 6 ∷ 38 ∷ 7 ∷ 39 ∷ [])
-words_from_0 = words_are (take 8) _ (λ low high. refl)
+abbrev lanes_from_0 : List ℕ
+lanes_from_0 = 0 ∷ 32 ∷ 1 ∷ 33 ∷ 2 ∷ 34 ∷ 3 ∷ 35 ∷ 4 ∷ 36 ∷ 5 ∷ 37 ∷ 6 ∷ 38 ∷ 7 ∷ 39 ∷ []
+
+pub words_from_0 : WordsAre (take 8) lanes_from_0
+words_from_0 = words_are (take 8) lanes_from_0 (λ low high. refl)
+
+abbrev lanes_from_8 : List ℕ
+lanes_from_8 = 8 ∷ 40 ∷ 9 ∷ 41 ∷ 10 ∷ 42 ∷ 11 ∷ 43 ∷ 12 ∷ 44 ∷ 13 ∷ 45 ∷ 14 ∷ 46 ∷ 15 ∷ 47 ∷ []
+
+pub words_from_8 : WordsAre (λ w. take 8 (drop 8 w)) lanes_from_8
+words_from_8 = words_are (λ w. take 8 (drop 8 w)) lanes_from_8 (λ low high. refl)
+
+abbrev lanes_from_16 : List ℕ
+lanes_from_16 = 16 ∷ 48 ∷ 17 ∷ 49 ∷ 18 ∷ 50 ∷ 19 ∷ 51 ∷ 20 ∷ 52 ∷ 21 ∷ 53 ∷ 22 ∷ 54 ∷ 23 ∷ 55 ∷ []
+
+pub words_from_16 : WordsAre (λ w. take 8 (drop 8 (drop 8 w))) lanes_from_16
+words_from_16 = words_are (λ w. take 8 (drop 8 (drop 8 w))) lanes_from_16 (λ low high. refl)
+
+abbrev lanes_from_24 : List ℕ
+lanes_from_24 = 24 ∷ 56 ∷ 25 ∷ 57 ∷ 26 ∷ 58 ∷ 27 ∷ 59 ∷ 28 ∷ 60 ∷ 29 ∷ 61 ∷ 30 ∷ 62 ∷ 31 ∷ 63 ∷ []
+
+pub words_from_24 : WordsAre (λ w. drop 8 (drop 8 (drop 8 w))) lanes_from_24
+words_from_24 = words_are (λ w. drop 8 (drop 8 (drop 8 w))) lanes_from_24 (λ low high. refl)
