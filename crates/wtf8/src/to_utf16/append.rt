@@ -2,7 +2,7 @@
 ghost use Rattle.std.specs.Prelude.{◌≡◌, ℕ, List, Bool, ◌++◌, ◌+◌, ◌*◌, ◌<◌, ◌≤◌, length, take, drop, IsOk, IsTrue, OnOk, OnErr, false, vec_len, vec_capacity};
 ghost use lib.Lanes.{mask_l};
 ghost use Rattle.wtf8.specs.private.Prefixes.{AreAscii};
-ghost use Rattle.wtf8.specs.private.UnitEnds.{picked, words};
+ghost use Rattle.wtf8.specs.private.UnitEnds.{picked, words, joined_words};
 ghost use Rattle.wtf8.specs.private.EncodedBytes.{BecomesOrKeeps, BeginsWithUnits, Writes};
 ghost use Rattle.wtf8.specs.CodePoint.{number};
 ghost use Rattle.wtf8.specs.Unicode.{units_of};
@@ -15,7 +15,7 @@ use crate::lanes::VECTOR;
 use crate::lanes::ascii::is_ascii_overlapping;
 use crate::strings::view::Wtf8;
 use crate::to_utf16::blocks::{EncodedLength, OneByte, ThreeBytes, TwoBytes, is_lead_byte, widen};
-use crate::to_utf16::unit_ends::{POSITIONS, interleave, pack_words, unit_ends};
+use crate::to_utf16::unit_ends::{POSITIONS, UnitEnds, interleave, pack_words, unit_ends};
 use crate::vec::copies::push_block;
 use std::alloc::{AllocError, Allocator};
 use std::simd::prelude::*;
@@ -204,11 +204,28 @@ fn decode_run<
 fn store_packed(units: &mut [u16], at: usize, lanes: u8x16, index: usize) -> usize
     requires index { index < 256 }
     requires room { at + 8 ≤ length units.old }
-    ensures { (s : List Bool) (rest : List ℕ) → length s ≡ 8 → index ≡ mask_l s
+    ensures within { result ≤ at + 8 }
+    ensures len { length units.new ≡ length units.old }
+    ensures written { (s : List Bool) (rest : List ℕ) → length s ≡ 8 → index ≡ mask_l s
         → Writes units.old at (picked (words lanes) s ++ rest) units.new result rest }
 {
     store_units(units, at, pack_words(lanes, index));
     at + index.count_ones() as usize
+}
+
+/// Writes the units that end in a block. Returns the index after them.
+#[inline(always)]
+fn store_block(units: &mut [u16], at: usize, block: UnitEnds) -> usize
+    requires room { at + POSITIONS ≤ length units.old }
+    ensures { (s : List Bool) (rest : List ℕ) → length s ≡ POSITIONS → block.ends ≡ mask_l s
+        → Writes units.old at (picked (joined_words block.low block.high) s ++ rest) units.new result rest }
+{
+    let (front, second, third, last) = interleave(block.low, block.high);
+    let ends = block.ends as usize;
+    let after = store_packed(units, at, front, ends % 0x100);
+    let after = store_packed(units, after, second, ends / 0x100 % 0x100);
+    let after = store_packed(units, after, third, ends / 0x1_0000 % 0x100);
+    store_packed(units, after, last, ends / 0x100_0000 % 0x100)
 }
 
 /// Decodes the whole code points of the next `POSITIONS` bytes, of any kinds. Where there is no room for as many units,
@@ -224,12 +241,7 @@ fn decode_positions<'a>(units: &mut [u16], left: Undecoded<'a>) -> Undecoded<'a>
         return decode_point(units, left);
     }
     let block = unit_ends(u8x32::from_slice(left.view.bytes));
-    let (front, second, third, last) = interleave(block.low, block.high);
-    let ends = block.ends as usize;
-    let at = store_packed(units, left.at, front, ends % 0x100);
-    let at = store_packed(units, at, second, ends / 0x100 % 0x100);
-    let at = store_packed(units, at, third, ends / 0x1_0000 % 0x100);
-    let at = store_packed(units, at, last, ends / 0x100_0000);
+    let at = store_block(units, left.at, block);
     let width = (u64::BITS - block.ends.leading_zeros()) as usize;
     Undecoded {
         view: left.view.skip_bytes(width),

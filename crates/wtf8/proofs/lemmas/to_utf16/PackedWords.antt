@@ -201,6 +201,9 @@ MaskLength-least {m} {n} {k} h = elim (cases_lt 0 n) [
   | inr g ↦ let none : n ≡ 0 = omega (arith, g) in rw none (omega arith)
 ]
 
+pub whole_len-bound : (s : List Bool) → whole_len s ≤ length s
+whole_len-bound s = (MaskLength-whole_len s).within
+
 pub leading_zeros-mask_l : (s : List Bool) → length s ≤ 64 → 64 - count_leading_zeros 64 (mask_l s) ≡ whole_len s
 leading_zeros-mask_l s l =
     let own = MaskLength-whole_len s in
@@ -233,8 +236,7 @@ pub record FourMasks (s : List Bool) (m : ℕ) : Type 0 where
   pub first : m % 256 ≡ mask_l (take 8 s)
   pub second : m / 256 % 256 ≡ mask_l (take 8 (drop 8 s))
   pub third : m / 65536 % 256 ≡ mask_l (take 8 (drop 8 (drop 8 s)))
-  pub fourth : m / 16777216 ≡ mask_l (drop 8 (drop 8 (drop 8 s)))
-  pub bound : m / 16777216 < 256
+  pub fourth : m / 16777216 % 256 ≡ mask_l (drop 8 (drop 8 (drop 8 s)))
 
 pub four_masks : (s : List Bool) (m : ℕ) → length s ≡ 32 → m ≡ mask_l s → FourMasks s m
 four_masks s m l e =
@@ -248,6 +250,5 @@ four_masks s m l e =
       first = omega (arith, e, a.low);
       second = omega (arith, e, a.rest, b.low);
       third = omega (arith, e, a.rest, b.rest, d.low);
-      fourth = omega (arith, e, a.rest, b.rest, d.rest);
-      bound = omega (arith, e, a.rest, b.rest, d.rest, top);
+      fourth = omega (arith, e, a.rest, b.rest, d.rest, top);
     }

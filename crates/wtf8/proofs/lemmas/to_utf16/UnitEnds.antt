@@ -1,7 +1,7 @@
 -- The units whose encodings end at the bytes of a block are the units of the code points that it holds whole.
 use Rattle.wtf8.proofs.Common.{◌≡◌, ℕ, zero, suc, ◌+◌, ◌-◌, ◌*◌, ◌/◌, ◌%◌, ◌<◌, ◌≤◌, List, [], ◌∷◌, ◌++◌, Bool, true, false, length, take}
 use Rattle.wtf8.proofs.Common.{drop, get_or, refl, sym, ap, ◌∙◌, subst, arith, cases_lt, lt-ltb, le-ltb, inl, inr, encoding, bytes, units, units_of}
-use Rattle.wtf8.proofs.Common.{IsClean, IsWellFormed, BeginsWithUnits, length-append, append_assoc, nat_tests, drop_at, take-append-drop}
+use Rattle.wtf8.proofs.Common.{IsClean, IsWellFormed, BeginsWithUnits, Writes, length-append, append_assoc, nat_tests, drop_at, take-append-drop}
 use Rattle.wtf8.proofs.lemmas.codec.Encoding.{encoding_cases, one, two, three, four, bytes-append, length-encoding_bounds, second_row, third_row, fourth_row}
 use Rattle.wtf8.proofs.lemmas.codec.Readings.{units_one, units_two, units-append, clean-first, clean-rest, clean-back, lead_of, trail_of}
 use Rattle.wtf8.specs.private.UnitEnds.{by_position, bits_before, low_byte, high_byte, low_of_any, high_of_any, unit_at_end, ends_unit}
@@ -270,3 +270,15 @@ pub some_held : (w block : List ℕ) → IsWellFormed w → block ≡ take 32 w 
 some_held w block h same long =
     let whole : bytes h.points ≡ block ++ drop 32 w = h.encoded ∙ (sym (take-append-drop 32 w) ∙ ap (λ b. b ++ drop 32 w) (sym same)) in
     (holds_points 0 0 0 h.points block (drop 32 w) (record { first = omega arith; second = omega arith; third = omega arith }) h.clean whole).some long
+
+pub Writes-trans : {a b d l m r : List ℕ} {i j k : ℕ} → Writes a i l b j m → Writes b j m d k r → Writes a i l d k r
+Writes-trans v w = record {
+  units = w.units ∙ v.units;
+  same_total = w.same_total ∙ v.same_total;
+  order = omega (arith, v.order, w.order);
+  len = w.len ∙ v.len;
+  later = λ n after. w.later n after ∙ v.later n (omega (arith, after, w.order));
+}
+
+pub Writes-equal_left : {a b l m r : List ℕ} {i j : ℕ} → l ≡ m → Writes a i l b j r → Writes a i m b j r
+Writes-equal_left {a} {b} {r = r} {i} {j} e w = subst (λ l. Writes a i l b j r) e w

@@ -7,7 +7,7 @@ use Rattle.std.proofs.lemmas.Simd.{zip2_splat_left}
 use lib.Lanes.{pick_l}
 use Rattle.std.specs.List.{range_with_len}
 use Rattle.wtf8.specs.private.UnitEnds.{by_position, one_before, two_before, three_before, low_byte, high_byte, low_of_any, high_of_any}
-use Rattle.wtf8.specs.private.UnitEnds.{ends_unit, ends_in_block, set_lanes, words, joined_words}
+use Rattle.wtf8.specs.private.UnitEnds.{unit_at_end, ends_unit, ends_in_block, set_lanes, words, joined_words}
 
 -- The bytes before each byte.
 
@@ -205,7 +205,7 @@ short_end_lanes-by_position z y x (b ∷ u) l m e =
     let here = short_end_lane y x b u l (omega (arith, m)) in
     λ i. here i ∷ short_end_lanes-by_position y x b u m e.0 e.1 i
 
-length-set_lanes : (y x : ℕ) (u : List ℕ) → length (set_lanes y x u) ≡ length u
+pub length-set_lanes : (y x : ℕ) (u : List ℕ) → length (set_lanes y x u) ≡ length u
 length-set_lanes y x [] = refl
 length-set_lanes y x (b ∷ u) = ap suc (length-set_lanes x b u)
 
@@ -316,3 +316,8 @@ lanes_from_24 = 24 ∷ 56 ∷ 25 ∷ 57 ∷ 26 ∷ 58 ∷ 27 ∷ 59 ∷ 28 ∷ 6
 
 pub words_from_24 : WordsAre (λ w. drop 8 (drop 8 (drop 8 w))) lanes_from_24
 words_from_24 = words_are (λ w. drop 8 (drop 8 (drop 8 w))) lanes_from_24 (λ low high. refl)
+
+pub joined_words-by_position : (z y x : ℕ) (u : List ℕ)
+    → joined_words (by_position (λ z y x b. low_of_any y x b) z y x u) (by_position high_of_any z y x u) ≡ by_position unit_at_end z y x u
+joined_words-by_position z y x [] = refl
+joined_words-by_position z y x (b ∷ u) = λ i. unit_at_end z y x b ∷ joined_words-by_position y x b u i

@@ -4,8 +4,8 @@ use Rattle.wtf8.specs.private.UnitEnds.{picked, words}
 use Rattle.wtf8.proofs.lemmas.to_utf16.PackedWords.{length-picked, ones-picked}
 use Rattle.wtf8.proofs.to_utf16.append.store_packed.Goals as goal
 
-pub returns : goal.returns
-returns c s rest eight same =
+pub returns-clause-written : goal.returns-clause-written
+returns-clause-written c s rest eight same =
     let front = picked (words c.args.lanes) s in
     let kept = take c.args.at c.args.units.now in
     let count : ones c.args.index ≡ length front = ap ones same ∙ ones-picked c.args.lanes s c.fits-lanes.0 eight in
