@@ -9,26 +9,30 @@ by_position f z y x [] = []
 by_position f z y x (b ∷ w) = f z y x b ∷ by_position f y x b w
 
 -- For each byte of a block, the byte one, two and three positions before it, or 0.
-abbrev pub one_before : List ℕ → List ℕ
-one_before w = by_position (λ z y x b. x) 0 0 0 w
+abbrev pub bytes_one_before : List ℕ → List ℕ
+bytes_one_before w = by_position (λ z y x b. x) 0 0 0 w
 
-abbrev pub two_before : List ℕ → List ℕ
-two_before w = by_position (λ z y x b. y) 0 0 0 w
+abbrev pub bytes_two_before : List ℕ → List ℕ
+bytes_two_before w = by_position (λ z y x b. y) 0 0 0 w
 
-abbrev pub three_before : List ℕ → List ℕ
-three_before w = by_position (λ z y x b. z) 0 0 0 w
+abbrev pub bytes_three_before : List ℕ → List ℕ
+bytes_three_before w = by_position (λ z y x b. z) 0 0 0 w
 
--- The bits that the byte `x` before `b` adds to a unit: the low six, or none if `b` is ASCII (Unicode 3.9, Table 3-6).
-abbrev pub bits_before : ℕ → ℕ → ℕ
-bits_before x b = if nat_lt b 0x80 then 0 else x % 64
+-- The byte `x` before `b` if both are of one encoding, or 0 if `b` is ASCII (Unicode 3.9, "UTF-8", Table 3-6).
+abbrev pub lead_or_none : ℕ → ℕ → ℕ
+lead_or_none x b = if nat_lt b 0x80 then 0 else x
 
 -- The low byte of a unit of one to three bytes that ends with `x` and `b` (Unicode 3.9, "UTF-8", Table 3-6).
 abbrev pub low_byte : ℕ → ℕ → ℕ
-low_byte x b = (b % 128 + bits_before x b * 64 % 256) % 256
+low_byte x b = (b % 128 + lead_or_none x b * 64 % 256) % 256
+
+-- The high byte of a unit of one or two bytes that ends with `x` and `b` (Unicode 3.9, "UTF-8", Table 3-6).
+abbrev pub high_of_two : ℕ → ℕ → ℕ
+high_of_two x b = lead_or_none x b / 4 % 16
 
 -- The high byte of a unit of one to three bytes that ends with `y`, `x` and `b` (Unicode 3.9, "UTF-8", Table 3-6).
 abbrev pub high_byte : ℕ → ℕ → ℕ → ℕ
-high_byte y x b = (bits_before x b / 4 + (y - 0xE0) * 16 % 256) % 256
+high_byte y x b = (high_of_two x b + (y - 0xE0) * 16 % 256) % 256
 
 -- The low byte of the unit that ends with `y`, `x` and `b`, a lead if `y` leads four bytes (Unicode 3.9, Table 3-6).
 abbrev pub low_of_any : ℕ → ℕ → ℕ → ℕ

@@ -2,7 +2,8 @@
 // byte and the three before it, in 8-bit lanes; where none ends, what is computed is dropped when lanes are packed.
 ghost use Rattle.std.specs.Prelude.{◌≡◌, ◌<◌, List, Bool, length, take, drop, IsTrue};
 ghost use lib.Lanes.{Each1, mask_l};
-ghost use Rattle.wtf8.specs.private.UnitEnds.{by_position, one_before, two_before, three_before, low_byte, high_byte, low_of_any, high_of_any, set_lanes, words, joined_words, picked};
+ghost use Rattle.wtf8.specs.private.UnitEnds.{by_position, bytes_one_before, bytes_two_before, bytes_three_before, low_byte, high_of_two, high_byte, low_of_any, high_of_any};
+ghost use Rattle.wtf8.specs.private.UnitEnds.{set_lanes, words, joined_words, picked};
 
 use crate::to_utf16::packing_table::packing_row;
 use std::simd::prelude::*;
@@ -55,9 +56,9 @@ pub(crate) struct UnitEnds {
 /// The bytes one, two and three positions before each byte of a block, and zeros before the block.
 #[inline(always)]
 fn bytes_before(bytes: u8x32) -> (u8x32, u8x32, u8x32)
-    ensures one { result.0 ≡ one_before bytes }
-    ensures two { result.1 ≡ two_before bytes }
-    ensures three { result.2 ≡ three_before bytes }
+    ensures one { result.0 ≡ bytes_one_before bytes }
+    ensures two { result.1 ≡ bytes_two_before bytes }
+    ensures three { result.2 ≡ bytes_three_before bytes }
 {
     let none = u8x32::splat(0);
     (
@@ -67,40 +68,60 @@ fn bytes_before(bytes: u8x32) -> (u8x32, u8x32, u8x32)
     )
 }
 
-/// The low and the high byte of the unit of one to three bytes that ends at each position.
+/// Whether all bytes are less than `limit`: below E0 no lead byte of three or four bytes, below F0 none of four.
 #[inline(always)]
-fn short_units(bytes: u8x32, one: u8x32, two: u8x32) -> (u8x32, u8x32)
-    requires one { one ≡ one_before bytes }
-    requires two { two ≡ two_before bytes }
-    ensures low { result.0 ≡ by_position (λ z y x b. low_byte x b) 0 0 0 bytes }
-    ensures high { result.1 ≡ by_position (λ z y x b. high_byte y x b) 0 0 0 bytes }
+fn are_below(bytes: u8x32, limit: u8) -> bool
+    ensures { IsTrue result → Each1 (λ b. b < limit) bytes }
 {
-    let middle = bytes
-        .simd_lt(u8x32::splat(0x80))
-        .select(u8x32::splat(0), one % u8x32::splat(64));
-    let low = bytes % u8x32::splat(128) + middle * u8x32::splat(64);
-    let above = two.saturating_sub(u8x32::splat(0xE0)) * u8x32::splat(16);
-    (low, middle / u8x32::splat(4) + above)
+    bytes.simd_ge(u8x32::splat(limit)).to_bitmask() == 0
 }
 
-/// The low and the high byte of any unit, from those that a unit of one to three bytes would have.
+/// The low and the high byte of the unit of one or two bytes that ends at each position.
 #[inline(always)]
-fn any_units(
+fn units_of_two(bytes: u8x32, one_before: u8x32) -> (u8x32, u8x32)
+    requires { one_before ≡ bytes_one_before bytes }
+    ensures low { result.0 ≡ by_position (λ z y x b. low_byte x b) 0 0 0 bytes }
+    ensures high { result.1 ≡ by_position (λ z y x b. high_of_two x b) 0 0 0 bytes }
+{
+    let lead = bytes
+        .simd_lt(u8x32::splat(0x80))
+        .select(u8x32::splat(0), one_before);
+    (
+        bytes % u8x32::splat(128) + lead * u8x32::splat(64),
+        lead / u8x32::splat(4) % u8x32::splat(16),
+    )
+}
+
+/// The high byte of the unit of one to three bytes that ends at each position, from that of two bytes. The low byte is
+/// the same.
+#[inline(always)]
+fn high_of_three(bytes: u8x32, two_before: u8x32, high: u8x32) -> u8x32
+    requires two { two_before ≡ bytes_two_before bytes }
+    requires high { high ≡ by_position (λ z y x b. high_of_two x b) 0 0 0 bytes }
+    ensures { result ≡ by_position (λ z y x b. high_byte y x b) 0 0 0 bytes }
+{
+    high + two_before.saturating_sub(u8x32::splat(0xE0)) * u8x32::splat(16)
+}
+
+/// The low and the high byte of the unit that ends at each position, from those of one to three bytes. The third of four
+/// bytes ends a lead, the fourth a trail.
+#[inline(always)]
+fn units_of_four(
     bytes: u8x32,
-    two: u8x32,
-    three: u8x32,
+    two_before: u8x32,
+    three_before: u8x32,
     low: u8x32,
     high: u8x32,
 ) -> (u8x32, u8x32)
-    requires two { two ≡ two_before bytes }
-    requires three { three ≡ three_before bytes }
+    requires two { two_before ≡ bytes_two_before bytes }
+    requires three { three_before ≡ bytes_three_before bytes }
     requires low { low ≡ by_position (λ z y x b. low_byte x b) 0 0 0 bytes }
     requires high { high ≡ by_position (λ z y x b. high_byte y x b) 0 0 0 bytes }
     ensures low { result.0 ≡ by_position (λ z y x b. low_of_any y x b) 0 0 0 bytes }
     ensures high { result.1 ≡ by_position high_of_any 0 0 0 bytes }
 {
-    let leads = two.simd_ge(u8x32::splat(0xF0));
-    let trails = three.simd_ge(u8x32::splat(0xF0));
+    let leads = two_before.simd_ge(u8x32::splat(0xF0));
+    let trails = three_before.simd_ge(u8x32::splat(0xF0));
     let offset = high.saturating_sub(u8x32::splat(4));
     let lead_low = low / u8x32::splat(16) + offset * u8x32::splat(16);
     let lead_high = u8x32::splat(0xD8) + offset / u8x32::splat(16);
@@ -109,66 +130,68 @@ fn any_units(
     (leads.select(lead_low, low), leads.select(lead_high, no_lead))
 }
 
-/// The positions at which a unit ends, but for a lead in the last lane.
+/// The positions at which a unit ends, if no code point has four bytes: all but those of lead bytes and of the second
+/// of three bytes. A byte from C0 on and one after E0 or more have 80 or more left.
 #[inline(always)]
-fn any_ends(bytes: u8x32, one: u8x32, two: u8x32) -> u64
-    requires one { one ≡ one_before bytes }
-    requires two { two ≡ two_before bytes }
-    ensures { result ≡ mask_l (set_lanes 0 0 bytes) }
-{
-    let last_lead = two
-        .saturating_sub(u8x32::splat(0x30))
-        .simd_min(u8x32::from_array(LAST_LANE));
-    bytes
-        .simd_max(one.saturating_sub(u8x32::splat(0x20)))
-        .simd_max(last_lead)
-        .simd_lt(u8x32::splat(0xC0))
-        .to_bitmask()
-}
-
-/// The same without a supplementary code point.
-#[inline(always)]
-fn short_ends(bytes: u8x32, one: u8x32) -> u64
-    requires one { one ≡ one_before bytes }
+fn ends_of_three(bytes: u8x32, one_before: u8x32) -> u64
+    requires one { one_before ≡ bytes_one_before bytes }
     requires short { Each1 (λ b. b < 0xF0) bytes }
     ensures { result ≡ mask_l (set_lanes 0 0 bytes) }
 {
     bytes
-        .simd_max(one.saturating_sub(u8x32::splat(0x20)))
-        .simd_lt(u8x32::splat(0xC0))
+        .saturating_sub(u8x32::splat(0x40))
+        .simd_max(one_before.saturating_sub(u8x32::splat(0x60)))
+        .simd_lt(u8x32::splat(0x80))
         .to_bitmask()
 }
 
-/// Whether none of the bytes leads a supplementary code point.
+/// The positions at which a unit ends, but for a lead in the last lane, whose trail is beyond the block.
 #[inline(always)]
-fn are_short(bytes: u8x32) -> bool
-    ensures { IsTrue result → Each1 (λ b. b < 0xF0) bytes }
+fn ends_of_four(bytes: u8x32, one_before: u8x32, two_before: u8x32) -> u64
+    requires one { one_before ≡ bytes_one_before bytes }
+    requires two { two_before ≡ bytes_two_before bytes }
+    ensures { result ≡ mask_l (set_lanes 0 0 bytes) }
 {
-    bytes.simd_ge(u8x32::splat(0xF0)).to_bitmask() == 0
+    let last_lead = two_before
+        .saturating_sub(u8x32::splat(0x70))
+        .simd_min(u8x32::from_array(LAST_LANE));
+    bytes
+        .saturating_sub(u8x32::splat(0x40))
+        .simd_max(one_before.saturating_sub(u8x32::splat(0x60)))
+        .simd_max(last_lead)
+        .simd_lt(u8x32::splat(0x80))
+        .to_bitmask()
 }
 
-/// The units that end at the positions of a block that begins with a code point. A lead in the last lane is left out:
-/// its trail is beyond the block.
+/// The units that end at the positions of a block that begins with a code point, but for a lead in the last lane.
 #[inline(always)]
 pub(crate) fn unit_ends(bytes: u8x32) -> UnitEnds
     ensures low { result.low ≡ by_position (λ z y x b. low_of_any y x b) 0 0 0 bytes }
     ensures high { result.high ≡ by_position high_of_any 0 0 0 bytes }
     ensures ends { result.ends ≡ mask_l (set_lanes 0 0 bytes) }
 {
-    let (one, two, three) = bytes_before(bytes);
-    let (low, high) = short_units(bytes, one, two);
-    if are_short(bytes) {
+    let (one_before, two_before, three_before) = bytes_before(bytes);
+    let (low, high) = units_of_two(bytes, one_before);
+    if are_below(bytes, 0xE0) {
         return UnitEnds {
             low,
             high,
-            ends: short_ends(bytes, one),
+            ends: ends_of_three(bytes, one_before),
         };
     }
-    let (low, high) = any_units(bytes, two, three, low, high);
+    let high = high_of_three(bytes, two_before, high);
+    if are_below(bytes, 0xF0) {
+        return UnitEnds {
+            low,
+            high,
+            ends: ends_of_three(bytes, one_before),
+        };
+    }
+    let (low, high) = units_of_four(bytes, two_before, three_before, low, high);
     UnitEnds {
         low,
         high,
-        ends: any_ends(bytes, one, two),
+        ends: ends_of_four(bytes, one_before, two_before),
     }
 }
 

@@ -6,7 +6,8 @@ use Rattle.wtf8.proofs.Common.{tops_compared, eqb, eqb-true, IsTrue}
 use Rattle.std.proofs.lemmas.Simd.{zip2_splat_left}
 use lib.Lanes.{pick_l}
 use Rattle.std.specs.List.{range_with_len}
-use Rattle.wtf8.specs.private.UnitEnds.{by_position, one_before, two_before, three_before, low_byte, high_byte, low_of_any, high_of_any}
+use Rattle.wtf8.specs.private.UnitEnds.{by_position, bytes_one_before, bytes_two_before, bytes_three_before, low_byte, high_of_two}
+use Rattle.wtf8.specs.private.UnitEnds.{lead_or_none, high_byte, low_of_any, high_of_any}
 use Rattle.wtf8.specs.private.UnitEnds.{unit_at_end, ends_unit, ends_in_block, set_lanes, words, joined_words}
 
 -- The bytes before each byte.
@@ -29,14 +30,14 @@ shuffled u js = pick_l 0 (u ++ replicate 32 0) js
 of_32 : (P : List ℕ → Type 0) (u : List ℕ) → length u ≡ 32 → P (pick_l 0 u (range_with_len 0 32)) → P u
 of_32 P u l p = subst P (pick_l_whole 0 u 32 l) p
 
-pub shuffled-one : (u : List ℕ) → length u ≡ 32 → shuffled u (32 ∷ range_with_len 0 31) ≡ one_before u
-shuffled-one u l = of_32 (λ u. shuffled u (32 ∷ range_with_len 0 31) ≡ one_before u) u l refl
+pub shuffled-one : (u : List ℕ) → length u ≡ 32 → shuffled u (32 ∷ range_with_len 0 31) ≡ bytes_one_before u
+shuffled-one u l = of_32 (λ u. shuffled u (32 ∷ range_with_len 0 31) ≡ bytes_one_before u) u l refl
 
-pub shuffled-two : (u : List ℕ) → length u ≡ 32 → shuffled u (32 ∷ 33 ∷ range_with_len 0 30) ≡ two_before u
-shuffled-two u l = of_32 (λ u. shuffled u (32 ∷ 33 ∷ range_with_len 0 30) ≡ two_before u) u l refl
+pub shuffled-two : (u : List ℕ) → length u ≡ 32 → shuffled u (32 ∷ 33 ∷ range_with_len 0 30) ≡ bytes_two_before u
+shuffled-two u l = of_32 (λ u. shuffled u (32 ∷ 33 ∷ range_with_len 0 30) ≡ bytes_two_before u) u l refl
 
-pub shuffled-three : (u : List ℕ) → length u ≡ 32 → shuffled u (32 ∷ 33 ∷ 34 ∷ range_with_len 0 29) ≡ three_before u
-shuffled-three u l = of_32 (λ u. shuffled u (32 ∷ 33 ∷ 34 ∷ range_with_len 0 29) ≡ three_before u) u l refl
+pub shuffled-three : (u : List ℕ) → length u ≡ 32 → shuffled u (32 ∷ 33 ∷ 34 ∷ range_with_len 0 29) ≡ bytes_three_before u
+shuffled-three u l = of_32 (λ u. shuffled u (32 ∷ 33 ∷ 34 ∷ range_with_len 0 29) ≡ bytes_three_before u) u l refl
 
 -- Operations on lanes of eight bits, and on one.
 
@@ -77,38 +78,54 @@ greater_lane a b = cond (flag (ltb a b)) b a
 less_by_lane : (k a : ℕ) → k < 256 → a < 256 → (cond (flag (ltb a k)) k a + (256 - k)) % 256 ≡ a - k
 less_by_lane k a l m = elim (cases_lt a k) [ inl h ↦ rw (lt-ltb a k h) (omega (arith, h, l)) | inr h ↦ rw (le-ltb a k h) (omega (arith, h, m)) ]
 
-abbrev middle_lanes : ℕ → List ℕ → List ℕ → List ℕ
-middle_lanes n one u = sel_l (are_less u (replicate n 0x80)) (replicate n 0) (modulo n one 64)
+abbrev lead_lanes : ℕ → List ℕ → List ℕ → List ℕ
+lead_lanes n one u = sel_l (are_less u (replicate n 0x80)) (replicate n 0) one
 
 abbrev pub low_lanes : ℕ → List ℕ → List ℕ → List ℕ
-low_lanes n one u = add (modulo n u 128) (times n (middle_lanes n one u) 64)
+low_lanes n one u = add (modulo n u 128) (times n (lead_lanes n one u) 64)
 
 low_lanes-by_position : (z y x : ℕ) (u : List ℕ)
     → low_lanes (length u) (by_position (λ z y x b. x) z y x u) u ≡ by_position (λ z y x b. low_byte x b) z y x u
 low_lanes-by_position z y x [] = refl
 low_lanes-by_position z y x (b ∷ u) =
-    let here = ap (λ t. (b % 128 + cond t 0 (x % 64) * 64 % 256) % 256) (flag-same (ltb b 128)) in
+    let here = ap (λ t. (b % 128 + cond t 0 x * 64 % 256) % 256) (flag-same (ltb b 128)) in
     λ i. here i ∷ low_lanes-by_position y x b u i
 
-pub low_lanes-block : (u : List ℕ) → length u ≡ 32 → low_lanes 32 (one_before u) u ≡ by_position (λ z y x b. low_byte x b) 0 0 0 u
-low_lanes-block u l = subst (λ n. low_lanes n (one_before u) u ≡ by_position (λ z y x b. low_byte x b) 0 0 0 u) l (low_lanes-by_position 0 0 0 u)
+pub low_lanes-block : (u : List ℕ) → length u ≡ 32 → low_lanes 32 (bytes_one_before u) u ≡ by_position (λ z y x b. low_byte x b) 0 0 0 u
+low_lanes-block u l = subst (λ n. low_lanes n (bytes_one_before u) u ≡ by_position (λ z y x b. low_byte x b) 0 0 0 u) l
+    (low_lanes-by_position 0 0 0 u)
 
-abbrev pub high_lanes : ℕ → List ℕ → List ℕ → List ℕ → List ℕ
-high_lanes n one two u = add (over n (middle_lanes n one u) 4) (times n (less_by n two 0xE0) 16)
+abbrev pub high_of_two_lanes : ℕ → List ℕ → List ℕ → List ℕ
+high_of_two_lanes n one u = modulo n (over n (lead_lanes n one u) 4) 16
+
+high_of_two_lanes-by_position : (z y x : ℕ) (u : List ℕ)
+    → high_of_two_lanes (length u) (by_position (λ z y x b. x) z y x u) u ≡ by_position (λ z y x b. high_of_two x b) z y x u
+high_of_two_lanes-by_position z y x [] = refl
+high_of_two_lanes-by_position z y x (b ∷ u) =
+    let here = ap (λ t. cond t 0 x / 4 % 16) (flag-same (ltb b 128)) in
+    λ i. here i ∷ high_of_two_lanes-by_position y x b u i
+
+pub high_of_two_lanes-block : (u : List ℕ) → length u ≡ 32
+    → high_of_two_lanes 32 (bytes_one_before u) u ≡ by_position (λ z y x b. high_of_two x b) 0 0 0 u
+high_of_two_lanes-block u l = subst (λ n. high_of_two_lanes n (bytes_one_before u) u ≡ by_position (λ z y x b. high_of_two x b) 0 0 0 u) l
+    (high_of_two_lanes-by_position 0 0 0 u)
+
+abbrev pub high_lanes : ℕ → List ℕ → List ℕ → List ℕ
+high_lanes n two high = add high (times n (less_by n two 0xE0) 16)
 
 high_lanes-by_position : (z y x : ℕ) (u : List ℕ) → y < 256 → x < 256 → Each1 (Fits w8) u
-    → high_lanes (length u) (by_position (λ z y x b. x) z y x u) (by_position (λ z y x b. y) z y x u) u
+    → high_lanes (length u) (by_position (λ z y x b. y) z y x u) (by_position (λ z y x b. high_of_two x b) z y x u)
     ≡ by_position (λ z y x b. high_byte y x b) z y x u
 high_lanes-by_position z y x [] l m f = refl
 high_lanes-by_position z y x (b ∷ u) l m f =
     let less = less_by_lane 0xE0 y (omega arith) l in
-    let tested = flag-same (ltb b 128) in
-    λ i. (cond (tested i) 0 (x % 64) / 4 + less i * 16 % 256) % 256 ∷ high_lanes-by_position y x b u m f.0.fits f.1 i
+    λ i. (high_of_two x b + less i * 16 % 256) % 256 ∷ high_lanes-by_position y x b u m f.0.fits f.1 i
 
 pub high_lanes-block : (u : List ℕ) → length u ≡ 32 → Each1 (Fits w8) u
-    → high_lanes 32 (one_before u) (two_before u) u ≡ by_position (λ z y x b. high_byte y x b) 0 0 0 u
-high_lanes-block u l f = subst (λ n. high_lanes n (one_before u) (two_before u) u ≡ by_position (λ z y x b. high_byte y x b) 0 0 0 u) l
-    (high_lanes-by_position 0 0 0 u (omega arith) (omega arith) f)
+    → high_lanes 32 (bytes_two_before u) (by_position (λ z y x b. high_of_two x b) 0 0 0 u)
+    ≡ by_position (λ z y x b. high_byte y x b) 0 0 0 u
+high_lanes-block u l f = subst (λ n. high_lanes n (bytes_two_before u) (by_position (λ z y x b. high_of_two x b) 0 0 0 u)
+    ≡ by_position (λ z y x b. high_byte y x b) 0 0 0 u) l (high_lanes-by_position 0 0 0 u (omega arith) (omega arith) f)
 
 abbrev pub any_low_lanes : ℕ → List ℕ → List ℕ → List ℕ → List ℕ
 any_low_lanes n two low high = sel_l (are_at_least n 0xF0 two) (add (over n low 16) (times n (less_by n high 4) 16)) low
@@ -130,9 +147,9 @@ any_low_lanes-by_position z y x (b ∷ u) =
     λ i. here i ∷ any_low_lanes-by_position y x b u i
 
 pub any_low_lanes-block : (u : List ℕ) → length u ≡ 32
-    → any_low_lanes 32 (two_before u) (by_position (λ z y x b. low_byte x b) 0 0 0 u) (by_position (λ z y x b. high_byte y x b) 0 0 0 u)
+    → any_low_lanes 32 (bytes_two_before u) (by_position (λ z y x b. low_byte x b) 0 0 0 u) (by_position (λ z y x b. high_byte y x b) 0 0 0 u)
     ≡ by_position (λ z y x b. low_of_any y x b) 0 0 0 u
-any_low_lanes-block u l = subst (λ n. any_low_lanes n (two_before u) (by_position (λ z y x b. low_byte x b) 0 0 0 u)
+any_low_lanes-block u l = subst (λ n. any_low_lanes n (bytes_two_before u) (by_position (λ z y x b. low_byte x b) 0 0 0 u)
     (by_position (λ z y x b. high_byte y x b) 0 0 0 u) ≡ by_position (λ z y x b. low_of_any y x b) 0 0 0 u) l
     (any_low_lanes-by_position 0 0 0 u)
 
@@ -161,12 +178,20 @@ any_high_lanes-by_position z y x (b ∷ u) =
     λ i. here i ∷ any_high_lanes-by_position y x b u i
 
 pub any_high_lanes-block : (u : List ℕ) → length u ≡ 32
-    → any_high_lanes 32 (two_before u) (three_before u) (by_position (λ z y x b. high_byte y x b) 0 0 0 u)
+    → any_high_lanes 32 (bytes_two_before u) (bytes_three_before u) (by_position (λ z y x b. high_byte y x b) 0 0 0 u)
     ≡ by_position high_of_any 0 0 0 u
-any_high_lanes-block u l = subst (λ n. any_high_lanes n (two_before u) (three_before u) (by_position (λ z y x b. high_byte y x b) 0 0 0 u)
+any_high_lanes-block u l = subst (λ n. any_high_lanes n (bytes_two_before u) (bytes_three_before u) (by_position (λ z y x b. high_byte y x b) 0 0 0 u)
     ≡ by_position high_of_any 0 0 0 u) l (any_high_lanes-by_position 0 0 0 u)
 
--- no unit of more than three bytes: the bytes of a unit are those of a short one
+-- without lead bytes of three or four bytes, and of four, the bytes of units are those of shorter ones
+pub high_byte-short : (z y x : ℕ) (u : List ℕ) → y < 0xE0 → x < 0xE0 → Each1 (λ b. b < 0xE0) u
+    → by_position (λ z y x b. high_of_two x b) z y x u ≡ by_position (λ z y x b. high_byte y x b) z y x u
+high_byte-short z y x [] l m e = refl
+high_byte-short z y x (b ∷ u) l m e =
+    let none : y - 0xE0 ≡ 0 = omega (arith, l) in
+    let here : high_of_two x b ≡ high_byte y x b = omega (arith, none) in
+    λ i. here i ∷ high_byte-short y x b u m e.0 e.1 i
+
 pub low_of_any-short : (z y x : ℕ) (u : List ℕ) → y < 0xF0 → x < 0xF0 → Each1 (λ b. b < 0xF0) u
     → by_position (λ z y x b. low_byte x b) z y x u ≡ by_position (λ z y x b. low_of_any y x b) z y x u
 low_of_any-short z y x [] l m e = refl
@@ -184,25 +209,28 @@ high_of_any-short z y x (b ∷ u) k l m e =
 -- The mask of the positions at which a unit ends.
 
 abbrev ends_mask : List ℕ → ℕ → ℕ
-ends_mask lanes n = mask_l (are_less lanes (replicate n 0xC0)) % 2 ^ 64
+ends_mask lanes n = mask_l (are_less lanes (replicate n 0x80)) % 2 ^ 64
 
 abbrev short_end_lanes : ℕ → List ℕ → List ℕ → List ℕ
-short_end_lanes n one u = greater_lanes u (less_by n one 0x20)
+short_end_lanes n one u = greater_lanes (less_by n u 0x40) (less_by n one 0x60)
 
-greater_lane-less : (a b k : ℕ) → flag (ltb (cond (flag (ltb a b)) b a) k) ≡ cond (ltb a k) (ltb b k) false
-greater_lane-less a b k = grind (arith, nat_tests, cases_lt)
+short_end_lane : ℕ → ℕ → Bool
+short_end_lane x b =
+    let own = (cond (flag (ltb b 0x40)) 0x40 b + (256 - 0x40)) % 256 in
+    let before = (cond (flag (ltb x 0x60)) 0x60 x + (256 - 0x60)) % 256 in
+    flag (ltb (cond (flag (ltb own before)) before own) 0x80)
 
-short_end_lane : (y x b : ℕ) (w : List ℕ) → y < 0xF0 → x < 256
-    → (let before = (cond (flag (ltb x 0x20)) 0x20 x + (256 - 0x20)) % 256 in flag (ltb (cond (flag (ltb b before)) before b) 0xC0))
-    ≡ ends_in_block y x b w
-short_end_lane y x b [] l m = grind (arith, nat_tests, cases_lt)
-short_end_lane y x b (c ∷ w) l m = grind (arith, nat_tests, cases_lt)
+short_end_lane-ends : (y x b : ℕ) (w : List ℕ) → y < 0xF0 → x < 256 → b < 256 → short_end_lane x b ≡ ends_in_block y x b w
+unfolding short_end_lane
+short_end_lane-ends y x b [] l m k = grind (arith, nat_tests, cases_lt)
+short_end_lane-ends y x b (c ∷ w) l m k = grind (arith, nat_tests, cases_lt)
 
 short_end_lanes-by_position : (z y x : ℕ) (u : List ℕ) → y < 0xF0 → x < 0xF0 → Each1 (λ b. b < 0xF0) u
-    → are_less (short_end_lanes (length u) (by_position (λ z y x b. x) z y x u) u) (replicate (length u) 0xC0) ≡ set_lanes y x u
+    → are_less (short_end_lanes (length u) (by_position (λ z y x b. x) z y x u) u) (replicate (length u) 0x80) ≡ set_lanes y x u
+unfolding short_end_lane
 short_end_lanes-by_position z y x [] l m e = refl
 short_end_lanes-by_position z y x (b ∷ u) l m e =
-    let here = short_end_lane y x b u l (omega (arith, m)) in
+    let here = short_end_lane-ends y x b u l (omega (arith, m)) (omega (arith, e.0)) in
     λ i. here i ∷ short_end_lanes-by_position y x b u m e.0 e.1 i
 
 pub length-set_lanes : (y x : ℕ) (u : List ℕ) → length (set_lanes y x u) ≡ length u
@@ -215,8 +243,8 @@ mask-set_lanes lanes u l e =
     ap (λ s. mask_l s % 2 ^ 64) e ∙ mask_l-mod (set_lanes 0 0 u) 64 (omega (arith, length-set_lanes 0 0 u, l))
 
 pub short_ends-mask : (u : List ℕ) → length u ≡ 32 → Each1 (λ b. b < 0xF0) u
-    → ends_mask (short_end_lanes 32 (one_before u) u) 32 ≡ mask_l (set_lanes 0 0 u)
-short_ends-mask u l e = mask-set_lanes _ u l (subst (λ n. are_less (short_end_lanes n (one_before u) u) (replicate n 0xC0) ≡ set_lanes 0 0 u) l
+    → ends_mask (short_end_lanes 32 (bytes_one_before u) u) 32 ≡ mask_l (set_lanes 0 0 u)
+short_ends-mask u l e = mask-set_lanes _ u l (subst (λ n. are_less (short_end_lanes n (bytes_one_before u) u) (replicate n 0x80) ≡ set_lanes 0 0 u) l
     (short_end_lanes-by_position 0 0 0 u (omega arith) (omega arith) e))
 
 -- 255 in the last of `n` lanes
@@ -229,52 +257,53 @@ abbrev lesser_lanes : List ℕ → List ℕ → List ℕ
 lesser_lanes a b = sel_l (are_less a b) a b
 
 abbrev any_end_lanes : ℕ → List ℕ → List ℕ → List ℕ → List ℕ
-any_end_lanes n one two u = greater_lanes (greater_lanes u (less_by n one 0x20)) (lesser_lanes (less_by n two 0x30) (last_lane n))
+any_end_lanes n one two u = greater_lanes (short_end_lanes n one u) (lesser_lanes (less_by n two 0x70) (last_lane n))
 
 any_end_lane : ℕ → ℕ → ℕ → ℕ → Bool
 any_end_lane y x b last =
-    let one = (cond (flag (ltb x 0x20)) 0x20 x + (256 - 0x20)) % 256 in
-    let two = (cond (flag (ltb y 0x30)) 0x30 y + (256 - 0x30)) % 256 in
-    let both = cond (flag (ltb b one)) one b in
+    let own = (cond (flag (ltb b 0x40)) 0x40 b + (256 - 0x40)) % 256 in
+    let one = (cond (flag (ltb x 0x60)) 0x60 x + (256 - 0x60)) % 256 in
+    let two = (cond (flag (ltb y 0x70)) 0x70 y + (256 - 0x70)) % 256 in
+    let both = cond (flag (ltb own one)) one own in
     let cut = cond (flag (ltb two last)) two last in
-    flag (ltb (cond (flag (ltb both cut)) cut both) 0xC0)
+    flag (ltb (cond (flag (ltb both cut)) cut both) 0x80)
 
-any_end_lane-inner : (y x b c : ℕ) (w : List ℕ) → y < 256 → x < 256 → any_end_lane y x b 0 ≡ ends_in_block y x b (c ∷ w)
+any_end_lane-inner : (y x b c : ℕ) (w : List ℕ) → y < 256 → x < 256 → b < 256 → any_end_lane y x b 0 ≡ ends_in_block y x b (c ∷ w)
 unfolding any_end_lane
-any_end_lane-inner y x b c w l m = grind (arith, nat_tests, cases_lt)
+any_end_lane-inner y x b c w l m k = grind (arith, nat_tests, cases_lt)
 
-any_end_lane-last : (y x b : ℕ) → y < 256 → x < 256 → any_end_lane y x b 255 ≡ ends_in_block y x b []
+any_end_lane-last : (y x b : ℕ) → y < 256 → x < 256 → b < 256 → any_end_lane y x b 255 ≡ ends_in_block y x b []
 unfolding any_end_lane
-any_end_lane-last y x b l m = grind (arith, nat_tests, cases_lt)
+any_end_lane-last y x b l m k = grind (arith, nat_tests, cases_lt)
 
 any_end_lanes-by_position : (z y x : ℕ) (u : List ℕ) → y < 256 → x < 256 → Each1 (Fits w8) u
     → are_less (any_end_lanes (length u) (by_position (λ z y x b. x) z y x u) (by_position (λ z y x b. y) z y x u) u)
-    (replicate (length u) 0xC0) ≡ set_lanes y x u
+    (replicate (length u) 0x80) ≡ set_lanes y x u
 unfolding any_end_lane
 any_end_lanes-by_position z y x [] l m f = refl
-any_end_lanes-by_position z y x (b ∷ []) l m f = λ i. any_end_lane-last y x b l m i ∷ []
+any_end_lanes-by_position z y x (b ∷ []) l m f = λ i. any_end_lane-last y x b l m f.0.fits i ∷ []
 any_end_lanes-by_position z y x (b ∷ c ∷ u) l m f =
     let more = any_end_lanes-by_position y x b (c ∷ u) m f.0.fits f.1 in
-    λ i. any_end_lane-inner y x b c u l m i ∷ more i
+    λ i. any_end_lane-inner y x b c u l m f.0.fits i ∷ more i
 
 pub any_ends-mask : (u : List ℕ) → length u ≡ 32 → Each1 (Fits w8) u
-    → ends_mask (any_end_lanes 32 (one_before u) (two_before u) u) 32 ≡ mask_l (set_lanes 0 0 u)
+    → ends_mask (any_end_lanes 32 (bytes_one_before u) (bytes_two_before u) u) 32 ≡ mask_l (set_lanes 0 0 u)
 any_ends-mask u l f = mask-set_lanes _ u l
-    (subst (λ n. are_less (any_end_lanes n (one_before u) (two_before u) u) (replicate n 0xC0) ≡ set_lanes 0 0 u) l
+    (subst (λ n. are_less (any_end_lanes n (bytes_one_before u) (bytes_two_before u) u) (replicate n 0x80) ≡ set_lanes 0 0 u) l
     (any_end_lanes-by_position 0 0 0 u (omega arith) (omega arith) f))
 
-below_all : (xs : List ℕ) → mask_l (map (leb 0xF0) xs) ≡ 0 → Each1 (λ b. b < 0xF0) xs
-below_all [] e = tt
-below_all (x ∷ xs) e = elim (cases_lt x 0xF0) [
-  | inl l ↦ (l, below_all xs (omega (arith, e)))
-  | inr g ↦ absurd (omega (arith, rw (le-leb 0xF0 x g) at e))
+below_all : (k : ℕ) (xs : List ℕ) → mask_l (map (leb k) xs) ≡ 0 → Each1 (λ b. b < k) xs
+below_all k [] e = tt
+below_all k (x ∷ xs) e = elim (cases_lt x k) [
+  | inl l ↦ (l, below_all k xs (omega (arith, e)))
+  | inr g ↦ absurd (omega (arith, rw (le-leb k x g) at e))
 ]
 
--- if the mask of the bytes from F0 on is 0, all are below F0
-pub short_if_none : (xs : List ℕ) → length xs ≡ 32 → IsTrue (eqb (mask_l (are_at_least 32 0xF0 xs) % 2 ^ 64) 0) → Each1 (λ b. b < 0xF0) xs
-short_if_none xs long t =
-    let lanes = tops_compared w8 leb (replicate 32 0xF0) xs ∙ zip2_splat_left leb 0xF0 32 xs long in
-    below_all xs (sym (mask_l-mod (map (leb 0xF0) xs) 64 (omega (arith, length-map xs (leb 0xF0), long)))
+-- if the mask of the bytes from `k` on is 0, all are below `k`
+pub below_if_none : (k : ℕ) (xs : List ℕ) → length xs ≡ 32 → IsTrue (eqb (mask_l (are_at_least 32 k xs) % 2 ^ 64) 0) → Each1 (λ b. b < k) xs
+below_if_none k xs long t =
+    let lanes = tops_compared w8 leb (replicate 32 k) xs ∙ zip2_splat_left leb k 32 xs long in
+    below_all k xs (sym (mask_l-mod (map (leb k) xs) 64 (omega (arith, length-map xs (leb k), long)))
     ∙ (ap (λ ms. mask_l ms % 2 ^ 64) (sym lanes) ∙ eqb-true _ 0 t))
 
 -- The words of eight positions each.

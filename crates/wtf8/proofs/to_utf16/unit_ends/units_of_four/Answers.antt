@@ -1,7 +1,7 @@
 use Rattle.wtf8.proofs.Common.{arith}
 use Rattle.std.proofs.lemmas.Simd.{Each1-all, Each2-splat}
 use Rattle.wtf8.proofs.lemmas.to_utf16.UnitLanes.{any_low_lanes-block, any_high_lanes-block}
-use Rattle.wtf8.proofs.to_utf16.unit_ends.any_units.Goals as goal
+use Rattle.wtf8.proofs.to_utf16.unit_ends.units_of_four.Goals as goal
 
 pub nonzero_div-lead_low : goal.nonzero_div-lead_low
 nonzero_div-lead_low c = Each2-splat _ c.args.low 32 16 (Each1-all _ (λ x. omega arith) c.args.low)

@@ -1,5 +1,0 @@
-use Rattle.wtf8.proofs.lemmas.to_utf16.UnitLanes.{short_if_none}
-use Rattle.wtf8.proofs.to_utf16.unit_ends.are_short.Goals as goal
-
-pub returns : goal.returns
-returns c t = short_if_none c.args.bytes c.fits-bytes.0 t
