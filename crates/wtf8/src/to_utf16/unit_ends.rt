@@ -130,14 +130,13 @@ fn units_of_four(
     (leads.select(lead_low, low), leads.select(lead_high, no_lead))
 }
 
-/// The positions at which a unit ends, if no code point has four bytes: all but those of lead bytes and of the second
-/// of three bytes. A byte from C0 on and one after E0 or more have 80 or more left.
+/// The positions at which a unit ends: all but those of lead bytes and of the second of three or four bytes. A byte from
+/// C0 on and one after E0 or more have 80 or more left.
 #[inline(always)]
-fn ends_of_three(bytes: u8x32, one_before: u8x32) -> u64
-    requires one { one_before ≡ bytes_one_before bytes }
-    requires short { Each1 (λ b. b < 0xF0) bytes }
-    ensures { result ≡ mask_l (set_lanes 0 0 bytes) }
+pub(crate) fn end_positions(bytes: u8x32) -> u64
+    ensures { Each1 (λ b. b < 0xF0) bytes → result ≡ mask_l (set_lanes 0 0 bytes) }
 {
+    let (one_before, _, _) = bytes_before(bytes);
     bytes
         .saturating_sub(u8x32::splat(0x40))
         .simd_max(one_before.saturating_sub(u8x32::splat(0x60)))
@@ -176,7 +175,7 @@ pub(crate) fn unit_ends(bytes: u8x32) -> UnitEnds
         return UnitEnds {
             low,
             high,
-            ends: ends_of_three(bytes, one_before),
+            ends: end_positions(bytes),
         };
     }
     let high = high_of_three(bytes, two_before, high);
@@ -184,7 +183,7 @@ pub(crate) fn unit_ends(bytes: u8x32) -> UnitEnds
         return UnitEnds {
             low,
             high,
-            ends: ends_of_three(bytes, one_before),
+            ends: end_positions(bytes),
         };
     }
     let (low, high) = units_of_four(bytes, two_before, three_before, low, high);
