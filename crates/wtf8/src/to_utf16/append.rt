@@ -30,7 +30,8 @@ const SCRATCH_UNITS: usize = 4 * VECTOR;
 /// From this many bytes on a block of any kind can be loaded, so that the length is compared once for all kinds.
 const LONGEST_LOAD: usize = 2 * VECTOR;
 
-/// The positions at which units end in 32 bytes of two-byte code points; below, in 24 bytes of three-byte ones.
+/// The positions at which units end in 32 bytes of two-byte code points; below, in 24 bytes of three-byte ones and the
+/// lead byte after them.
 const ENDS_OF_TWOS: u64 = 0xAAAA_AAAA;
 
 const ENDS_OF_THREES: u64 = 0x92_4924;
@@ -305,7 +306,7 @@ fn decode_next<'a>(units: &mut [u16], left: Undecoded<'a>) -> Undecoded<'a>
         return write_front(units, left, widen(block), POSITIONS, POSITIONS);
     }
     if POSITIONS <= units.len() - left.at
-        && (VECTOR <= count || (0 < count && FIRST_OF_FOUR <= bytes[count]))
+        && ((0 < count && FIRST_OF_FOUR <= bytes[count]) || VECTOR <= count)
     {
         let after = write_front(units, left, widen(block), count, count);
         return decode_point(units, after);
@@ -314,7 +315,7 @@ fn decode_next<'a>(units: &mut [u16], left: Undecoded<'a>) -> Undecoded<'a>
     if ends == ENDS_OF_TWOS {
         return decode_full_blocks::<8, 2, 16, TwoBytes>(units, left);
     }
-    if ends % 0x100_0000 == ENDS_OF_THREES {
+    if ends % 0x200_0000 == ENDS_OF_THREES {
         return decode_full_blocks::<8, 3, 32, ThreeBytes>(units, left);
     }
     decode_positions(units, left, block)

@@ -110,14 +110,6 @@ impl EncodedLength<16, 1, 16> for OneByte {
     }
 }
 
-impl EncodedLength<32, 1, 32> for OneByte {
-    #[inline(always)]
-    fn read(bytes: &[u8]) -> ([u16; 32], usize) {
-        let block = u8x32::from_slice(bytes);
-        (widen(block), count_leading_with_prefix(block, 128, 0))
-    }
-}
-
 impl EncodedLength<8, 2, 16> for TwoBytes {
     #[inline(always)]
     fn read(bytes: &[u8]) -> ([u16; 8], usize) {

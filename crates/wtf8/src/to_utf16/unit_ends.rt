@@ -13,23 +13,24 @@ pub(crate) const POSITIONS: usize = 32;
 
 /// Moves each byte up by one lane, by two and by three. Lane 32 is the first of another vector.
 const UP_BY_ONE: [usize; 32] = [
-    32, 0, 1, 2, 3, 4, 5, 6, 7, 8, 9, 10, 11, 12, 13, 14, 15, 16, 17, 18, 19, 20, 21, 22, 23, 24, 25,
-    26, 27, 28, 29, 30,
+    32, 0, 1, 2, 3, 4, 5, 6, 7, 8, 9, 10, 11, 12, 13, 14, 15, 16, 17, 18, 19, 20, 21, 22, 23, 24,
+    25, 26, 27, 28, 29, 30,
 ];
 
 const UP_BY_TWO: [usize; 32] = [
-    32, 33, 0, 1, 2, 3, 4, 5, 6, 7, 8, 9, 10, 11, 12, 13, 14, 15, 16, 17, 18, 19, 20, 21, 22, 23, 24,
-    25, 26, 27, 28, 29,
+    32, 33, 0, 1, 2, 3, 4, 5, 6, 7, 8, 9, 10, 11, 12, 13, 14, 15, 16, 17, 18, 19, 20, 21, 22, 23,
+    24, 25, 26, 27, 28, 29,
 ];
 
 const UP_BY_THREE: [usize; 32] = [
-    32, 33, 34, 0, 1, 2, 3, 4, 5, 6, 7, 8, 9, 10, 11, 12, 13, 14, 15, 16, 17, 18, 19, 20, 21, 22, 23,
-    24, 25, 26, 27, 28,
+    32, 33, 34, 0, 1, 2, 3, 4, 5, 6, 7, 8, 9, 10, 11, 12, 13, 14, 15, 16, 17, 18, 19, 20, 21, 22,
+    23, 24, 25, 26, 27, 28,
 ];
 
 /// FF in the last lane.
 const LAST_LANE: [u8; 32] = [
-    0, 0, 0, 0, 0, 0, 0, 0, 0, 0, 0, 0, 0, 0, 0, 0, 0, 0, 0, 0, 0, 0, 0, 0, 0, 0, 0, 0, 0, 0, 0, 255,
+    0, 0, 0, 0, 0, 0, 0, 0, 0, 0, 0, 0, 0, 0, 0, 0, 0, 0, 0, 0, 0, 0, 0, 0, 0, 0, 0, 0, 0, 0, 0,
+    255,
 ];
 
 /// Shuffle indices: low and high bytes of positions 0 to 7 by turns; below, of 8 to 15, 16 to 23 and 24 to 31.
@@ -127,7 +128,10 @@ fn units_of_four(
     let lead_high = u8x32::splat(0xD8) + offset / u8x32::splat(16);
     let trail_high = u8x32::splat(0xDC) + high % u8x32::splat(4);
     let no_lead = trails.select(trail_high, high);
-    (leads.select(lead_low, low), leads.select(lead_high, no_lead))
+    (
+        leads.select(lead_low, low),
+        leads.select(lead_high, no_lead),
+    )
 }
 
 /// The positions at which a unit ends: all but those of lead bytes and of the second of three or four bytes. A byte from

@@ -161,14 +161,14 @@ holds_two z y x p c (b ∷ d ∷ v) r k m l e g more =
     let first : 0xC0 + p / 64 ≡ b = ap (λ w. get_or w 0 0) g in
     let second : 0x80 + p % 64 ≡ d = ap (λ w. get_or w 1 0) g in
     rw (← first, ← second) (
-      let lead = 0xC0 + p / 64 in
-      let last = 0x80 + p % 64 in
-      HoldsPoints-first p 2 c (lead ∷ last ∷ v) v (p ∷ []) (ap length e) (omega arith) (units_one p (omega (arith, l)))
-      (Takes-unset _ 1 _ (omega arith) (ends_in_block-lead_byte y x lead (last ∷ v) (omega arith))
-      (subst (λ n. Takes 1 (n ∷ []) (by_position unit_at_end y x lead (last ∷ v)) (set_lanes x lead (last ∷ v))
-      (by_position unit_at_end x lead last v) (set_lanes lead last v)) (unit_at_end-two y x p (omega (arith, k.second)) (omega (arith, k.third)) l)
-      (Takes-set (unit_at_end y x lead last) _ _ _ (ends_in_block-end x lead last v (omega (arith, k.third)) (omega (arith, l)) (omega arith)))))
-      (more x lead last v (record { first = omega (arith, k.third); second = omega (arith, l); third = omega arith }) (ap (drop 2) g))
+    let lead = 0xC0 + p / 64 in
+    let last = 0x80 + p % 64 in
+    HoldsPoints-first p 2 c (lead ∷ last ∷ v) v (p ∷ []) (ap length e) (omega arith) (units_one p (omega (arith, l)))
+    (Takes-unset _ 1 _ (omega arith) (ends_in_block-lead_byte y x lead (last ∷ v) (omega arith))
+    (subst (λ n. Takes 1 (n ∷ []) (by_position unit_at_end y x lead (last ∷ v)) (set_lanes x lead (last ∷ v))
+    (by_position unit_at_end x lead last v) (set_lanes lead last v)) (unit_at_end-two y x p (omega (arith, k.second)) (omega (arith, k.third)) l)
+    (Takes-set (unit_at_end y x lead last) _ _ _ (ends_in_block-end x lead last v (omega (arith, k.third)) (omega (arith, l)) (omega arith)))))
+    (more x lead last v (record { first = omega (arith, k.third); second = omega (arith, l); third = omega arith }) (ap (drop 2) g))
     )
 
 holds_three : (z y x p : ℕ) (c v r : List ℕ) → AreBefore z y x → 0x800 ≤ p → p < 0x10000 → encoding p ≡ third_row p
@@ -188,16 +188,16 @@ holds_three z y x p c (b ∷ d ∷ f ∷ v) r k m l e g more =
     let second : 0x80 + p / 64 % 64 ≡ d = ap (λ w. get_or w 1 0) g in
     let third : 0x80 + p % 64 ≡ f = ap (λ w. get_or w 2 0) g in
     rw (← first, ← second, ← third) (
-      let lead = 0xE0 + p / 4096 in
-      let next = 0x80 + p / 64 % 64 in
-      let last = 0x80 + p % 64 in
-      HoldsPoints-first p 3 c (lead ∷ next ∷ last ∷ v) v (p ∷ []) (ap length e) (omega arith) (units_one p l)
-      (Takes-unset _ 2 _ (omega arith) (ends_in_block-lead_byte y x lead (next ∷ last ∷ v) (omega arith))
-      (Takes-unset _ 1 _ (omega arith) (ends_in_block-second x lead next (last ∷ v) (omega arith))
-      (subst (λ n. Takes 1 (n ∷ []) (by_position unit_at_end x lead next (last ∷ v)) (set_lanes lead next (last ∷ v))
-      (by_position unit_at_end lead next last v) (set_lanes next last v)) (unit_at_end-three x p (omega (arith, k.third)) l)
-      (Takes-set (unit_at_end x lead next last) _ _ _ (ends_in_block-end lead next last v (omega (arith, l)) (omega arith) (omega arith))))))
-      (more lead next last v (record { first = omega (arith, l); second = omega arith; third = omega arith }) (ap (drop 3) g))
+    let lead = 0xE0 + p / 4096 in
+    let next = 0x80 + p / 64 % 64 in
+    let last = 0x80 + p % 64 in
+    HoldsPoints-first p 3 c (lead ∷ next ∷ last ∷ v) v (p ∷ []) (ap length e) (omega arith) (units_one p l)
+    (Takes-unset _ 2 _ (omega arith) (ends_in_block-lead_byte y x lead (next ∷ last ∷ v) (omega arith))
+    (Takes-unset _ 1 _ (omega arith) (ends_in_block-second x lead next (last ∷ v) (omega arith))
+    (subst (λ n. Takes 1 (n ∷ []) (by_position unit_at_end x lead next (last ∷ v)) (set_lanes lead next (last ∷ v))
+    (by_position unit_at_end lead next last v) (set_lanes next last v)) (unit_at_end-three x p (omega (arith, k.third)) l)
+    (Takes-set (unit_at_end x lead next last) _ _ _ (ends_in_block-end lead next last v (omega (arith, l)) (omega arith) (omega arith))))))
+    (more lead next last v (record { first = omega (arith, l); second = omega arith; third = omega arith }) (ap (drop 3) g))
     )
 
 holds_four : (z y x p : ℕ) (c v r : List ℕ) → AreBefore z y x → 0x10000 ≤ p → p ≤ 0x10FFFF → encoding p ≡ fourth_row p
@@ -225,17 +225,17 @@ holds_four z y x p c (b ∷ d ∷ f ∷ h ∷ v) r k m l e g more =
     let third : 0x80 + p / 64 % 64 ≡ f = ap (λ w. get_or w 2 0) g in
     let fourth : 0x80 + p % 64 ≡ h = ap (λ w. get_or w 3 0) g in
     rw (← first, ← second, ← third, ← fourth) (
-      let lead = 0xF0 + p / 262144 in
-      let next = 0x80 + p / 4096 % 64 in
-      let low = 0x80 + p / 64 % 64 in
-      let last = 0x80 + p % 64 in
-      HoldsPoints-first p 4 c (lead ∷ next ∷ low ∷ last ∷ v) v (lead_of p ∷ trail_of p ∷ []) (ap length e) (omega arith) (units_two p m)
-      (Takes-unset _ 3 _ (omega arith) (ends_in_block-lead_byte y x lead (next ∷ low ∷ last ∷ v) (omega arith))
-      (Takes-unset _ 2 _ (omega arith) (ends_in_block-second x lead next (low ∷ last ∷ v) (omega arith))
-      (Takes-two _ _ (unit_at_end-lead x p m l) (unit_at_end-trail p m l)
-      (ends_in_block-third lead next low last v (omega arith) (omega arith))
-      (ends_in_block-end next low last v (omega arith) (omega arith) (omega arith)))))
-      (more next low last v (record { first = omega arith; second = omega arith; third = omega arith }) (ap (drop 4) g))
+    let lead = 0xF0 + p / 262144 in
+    let next = 0x80 + p / 4096 % 64 in
+    let low = 0x80 + p / 64 % 64 in
+    let last = 0x80 + p % 64 in
+    HoldsPoints-first p 4 c (lead ∷ next ∷ low ∷ last ∷ v) v (lead_of p ∷ trail_of p ∷ []) (ap length e) (omega arith) (units_two p m)
+    (Takes-unset _ 3 _ (omega arith) (ends_in_block-lead_byte y x lead (next ∷ low ∷ last ∷ v) (omega arith))
+    (Takes-unset _ 2 _ (omega arith) (ends_in_block-second x lead next (low ∷ last ∷ v) (omega arith))
+    (Takes-two _ _ (unit_at_end-lead x p m l) (unit_at_end-trail p m l)
+    (ends_in_block-third lead next low last v (omega arith) (omega arith))
+    (ends_in_block-end next low last v (omega arith) (omega arith) (omega arith)))))
+    (more next low last v (record { first = omega arith; second = omega arith; third = omega arith }) (ap (drop 4) g))
     )
 
 -- the front of the bytes of code points, from the start of one on, holds code points whole

@@ -163,9 +163,9 @@ any_high_lane : (z y high : ℕ) → high < 256
     ≡ cond (ltb y 0xF0) (cond (ltb z 0xF0) high ((0xDC + high % 4) % 256)) ((0xD8 + (high - 4) / 16) % 256)
 any_high_lane z y high l = elim (cases_lt y 0xF0) [
   | inl h ↦ rw (lt-leb 0xF0 y h, lt-ltb y 0xF0 h) (elim (cases_lt z 0xF0) [
-      | inl k ↦ rw (lt-leb 0xF0 z k, lt-ltb z 0xF0 k) refl
-      | inr k ↦ rw (le-leb 0xF0 z k, le-ltb z 0xF0 k) refl
-    ])
+    | inl k ↦ rw (lt-leb 0xF0 z k, lt-ltb z 0xF0 k) refl
+    | inr k ↦ rw (le-leb 0xF0 z k, le-ltb z 0xF0 k) refl
+  ])
   | inr h ↦ rw (le-leb 0xF0 y h, le-ltb y 0xF0 h) (λ i. (0xD8 + less_by_lane 4 high (omega arith) l i / 16) % 256)
 ]
 

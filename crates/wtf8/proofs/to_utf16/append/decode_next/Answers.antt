@@ -9,7 +9,7 @@ begins_with_front : (w block : List ℕ) (count : ℕ) → 32 ≤ length w → c
 begins_with_front w block count least few same ascii =
     let one : 1 * count ≡ count = omega arith in
     subst (BeginsWithUnits w (take count block)) one (begins_with_ascii 32 w count block least few same
-        (Each1-weaker (λ b. b < 0x80) (λ b. b / 128 ≡ 0) (λ b l. omega arith) (take count (take 32 w)) ascii))
+    (Each1-weaker (λ b. b < 0x80) (λ b. b / 128 ≡ 0) (λ b l. omega arith) (take count (take 32 w)) ascii))
 
 pub write_front-requires : goal.write_front-requires
 write_front-requires c =
@@ -33,7 +33,7 @@ returns-then-count-eq-POSITIONS-clause-shorter c =
 pub write_front-after-requires : goal.write_front-after-requires
 write_front-after-requires c =
     let count = c.ascii_run_len-count in
-    let block = c.widen-then-bytes-count-ge-FIRST_OF_FOUR in
+    let block = c.widen-then-count-ge-VECTOR in
     let begins = begins_with_front c.args.left.view.bytes.now block.result count.result c.requires.least count.ensures.within block.ensures
     count.ensures.ascii in (
       omega arith,

@@ -51,5 +51,12 @@ returns-clause-shorter c =
     let ends = c.unit_ends-block.result.ends in
     let known = knows_width c.args.bytes ends c.fits-bytes.0 c.unit_ends-block.ensures.ends in
     let some = some_held w c.args.bytes c.args.left.view.well_formed c.requires.front (omega (arith, c.fits-bytes.0)) in
-    omega (arith, known.same, some, known.within, c.requires.least, ap length c.skip_bytes.ensures.bytes,
-      length-drop (64 - count_leading_zeros 64 ends) w)
+    omega (
+      arith,
+      known.same,
+      some,
+      known.within,
+      c.requires.least,
+      ap length c.skip_bytes.ensures.bytes,
+      length-drop (64 - count_leading_zeros 64 ends) w,
+    )

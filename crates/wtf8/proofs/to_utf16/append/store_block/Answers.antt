@@ -11,9 +11,11 @@ returns c s rest long same =
     let s2 = drop 8 s1 in
     let s3 = drop 8 s2 in
     let word = c.interleave.result in
-    let lengths : (length s1 ≡ 24) × (length s2 ≡ 16) × (length s3 ≡ 8) =
-    (omega (arith, long, length-drop 8 s), omega (arith, long, length-drop 8 s, length-drop 8 s1),
-      omega (arith, long, length-drop 8 s, length-drop 8 s1, length-drop 8 s2)) in
+    let lengths : (length s1 ≡ 24) × (length s2 ≡ 16) × (length s3 ≡ 8) = (
+      omega (arith, long, length-drop 8 s),
+      omega (arith, long, length-drop 8 s, length-drop 8 s1),
+      omega (arith, long, length-drop 8 s, length-drop 8 s1, length-drop 8 s2),
+    ) in
     let rest3 = picked (words word.3) s3 ++ rest in
     let rest2 = picked (words word.2) (take 8 s2) ++ rest3 in
     let rest1 = picked (words word.1) (take 8 s1) ++ rest2 in
