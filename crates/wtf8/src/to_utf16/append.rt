@@ -313,10 +313,10 @@ fn decode_next<'a>(units: &mut [u16], left: Undecoded<'a>) -> Undecoded<'a>
     }
     let ends = end_positions(block);
     if ends == ENDS_OF_TWOS {
-        return decode_full_blocks::<8, 2, 16, TwoBytes>(units, left);
+        return decode_full_blocks::<16, 2, 32, TwoBytes>(units, left);
     }
     if ends % 0x200_0000 == ENDS_OF_THREES {
-        return decode_full_blocks::<8, 3, 32, ThreeBytes>(units, left);
+        return decode_full_blocks::<8, 3, 24, ThreeBytes>(units, left);
     }
     decode_positions(units, left, block)
 }

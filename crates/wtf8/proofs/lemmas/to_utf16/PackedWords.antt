@@ -45,7 +45,7 @@ packing_rows_below_16 none number h = Each1-all_below (get_or PACKING_ROWS.now n
 
 -- The packed words.
 
-digits_l-words : (n : ℕ) (w : List ℕ) → length w ≡ 2 * n → Each1 (λ b. b < 256) w → digits_l 65536 n (number_l 256 w) ≡ words w
+pub digits_l-words : (n : ℕ) (w : List ℕ) → length w ≡ 2 * n → Each1 (λ b. b < 256) w → digits_l 65536 n (number_l 256 w) ≡ words w
 digits_l-words zero [] l e = refl
 digits_l-words zero (a ∷ w) l e = absurd (omega arith)
 digits_l-words (suc n) [] l e = absurd (omega arith)
@@ -90,7 +90,7 @@ length-words (suc n) [] l = absurd (omega arith)
 length-words (suc n) (a ∷ []) l = absurd (omega arith)
 length-words (suc n) (a ∷ b ∷ w) l = ap suc (length-words n w (omega arith))
 
-lane_below : (xs : List ℕ) (j : ℕ) → Each1 (Fits w8) xs → get_or xs j 0 < 256
+pub lane_below : (xs : List ℕ) (j : ℕ) → Each1 (Fits w8) xs → get_or xs j 0 < 256
 lane_below [] j e = omega arith
 lane_below (x ∷ xs) zero e = e.0.fits
 lane_below (x ∷ xs) (suc j) e = lane_below xs j e.1
