@@ -239,8 +239,23 @@ fn store_block(units: &mut [u16], at: usize, block: UnitEnds) -> usize
     store_packed(units, after, last, ends / 0x100_0000 % 0x100)
 }
 
-/// Decodes the whole code points of the next `POSITIONS` bytes, of any kinds. Where there is no room for as many units,
-/// it decodes one code point.
+/// Decodes code points one by one until fewer than `LONGEST_LOAD` bytes are left.
+#[inline(always)]
+fn decode_points<'a>(units: &mut [u16], left: Undecoded<'a>) -> Undecoded<'a>
+    requires room { left.at + length (view_units left.view) ≤ length units.old }
+    requires nonempty { 0 < length left.view.bytes.now }
+    ensures written { Writes units.old left.entry.at (view_units left.entry.view) units.new result.at (view_units result.view) }
+    ensures shorter { length result.view.bytes.now < length left.entry.view.bytes.now }
+{
+    let mut rest = decode_point(units, left);
+    while LONGEST_LOAD <= rest.view.len() {
+        rest = decode_point(units, rest);
+    }
+    rest
+}
+
+/// Decodes the whole code points in the next `POSITIONS` bytes, of any kinds. If there is no room for as many units, so
+/// near the end, decodes code points one by one.
 #[inline(always)]
 fn decode_positions<'a>(units: &mut [u16], left: Undecoded<'a>, bytes: u8x32) -> Undecoded<'a>
     requires room { left.at + length (view_units left.view) ≤ length units.old }
@@ -250,7 +265,7 @@ fn decode_positions<'a>(units: &mut [u16], left: Undecoded<'a>, bytes: u8x32) ->
     ensures shorter { length result.view.bytes.now < length left.entry.view.bytes.now }
 {
     if units.len() - left.at < POSITIONS {
-        return decode_point(units, left);
+        return decode_points(units, left);
     }
     let block = unit_ends(bytes);
     let at = store_block(units, left.at, block);
