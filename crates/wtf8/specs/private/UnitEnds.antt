@@ -38,17 +38,19 @@ high_byte y x b = (high_of_two x b + (y - 0xE0) * 16 % 256) % 256
 abbrev pub low_of_any : ℕ → ℕ → ℕ → ℕ
 low_of_any y x b = if nat_lt y 0xF0 then low_byte x b else (low_byte x b / 16 + (high_byte y x b - 4) * 16 % 256) % 256
 
--- The high byte of the unit that ends with `z`, `y`, `x` and `b`, a lead or a trail if `y` or `z` leads four bytes.
+-- The high byte of the unit that ends with `z`, `y`, `x` and `b`, a lead or a trail if `y` or `z` leads four bytes
+-- (Unicode 3.9, "UTF-16", Table 3-5, and "UTF-8", Table 3-6).
 abbrev pub high_of_any : ℕ → ℕ → ℕ → ℕ → ℕ
 high_of_any z y x b =
     if nat_lt y 0xF0 then (if nat_lt z 0xF0 then high_byte y x b else (0xDC + high_byte y x b % 4) % 256)
     else (0xD8 + (high_byte y x b - 4) / 16) % 256
 
--- The unit that ends with the byte `b` after `z`, `y` and `x`, if one does.
+-- The unit that ends with the byte `b` after `z`, `y` and `x`, if one does (Unicode 3.9, "UTF-8", Table 3-6).
 abbrev pub unit_at_end : ℕ → ℕ → ℕ → ℕ → ℕ
 unit_at_end z y x b = low_of_any y x b + 256 * high_of_any z y x b
 
--- Whether a unit ends with `b` after `x`: `b` is no lead byte, and `x` none of three or four bytes.
+-- Whether a unit ends with `b` after `x`: `b` is no lead byte, and `x` none of three or four bytes. So the third of
+-- four bytes ends a lead, the fourth a trail (Unicode 3.9, "UTF-8", Table 3-6).
 abbrev pub ends_unit : ℕ → ℕ → Bool
 ends_unit x b = if nat_lt b 0xC0 then nat_lt x 0xE0 else false
 

@@ -305,8 +305,11 @@ fn decode_full_blocks<
     decode_point(units, rest)
 }
 
-/// Decodes 32 ASCII bytes, an ASCII front and one other code point, full blocks of two- or three-byte code points, or
-/// what the next 32 bytes hold. The positions at which units end only choose among these: each is right for any bytes.
+/// Decodes 32 ASCII bytes, in 0.78 of the time that blocks of 16 take; or the ASCII bytes at the front and one other
+/// code point, if at least 16 are ASCII or a supplementary one follows, since by positions English takes 1.06 of the
+/// time and emoji in ASCII 1.18; or full blocks of two- or three-byte code points, which take 1.7 to 1.9 by positions;
+/// or the whole code points in the next 32 bytes. The positions at which units end only choose among these: each is
+/// right for any bytes.
 #[inline(always)]
 fn decode_next<'a>(units: &mut [u16], left: Undecoded<'a>) -> Undecoded<'a>
     requires room { left.at + length (view_units left.view) ≤ length units.old }
@@ -336,7 +339,8 @@ fn decode_next<'a>(units: &mut [u16], left: Undecoded<'a>) -> Undecoded<'a>
     decode_positions(units, left, block)
 }
 
-/// `decode_next` for fewer than `LONGEST_LOAD` bytes, too few for 32 ASCII bytes or a block of three-byte code points.
+/// `decode_next` for fewer than `LONGEST_LOAD` bytes: decodes a run by blocks if the first two code points have one
+/// byte each, or two bytes each; else one code point.
 #[inline(always)]
 fn decode_next_of_tail<'a>(units: &mut [u16], left: Undecoded<'a>) -> Undecoded<'a>
     requires room { left.at + length (view_units left.view) ≤ length units.old }

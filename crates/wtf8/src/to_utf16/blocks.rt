@@ -15,9 +15,7 @@ const SECOND_OF_TWO: [usize; 8] = [1, 3, 5, 7, 9, 11, 13, 15];
 /// their third and second bytes.
 const FIRSTS_OF_THREES: [usize; 16] = [0, 0, 3, 3, 6, 6, 9, 9, 12, 12, 15, 15, 26, 26, 29, 29];
 
-const OTHERS_OF_THREES: [usize; 16] = [
-    2, 1, 5, 4, 8, 7, 11, 10, 14, 13, 25, 24, 28, 27, 31, 30,
-];
+const OTHERS_OF_THREES: [usize; 16] = [2, 1, 5, 4, 8, 7, 11, 10, 14, 13, 25, 24, 28, 27, 31, 30];
 
 /// Code points of one unit and `WIDTH` bytes each, of which `N` are decoded from a load of `BYTES` bytes.
 pub(crate) trait EncodedLength<const N: usize, const WIDTH: usize, const BYTES: usize> {
@@ -95,7 +93,8 @@ fn all_have_prefix<const N: usize>(lanes: Simd<u16, N>, size: u16, prefix: u16) 
     kinds.simd_ne(Simd::splat(prefix)).to_bitmask() == 0
 }
 
-/// Decodes sixteen two-byte code points by words. Returns their lead bytes, which are not checked here, and their units.
+/// Decodes sixteen two-byte code points by words. Returns their lead bytes, which are not checked here, and their
+/// units.
 #[inline(always)]
 fn read_sixteen_twos(bytes: u8x32) -> (u16x16, [u16; 16])
     ensures firsts { result.0 ≡ map_run 2 (λ w. get_or w 0 0) 16 bytes }
@@ -107,9 +106,9 @@ fn read_sixteen_twos(bytes: u8x32) -> (u16x16, [u16; 16])
     (words % u16x16::splat(256), (high + low).to_array())
 }
 
-/// Decodes eight three-byte code points, of bytes 0 to 15 and 8 to 23, by words. Returns their lead bytes, twice each in
-/// a word and not checked here, and their units. Of one load of 32 bytes LLVM takes bytes 16 to 23 one by one, in three
-/// times the time.
+/// Decodes eight three-byte code points, of bytes 0 to 15 and 8 to 23, by words. Returns their lead bytes, twice each
+/// in a word and not checked here, and their units. Of one load of 32 bytes LLVM takes bytes 16 to 23 one by one, in
+/// three times the time.
 #[inline(always)]
 fn read_eight_threes(front: u8x16, back: u8x16) -> (u16x8, [u16; 8])
     ensures firsts { result.0 ≡ map_run 3 (λ w. 257 * get_or w 0 0) 8 (front ++ drop 8 back) }

@@ -104,8 +104,8 @@ fn high_of_three(bytes: u8x32, two_before: u8x32, high: u8x32) -> u8x32
     high + two_before.saturating_sub(u8x32::splat(0xE0)) * u8x32::splat(16)
 }
 
-/// The low and the high byte of the unit that ends at each position, from those of one to three bytes. The third of four
-/// bytes ends a lead, the fourth a trail.
+/// The low and the high byte of the unit that ends at each position, from those of one to three bytes. The third of
+/// four bytes ends a lead, the fourth a trail.
 #[inline(always)]
 fn units_of_four(
     bytes: u8x32,
@@ -134,8 +134,8 @@ fn units_of_four(
     )
 }
 
-/// The positions at which a unit ends: all but those of lead bytes and of the second of three or four bytes. A byte from
-/// C0 on and one after E0 or more have 80 or more left.
+/// The positions at which a unit ends: all but those of lead bytes and of the second of three or four bytes. For these
+/// the greater of the byte less 0x40 and the byte before less 0x60, each at least 0, is 0x80 or more.
 #[inline(always)]
 pub(crate) fn end_positions(bytes: u8x32) -> u64
     ensures { Each1 (λ b. b < 0xF0) bytes → result ≡ mask_l (set_lanes 0 0 bytes) }

@@ -71,9 +71,10 @@ pub words-twos : (v : List ℕ) → length v ≡ 32 → Each1 (Fits w8) v
     × (units_of_twos 16 (digits_l 65536 16 (number_l 256 v)) ≡ map_run 2 unit_of_two 16 v)
 words-twos v l f =
     let below = bytes_below v f in
-    let own = digits_l-words 16 v (omega (arith, l)) below in
-    (ap (firsts_of_twos 16) own ∙ firsts_of_twos-run 16 v (omega (arith, l)) below,
-      ap (units_of_twos 16) own ∙ units_of_twos-run 16 v (omega (arith, l)) below)
+    let own = digits_l-words 16 v (omega (arith, l)) below in (
+      ap (firsts_of_twos 16) own ∙ firsts_of_twos-run 16 v (omega (arith, l)) below,
+      ap (units_of_twos 16) own ∙ units_of_twos-run 16 v (omega (arith, l)) below,
+    )
 
 -- Three-byte code points: a word is a lead byte twice, another the third byte and 256 times the second.
 
@@ -156,10 +157,11 @@ pub words-threes : (u v : List ℕ) → length u ≡ 16 → length v ≡ 16 → 
     × (units_of_threes 8 firsts others ≡ map_run 3 unit_of_three 8 (u ++ drop 8 v))
 words-threes u v l m e f =
     let firsts = digits_l-words 8 (firsts_picked u v) refl (picked_below u v first_lanes e f) ∙ words-firsts u v l m in
-    let others = digits_l-words 8 (others_picked u v) refl (picked_below u v other_lanes e f) ∙ words-others u v l m in
-    (firsts ∙ firsts-run 8 (u ++ drop 8 v),
+    let others = digits_l-words 8 (others_picked u v) refl (picked_below u v other_lanes e f) ∙ words-others u v l m in (
+      firsts ∙ firsts-run 8 (u ++ drop 8 v),
       (λ i. units_of_threes 8 (firsts i) (others i))
-      ∙ units_of_threes-run 8 (u ++ drop 8 v) (get_or_below u (drop 8 v) e (Each1-drop 8 v f)))
+          ∙ units_of_threes-run 8 (u ++ drop 8 v) (get_or_below u (drop 8 v) e (Each1-drop 8 v f)),
+    )
 
 -- lead bytes that are doubled
 pub undoubled : (k : ℕ) (v : List ℕ) → AreBytes v → Each1 (λ b. b / 4096 ≡ 14) (map_run 3 (λ w. 257 * get_or w 0 0) k v)

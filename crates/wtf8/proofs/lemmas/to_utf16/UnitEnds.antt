@@ -81,7 +81,7 @@ NoneSet-unset n b {u} {s} e k = record {
 NoneSet-nil : NoneSet [] []
 NoneSet-nil = record { picks = refl; len = refl }
 
--- the numbers `u` and lanes `s` begin with `n` lanes that pick `taken`, the last of them set; `v` and `t` are the others
+-- the numbers `u` and lanes `s` begin with `n` lanes that pick `taken`, the last of them set; `v` and `t` are the rest
 record Takes (n : ℕ) (taken u : List ℕ) (s : List Bool) (v : List ℕ) (t : List Bool) : Type 0 where
   pub picks : picked u s ≡ taken ++ picked v t
   pub len : whole_len s ≡ n + whole_len t
@@ -150,13 +150,21 @@ holds_one z y x p c (b ∷ v) r k l e g more =
     (Takes-set (unit_at_end z y x p) _ _ _ (ends_in_block-end y x p v (omega (arith, k.second)) (omega (arith, k.third)) (omega (arith, l)))))
     (more y x p v (record { first = omega (arith, k.second); second = omega (arith, k.third); third = omega (arith, l) }) (ap (drop 1) g)))
 
+-- a lead byte at the end of a block, and after one of three or four bytes the next byte, end no unit
+holds_none_of_one : (z y x b : ℕ) (c : List ℕ) → 0xC0 ≤ b → HoldsPoints z y x (b ∷ []) c
+holds_none_of_one z y x b c l =
+    HoldsPoints-none (b ∷ []) c (NoneSet-unset _ _ (ends_in_block-lead_byte y x b [] l) NoneSet-nil) (omega arith)
+
+holds_none_of_two : (z y x b d : ℕ) (c : List ℕ) → 0xE0 ≤ b → HoldsPoints z y x (b ∷ d ∷ []) c
+holds_none_of_two z y x b d c l =
+    let first = ends_in_block-lead_byte y x b (d ∷ []) (omega (arith, l)) in
+    let second = ends_in_block-second x b d [] l in
+    HoldsPoints-none (b ∷ d ∷ []) c (NoneSet-unset _ _ first (NoneSet-unset _ _ second NoneSet-nil)) (omega arith)
+
 holds_two : (z y x p : ℕ) (c v r : List ℕ) → AreBefore z y x → 0x80 ≤ p → p < 0x800 → encoding p ≡ second_row p
     → Begins (second_row p) c v r → HoldsMore c r → HoldsPoints z y x v (p ∷ c)
 holds_two z y x p c [] r k m l e g more = HoldsPoints-none [] (p ∷ c) NoneSet-nil (omega arith)
-holds_two z y x p c (b ∷ []) r k m l e g more =
-    let lead : 0xC0 ≤ b = omega (arith, ap (λ w. get_or w 0 0) g) in
-    let unset = ends_in_block-lead_byte y x b [] lead in
-    HoldsPoints-none (b ∷ []) (p ∷ c) (NoneSet-unset _ _ unset NoneSet-nil) (omega arith)
+holds_two z y x p c (b ∷ []) r k m l e g more = holds_none_of_one z y x b (p ∷ c) (omega (arith, ap (λ w. get_or w 0 0) g))
 holds_two z y x p c (b ∷ d ∷ v) r k m l e g more =
     let first : 0xC0 + p / 64 ≡ b = ap (λ w. get_or w 0 0) g in
     let second : 0x80 + p % 64 ≡ d = ap (λ w. get_or w 1 0) g in
@@ -174,15 +182,8 @@ holds_two z y x p c (b ∷ d ∷ v) r k m l e g more =
 holds_three : (z y x p : ℕ) (c v r : List ℕ) → AreBefore z y x → 0x800 ≤ p → p < 0x10000 → encoding p ≡ third_row p
     → Begins (third_row p) c v r → HoldsMore c r → HoldsPoints z y x v (p ∷ c)
 holds_three z y x p c [] r k m l e g more = HoldsPoints-none [] (p ∷ c) NoneSet-nil (omega arith)
-holds_three z y x p c (b ∷ []) r k m l e g more =
-    let lead : 0xC0 ≤ b = omega (arith, ap (λ w. get_or w 0 0) g) in
-    let unset = ends_in_block-lead_byte y x b [] lead in
-    HoldsPoints-none (b ∷ []) (p ∷ c) (NoneSet-unset _ _ unset NoneSet-nil) (omega arith)
-holds_three z y x p c (b ∷ d ∷ []) r k m l e g more =
-    let lead : 0xE0 ≤ b = omega (arith, ap (λ w. get_or w 0 0) g) in
-    let first = ends_in_block-lead_byte y x b (d ∷ []) (omega (arith, lead)) in
-    let second = ends_in_block-second x b d [] lead in
-    HoldsPoints-none (b ∷ d ∷ []) (p ∷ c) (NoneSet-unset _ _ first (NoneSet-unset _ _ second NoneSet-nil)) (omega arith)
+holds_three z y x p c (b ∷ []) r k m l e g more = holds_none_of_one z y x b (p ∷ c) (omega (arith, ap (λ w. get_or w 0 0) g))
+holds_three z y x p c (b ∷ d ∷ []) r k m l e g more = holds_none_of_two z y x b d (p ∷ c) (omega (arith, ap (λ w. get_or w 0 0) g))
 holds_three z y x p c (b ∷ d ∷ f ∷ v) r k m l e g more =
     let first : 0xE0 + p / 4096 ≡ b = ap (λ w. get_or w 0 0) g in
     let second : 0x80 + p / 64 % 64 ≡ d = ap (λ w. get_or w 1 0) g in
@@ -203,15 +204,8 @@ holds_three z y x p c (b ∷ d ∷ f ∷ v) r k m l e g more =
 holds_four : (z y x p : ℕ) (c v r : List ℕ) → AreBefore z y x → 0x10000 ≤ p → p ≤ 0x10FFFF → encoding p ≡ fourth_row p
     → Begins (fourth_row p) c v r → HoldsMore c r → HoldsPoints z y x v (p ∷ c)
 holds_four z y x p c [] r k m l e g more = HoldsPoints-none [] (p ∷ c) NoneSet-nil (omega arith)
-holds_four z y x p c (b ∷ []) r k m l e g more =
-    let lead : 0xC0 ≤ b = omega (arith, ap (λ w. get_or w 0 0) g) in
-    let unset = ends_in_block-lead_byte y x b [] lead in
-    HoldsPoints-none (b ∷ []) (p ∷ c) (NoneSet-unset _ _ unset NoneSet-nil) (omega arith)
-holds_four z y x p c (b ∷ d ∷ []) r k m l e g more =
-    let lead : 0xE0 ≤ b = omega (arith, ap (λ w. get_or w 0 0) g) in
-    let first = ends_in_block-lead_byte y x b (d ∷ []) (omega (arith, lead)) in
-    let second = ends_in_block-second x b d [] lead in
-    HoldsPoints-none (b ∷ d ∷ []) (p ∷ c) (NoneSet-unset _ _ first (NoneSet-unset _ _ second NoneSet-nil)) (omega arith)
+holds_four z y x p c (b ∷ []) r k m l e g more = holds_none_of_one z y x b (p ∷ c) (omega (arith, ap (λ w. get_or w 0 0) g))
+holds_four z y x p c (b ∷ d ∷ []) r k m l e g more = holds_none_of_two z y x b d (p ∷ c) (omega (arith, ap (λ w. get_or w 0 0) g))
 holds_four z y x p c (b ∷ d ∷ f ∷ []) r k m l e g more =
     let lead : 0xF0 ≤ b = omega (arith, ap (λ w. get_or w 0 0) g) in
     let first = ends_in_block-lead_byte y x b (d ∷ f ∷ []) (omega (arith, lead)) in

@@ -12,18 +12,6 @@ use Rattle.wtf8.specs.private.UnitEnds.{unit_at_end, ends_unit, ends_in_block, s
 
 -- The bytes before each byte.
 
-shifted_one : (z y x : ℕ) (u : List ℕ) → by_position (λ z y x b. x) z y x u ≡ take (length u) (x ∷ u)
-shifted_one z y x [] = refl
-shifted_one z y x (b ∷ u) = λ i. x ∷ shifted_one y x b u i
-
-shifted_two : (z y x : ℕ) (u : List ℕ) → by_position (λ z y x b. y) z y x u ≡ take (length u) (y ∷ x ∷ u)
-shifted_two z y x [] = refl
-shifted_two z y x (b ∷ u) = λ i. y ∷ shifted_two y x b u i
-
-shifted_three : (z y x : ℕ) (u : List ℕ) → by_position (λ z y x b. z) z y x u ≡ take (length u) (z ∷ y ∷ x ∷ u)
-shifted_three z y x [] = refl
-shifted_three z y x (b ∷ u) = λ i. z ∷ shifted_three y x b u i
-
 abbrev shuffled : List ℕ → List ℕ → List ℕ
 shuffled u js = pick_l 0 (u ++ replicate 32 0) js
 
@@ -71,9 +59,6 @@ greater_lanes a b = sel_l (are_less a b) b a
 
 abbrev less_by : ℕ → List ℕ → ℕ → List ℕ
 less_by n a k = zip2 (λ a b. (a + (256 - b)) % 256) (greater_lanes a (replicate n k)) (replicate n k)
-
-greater_lane : ℕ → ℕ → ℕ
-greater_lane a b = cond (flag (ltb a b)) b a
 
 less_by_lane : (k a : ℕ) → k < 256 → a < 256 → (cond (flag (ltb a k)) k a + (256 - k)) % 256 ≡ a - k
 less_by_lane k a l m = elim (cases_lt a k) [ inl h ↦ rw (lt-ltb a k h) (omega (arith, h, l)) | inr h ↦ rw (le-ltb a k h) (omega (arith, h, m)) ]
@@ -308,43 +293,24 @@ below_if_none k xs long t =
 
 -- The words of eight positions each.
 
-abbrev words_of : List ℕ → List ℕ → List ℕ → List ℕ
-words_of low high js = words (pick_l 0 (low ++ high) js)
+-- the indexes of the low and the high bytes of `n` positions from `k` on
+abbrev interleaved : ℕ → ℕ → List ℕ
+interleaved k zero = []
+interleaved k (suc n) = k ∷ (32 + k) ∷ interleaved (suc k) n
 
--- the interleaved bytes of some positions are a part of all words
-abbrev WordsAre : (List ℕ → List ℕ) → List ℕ → Type 0
-WordsAre part js = (low high : List ℕ) → length low ≡ 32 → length high ≡ 32 → words_of low high js ≡ part (joined_words low high)
+abbrev words_from : ℕ → List ℕ → List ℕ → List ℕ
+words_from k low high = words (pick_l 0 (low ++ high) (interleaved k 8))
 
-words_are : (part : List ℕ → List ℕ) (js : List ℕ)
-    → ((low high : List ℕ) → let a = pick_l 0 low (range_with_len 0 32) in let b = pick_l 0 high (range_with_len 0 32) in
-    words_of a b js ≡ part (joined_words a b)) → WordsAre part js
-words_are part js same low high l m = of_32 (λ a. words_of a high js ≡ part (joined_words a high)) low l
-    (of_32 (λ b. words_of (pick_l 0 low (range_with_len 0 32)) b js ≡ part (joined_words (pick_l 0 low (range_with_len 0 32)) b)) high m
-    (same low high))
+-- the words that four shuffles interleave are all words, by eight
+pub record AreAllWords (low high : List ℕ) : Type 0 where
+  pub first : words_from 0 low high ≡ take 8 (joined_words low high)
+  pub second : words_from 8 low high ≡ take 8 (drop 8 (joined_words low high))
+  pub third : words_from 16 low high ≡ take 8 (drop 8 (drop 8 (joined_words low high)))
+  pub fourth : words_from 24 low high ≡ drop 8 (drop 8 (drop 8 (joined_words low high)))
 
-abbrev lanes_from_0 : List ℕ
-lanes_from_0 = 0 ∷ 32 ∷ 1 ∷ 33 ∷ 2 ∷ 34 ∷ 3 ∷ 35 ∷ 4 ∷ 36 ∷ 5 ∷ 37 ∷ 6 ∷ 38 ∷ 7 ∷ 39 ∷ []
-
-pub words_from_0 : WordsAre (take 8) lanes_from_0
-words_from_0 = words_are (take 8) lanes_from_0 (λ low high. refl)
-
-abbrev lanes_from_8 : List ℕ
-lanes_from_8 = 8 ∷ 40 ∷ 9 ∷ 41 ∷ 10 ∷ 42 ∷ 11 ∷ 43 ∷ 12 ∷ 44 ∷ 13 ∷ 45 ∷ 14 ∷ 46 ∷ 15 ∷ 47 ∷ []
-
-pub words_from_8 : WordsAre (λ w. take 8 (drop 8 w)) lanes_from_8
-words_from_8 = words_are (λ w. take 8 (drop 8 w)) lanes_from_8 (λ low high. refl)
-
-abbrev lanes_from_16 : List ℕ
-lanes_from_16 = 16 ∷ 48 ∷ 17 ∷ 49 ∷ 18 ∷ 50 ∷ 19 ∷ 51 ∷ 20 ∷ 52 ∷ 21 ∷ 53 ∷ 22 ∷ 54 ∷ 23 ∷ 55 ∷ []
-
-pub words_from_16 : WordsAre (λ w. take 8 (drop 8 (drop 8 w))) lanes_from_16
-words_from_16 = words_are (λ w. take 8 (drop 8 (drop 8 w))) lanes_from_16 (λ low high. refl)
-
-abbrev lanes_from_24 : List ℕ
-lanes_from_24 = 24 ∷ 56 ∷ 25 ∷ 57 ∷ 26 ∷ 58 ∷ 27 ∷ 59 ∷ 28 ∷ 60 ∷ 29 ∷ 61 ∷ 30 ∷ 62 ∷ 31 ∷ 63 ∷ []
-
-pub words_from_24 : WordsAre (λ w. drop 8 (drop 8 (drop 8 w))) lanes_from_24
-words_from_24 = words_are (λ w. drop 8 (drop 8 (drop 8 w))) lanes_from_24 (λ low high. refl)
+pub all_words : (low high : List ℕ) → length low ≡ 32 → length high ≡ 32 → AreAllWords low high
+all_words low high l m = of_32 (λ a. AreAllWords a high) low l (of_32 (λ b. AreAllWords (pick_l 0 low (range_with_len 0 32)) b) high m
+    (record { first = refl; second = refl; third = refl; fourth = refl }))
 
 pub joined_words-by_position : (z y x : ℕ) (u : List ℕ)
     → joined_words (by_position (λ z y x b. low_of_any y x b) z y x u) (by_position high_of_any z y x u) ≡ by_position unit_at_end z y x u
