@@ -3,4 +3,5 @@ pub mod EncodedBytes
 pub mod PackedUnits
 pub mod Prefixes
 pub mod Search
+pub mod UnitEnds
 pub mod UnitsInBytes

@@ -1,5 +1,5 @@
 // Decodes blocks of WTF-8 code points of one encoded length to code units.
-ghost use Rattle.std.specs.Prelude.{◌≡◌, ◌*◌, ◌/◌, ◌<◌, ◌≤◌, length, take, get_or};
+ghost use Rattle.std.specs.Prelude.{◌≡◌, ◌*◌, ◌/◌, ◌<◌, ◌≤◌, ◌++◌, length, take, drop, get_or, IsTrue};
 ghost use lib.Lanes.{Each1};
 ghost use Rattle.wtf8.specs.private.EncodedBytes.{BeginsWithUnits, map_run, unit_of_two, unit_of_three};
 
@@ -11,12 +11,11 @@ const FIRST_OF_TWO: [usize; 8] = [0, 2, 4, 6, 8, 10, 12, 14];
 
 const SECOND_OF_TWO: [usize; 8] = [1, 3, 5, 7, 9, 11, 13, 15];
 
-/// Shuffle indices: the lead bytes of eight three-byte code points; below, their second and their third bytes.
-const FIRST_OF_THREE: [usize; 8] = [0, 3, 6, 9, 12, 15, 18, 21];
+/// Shuffle indices for bytes 0 to 15 and 8 to 23: the lead bytes of eight three-byte code points, twice each; below,
+/// their third and second bytes.
+const FIRSTS_OF_THREES: [usize; 16] = [0, 0, 3, 3, 6, 6, 9, 9, 12, 12, 15, 15, 26, 26, 29, 29];
 
-const SECOND_OF_THREE: [usize; 8] = [1, 4, 7, 10, 13, 16, 19, 22];
-
-const THIRD_OF_THREE: [usize; 8] = [2, 5, 8, 11, 14, 17, 20, 23];
+const OTHERS_OF_THREES: [usize; 16] = [2, 1, 5, 4, 8, 7, 11, 10, 14, 13, 25, 24, 28, 27, 31, 30];
 
 /// Code points of one unit and `WIDTH` bytes each, of which `N` are decoded from a load of `BYTES` bytes.
 pub(crate) trait EncodedLength<const N: usize, const WIDTH: usize, const BYTES: usize> {
@@ -83,37 +82,50 @@ fn read_twos(bytes: u8x16) -> (u8x8, [u16; 8])
     (first, units.to_array())
 }
 
-/// Decodes eight three-byte code points. Returns their lead bytes, which are not checked here, and their units.
+/// Whether `lane / size` is `prefix` in all lanes.
 #[inline(always)]
-fn read_threes(bytes: u8x32) -> (u8x8, [u16; 8])
-    ensures firsts { result.0 ≡ map_run 3 (λ w. get_or w 0 0) 8 bytes }
-    ensures units { result.1 ≡ map_run 3 unit_of_three 8 bytes }
+fn all_have_prefix<const N: usize>(lanes: Simd<u16, N>, size: u16, prefix: u16) -> bool
+    requires lanes { N ≤ u64.BITS }
+    requires size { 0 < size }
+    ensures { IsTrue result → Each1 (λ b. b / size ≡ prefix) lanes.entry }
 {
-    let first: u8x8 = bytes.shuffle(bytes, FIRST_OF_THREE);
-    let second: u8x8 = bytes.shuffle(bytes, SECOND_OF_THREE);
-    let third: u8x8 = bytes.shuffle(bytes, THIRD_OF_THREE);
-    let high = (first % u8x8::splat(16)).cast::<u16>();
-    let middle = (second % u8x8::splat(64)).cast::<u16>();
-    let low = (third % u8x8::splat(64)).cast::<u16>();
-    let above = high
-        .strict_mul(u16x8::splat(64))
-        .strict_add(middle)
-        .strict_mul(u16x8::splat(64));
-    (first, above.strict_add(low).to_array())
+    let kinds = lanes / Simd::splat(size);
+    kinds.simd_ne(Simd::splat(prefix)).to_bitmask() == 0
+}
+
+/// Decodes sixteen two-byte code points by words. Returns their lead bytes, which are not checked here, and their
+/// units.
+#[inline(always)]
+fn read_sixteen_twos(bytes: u8x32) -> (u16x16, [u16; 16])
+    ensures firsts { result.0 ≡ map_run 2 (λ w. get_or w 0 0) 16 bytes }
+    ensures units { result.1 ≡ map_run 2 unit_of_two 16 bytes }
+{
+    let words = u16x16::from_le_bytes(bytes);
+    let high = words % u16x16::splat(32) * u16x16::splat(64);
+    let low = words / u16x16::splat(256) % u16x16::splat(64);
+    (words % u16x16::splat(256), (high + low).to_array())
+}
+
+/// Decodes eight three-byte code points, of bytes 0 to 15 and 8 to 23, by words. Returns their lead bytes, twice each
+/// in a word and not checked here, and their units. Of one load of 32 bytes LLVM takes bytes 16 to 23 one by one, in
+/// three times the time.
+#[inline(always)]
+fn read_eight_threes(front: u8x16, back: u8x16) -> (u16x8, [u16; 8])
+    ensures firsts { result.0 ≡ map_run 3 (λ w. 257 * get_or w 0 0) 8 (front ++ drop 8 back) }
+    ensures units { result.1 ≡ map_run 3 unit_of_three 8 (front ++ drop 8 back) }
+{
+    let firsts = u16x8::from_le_bytes(front.shuffle(back, FIRSTS_OF_THREES));
+    let others = u16x8::from_le_bytes(front.shuffle(back, OTHERS_OF_THREES));
+    let high = firsts * u16x8::splat(4096);
+    let middle = others / u16x8::splat(256) % u16x8::splat(64) * u16x8::splat(64);
+    let low = others % u16x8::splat(64);
+    (firsts, (high + middle + low).to_array())
 }
 
 impl EncodedLength<16, 1, 16> for OneByte {
     #[inline(always)]
     fn read(bytes: &[u8]) -> ([u16; 16], usize) {
         let block = u8x16::from_slice(bytes);
-        (widen(block), count_leading_with_prefix(block, 128, 0))
-    }
-}
-
-impl EncodedLength<32, 1, 32> for OneByte {
-    #[inline(always)]
-    fn read(bytes: &[u8]) -> ([u16; 32], usize) {
-        let block = u8x32::from_slice(bytes);
         (widen(block), count_leading_with_prefix(block, 128, 0))
     }
 }
@@ -126,10 +138,27 @@ impl EncodedLength<8, 2, 16> for TwoBytes {
     }
 }
 
-impl EncodedLength<8, 3, 32> for ThreeBytes {
+/// All sixteen code points or none.
+impl EncodedLength<16, 2, 32> for TwoBytes {
+    #[inline(always)]
+    fn read(bytes: &[u8]) -> ([u16; 16], usize) {
+        let (firsts, units) = read_sixteen_twos(u8x32::from_slice(bytes));
+        if all_have_prefix(firsts, 32, 6) {
+            return (units, 16);
+        }
+        (units, 0)
+    }
+}
+
+/// All eight code points or none.
+impl EncodedLength<8, 3, 24> for ThreeBytes {
     #[inline(always)]
     fn read(bytes: &[u8]) -> ([u16; 8], usize) {
-        let (firsts, units) = read_threes(u8x32::from_slice(bytes));
-        (units, count_leading_with_prefix(firsts, 16, 14))
+        let back = u8x16::from_slice(&bytes[8..]);
+        let (firsts, units) = read_eight_threes(u8x16::from_slice(bytes), back);
+        if all_have_prefix(firsts, 4096, 14) {
+            return (units, 8);
+        }
+        (units, 0)
     }
 }

@@ -7,13 +7,13 @@ use Rattle.wtf8.specs.Form.{encoding}
 
 -- The encoding of a code point: its bytes by range, its length, its lead byte.
 
-abbrev second_row : ℕ → List ℕ
+abbrev pub second_row : ℕ → List ℕ
 second_row p = (0xC0 + p / 64) ∷ (0x80 + p % 64) ∷ []
 
 abbrev pub third_row : ℕ → List ℕ
 third_row p = (0xE0 + p / 4096) ∷ (0x80 + p / 64 % 64) ∷ (0x80 + p % 64) ∷ []
 
-abbrev fourth_row : ℕ → List ℕ
+abbrev pub fourth_row : ℕ → List ℕ
 fourth_row p = (0xF0 + p / 262144) ∷ (0x80 + p / 4096 % 64) ∷ (0x80 + p / 64 % 64) ∷ (0x80 + p % 64) ∷ []
 
 pub encoding_one : (p : ℕ) → p < 0x80 → encoding p ≡ p ∷ []

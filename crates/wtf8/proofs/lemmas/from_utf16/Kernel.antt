@@ -408,7 +408,7 @@ quarter_indexes u long =
 -- The bytes that a row of the table picks are the pieces of the units.
 
 -- a shuffle whose indexes are below 16 has, in each lane, the source lane of that index
-swz_l-below_16 : (xs : List ℕ) (i : ℕ) (js : List ℕ) → i + length js ≤ 16 → Each1 (λ j. j < 16) js
+pub swz_l-below_16 : (xs : List ℕ) (i : ℕ) (js : List ℕ) → i + length js ≤ 16 → Each1 (λ j. j < 16) js
     → swz_l w8 16 xs i js ≡ map (λ j. get_or xs j 0) js
 swz_l-below_16 xs i [] l h = refl
 swz_l-below_16 xs i (j ∷ js) l h =

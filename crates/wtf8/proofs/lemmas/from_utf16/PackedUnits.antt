@@ -144,7 +144,7 @@ packed_units-form b (x ∷ y ∷ u) a known f first last units = elim (tag_cases
   | trail l t ↦ absurd (first (l, t))
 ]
 
-Each1-take : (P : ℕ → Type 0) (k : ℕ) (u : List ℕ) → Each1 P u → Each1 P (take k u)
+pub Each1-take : (P : ℕ → Type 0) (k : ℕ) (u : List ℕ) → Each1 P u → Each1 P (take k u)
 Each1-take P zero u e = tt
 Each1-take P (suc k) [] e = tt
 Each1-take P (suc k) (x ∷ u) e = (e.0, Each1-take P k u e.1)

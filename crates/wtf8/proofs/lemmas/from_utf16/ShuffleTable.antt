@@ -34,11 +34,11 @@ IsPackingShuffle-table none number a b c d i j k l e =
     ap (λ n. take (a + b + c + d) (get_or SHUFFLES.now n none)) e ∙ same_text _ _ (sym (of_four (is_packing none) a b c d i j k l refl))
 
 -- whether each lane of each row is below 16
-abbrev rows_below : List (List ℕ) → Bool
+abbrev pub rows_below : List (List ℕ) → Bool
 rows_below [] = true
 rows_below (row ∷ rows) = all_below 16 row && rows_below rows
 
-Each1-all_below : (xs : List ℕ) → all_below 16 xs ≡ true → Each1 (λ lane. lane < 16) xs
+pub Each1-all_below : (xs : List ℕ) → all_below 16 xs ≡ true → Each1 (λ lane. lane < 16) xs
 Each1-all_below [] e = tt
 Each1-all_below (x ∷ xs) e = (ltb-true x 16 (and_parts _ _ e).0, Each1-all_below xs (and_parts _ _ e).1)
 

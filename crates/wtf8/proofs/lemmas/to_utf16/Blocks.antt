@@ -25,7 +25,7 @@ pub record DecodesRun (n : ℕ) (P : ℕ → Type 0) (f : List ℕ → ℕ) : Ty
   pub part : (p : ℕ) (r : List ℕ) → P (get_or (encoding p ++ r) 0 0) → DecodesUnit n f p r
   pub local : (b r : List ℕ) → n ≤ length b → f (b ++ r) ≡ f b
 
-abbrev lead_byte : List ℕ → ℕ
+abbrev pub lead_byte : List ℕ → ℕ
 lead_byte w = get_or w 0 0
 
 DecodesRun-one_byte : DecodesRun 1 (λ b. b / 128 ≡ 0) lead_byte

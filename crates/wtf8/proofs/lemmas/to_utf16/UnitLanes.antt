@@ -1,0 +1,318 @@
+-- The lanes that compute the units of a block.
+use Rattle.wtf8.proofs.Common.{◌≡◌, ℕ, zero, suc, ◌+◌, ◌-◌, ◌*◌, ◌/◌, ◌%◌, ◌^◌, ◌<◌, ◌≤◌, List, [], ◌∷◌, ◌++◌, Bool, true, false, length}
+use Rattle.wtf8.proofs.Common.{take, drop, get_or, map, cond, refl, sym, ap, ◌∙◌, subst, arith, Each1, Fits, w8, mask_l, top, sel_l, zip2, ltb, leb}
+use Rattle.wtf8.proofs.Common.{replicate, nat_tests, cases_lt, inl, inr, lt-ltb, le-ltb, le-leb, lt-leb, mask_l-mod, length-map, pick_l_whole}
+use Rattle.wtf8.proofs.Common.{tops_compared, eqb, eqb-true, IsTrue}
+use Rattle.std.proofs.lemmas.Simd.{zip2_splat_left}
+use lib.Lanes.{pick_l}
+use Rattle.std.specs.List.{range_with_len}
+use Rattle.wtf8.specs.private.UnitEnds.{by_position, bytes_one_before, bytes_two_before, bytes_three_before, low_byte, high_of_two}
+use Rattle.wtf8.specs.private.UnitEnds.{lead_or_none, high_byte, low_of_any, high_of_any}
+use Rattle.wtf8.specs.private.UnitEnds.{unit_at_end, ends_unit, ends_in_block, set_lanes, words, joined_words}
+
+-- The bytes before each byte.
+
+abbrev shuffled : List ℕ → List ℕ → List ℕ
+shuffled u js = pick_l 0 (u ++ replicate 32 0) js
+
+of_32 : (P : List ℕ → Type 0) (u : List ℕ) → length u ≡ 32 → P (pick_l 0 u (range_with_len 0 32)) → P u
+of_32 P u l p = subst P (pick_l_whole 0 u 32 l) p
+
+pub shuffled-one : (u : List ℕ) → length u ≡ 32 → shuffled u (32 ∷ range_with_len 0 31) ≡ bytes_one_before u
+shuffled-one u l = of_32 (λ u. shuffled u (32 ∷ range_with_len 0 31) ≡ bytes_one_before u) u l refl
+
+pub shuffled-two : (u : List ℕ) → length u ≡ 32 → shuffled u (32 ∷ 33 ∷ range_with_len 0 30) ≡ bytes_two_before u
+shuffled-two u l = of_32 (λ u. shuffled u (32 ∷ 33 ∷ range_with_len 0 30) ≡ bytes_two_before u) u l refl
+
+pub shuffled-three : (u : List ℕ) → length u ≡ 32 → shuffled u (32 ∷ 33 ∷ 34 ∷ range_with_len 0 29) ≡ bytes_three_before u
+shuffled-three u l = of_32 (λ u. shuffled u (32 ∷ 33 ∷ 34 ∷ range_with_len 0 29) ≡ bytes_three_before u) u l refl
+
+-- Operations on lanes of eight bits, and on one.
+
+abbrev flag : Bool → Bool
+flag t = top 7 (cond t 255 0)
+
+flag-same : (t : Bool) → flag t ≡ t
+flag-same true = refl
+flag-same false = refl
+
+abbrev are_less : List ℕ → List ℕ → List Bool
+are_less a b = map (top 7) (zip2 (λ a b. cond (ltb a b) 255 0) a b)
+
+abbrev are_at_least : ℕ → ℕ → List ℕ → List Bool
+are_at_least n k a = map (top 7) (zip2 (λ a b. cond (leb a b) 255 0) (replicate n k) a)
+
+abbrev add : List ℕ → List ℕ → List ℕ
+add = zip2 (λ a b. (a + b) % 256)
+
+abbrev times : ℕ → List ℕ → ℕ → List ℕ
+times n a k = zip2 (λ a b. a * b % 256) a (replicate n k)
+
+abbrev over : ℕ → List ℕ → ℕ → List ℕ
+over n a k = zip2 (λ a b. a / b) a (replicate n k)
+
+abbrev modulo : ℕ → List ℕ → ℕ → List ℕ
+modulo n a k = zip2 (λ a b. a % b) a (replicate n k)
+
+abbrev greater_lanes : List ℕ → List ℕ → List ℕ
+greater_lanes a b = sel_l (are_less a b) b a
+
+abbrev less_by : ℕ → List ℕ → ℕ → List ℕ
+less_by n a k = zip2 (λ a b. (a + (256 - b)) % 256) (greater_lanes a (replicate n k)) (replicate n k)
+
+less_by_lane : (k a : ℕ) → k < 256 → a < 256 → (cond (flag (ltb a k)) k a + (256 - k)) % 256 ≡ a - k
+less_by_lane k a l m = elim (cases_lt a k) [ inl h ↦ rw (lt-ltb a k h) (omega (arith, h, l)) | inr h ↦ rw (le-ltb a k h) (omega (arith, h, m)) ]
+
+abbrev lead_lanes : ℕ → List ℕ → List ℕ → List ℕ
+lead_lanes n one u = sel_l (are_less u (replicate n 0x80)) (replicate n 0) one
+
+abbrev pub low_lanes : ℕ → List ℕ → List ℕ → List ℕ
+low_lanes n one u = add (modulo n u 128) (times n (lead_lanes n one u) 64)
+
+low_lanes-by_position : (z y x : ℕ) (u : List ℕ)
+    → low_lanes (length u) (by_position (λ z y x b. x) z y x u) u ≡ by_position (λ z y x b. low_byte x b) z y x u
+low_lanes-by_position z y x [] = refl
+low_lanes-by_position z y x (b ∷ u) =
+    let here = ap (λ t. (b % 128 + cond t 0 x * 64 % 256) % 256) (flag-same (ltb b 128)) in
+    λ i. here i ∷ low_lanes-by_position y x b u i
+
+pub low_lanes-block : (u : List ℕ) → length u ≡ 32 → low_lanes 32 (bytes_one_before u) u ≡ by_position (λ z y x b. low_byte x b) 0 0 0 u
+low_lanes-block u l = subst (λ n. low_lanes n (bytes_one_before u) u ≡ by_position (λ z y x b. low_byte x b) 0 0 0 u) l
+    (low_lanes-by_position 0 0 0 u)
+
+abbrev pub high_of_two_lanes : ℕ → List ℕ → List ℕ → List ℕ
+high_of_two_lanes n one u = modulo n (over n (lead_lanes n one u) 4) 16
+
+high_of_two_lanes-by_position : (z y x : ℕ) (u : List ℕ)
+    → high_of_two_lanes (length u) (by_position (λ z y x b. x) z y x u) u ≡ by_position (λ z y x b. high_of_two x b) z y x u
+high_of_two_lanes-by_position z y x [] = refl
+high_of_two_lanes-by_position z y x (b ∷ u) =
+    let here = ap (λ t. cond t 0 x / 4 % 16) (flag-same (ltb b 128)) in
+    λ i. here i ∷ high_of_two_lanes-by_position y x b u i
+
+pub high_of_two_lanes-block : (u : List ℕ) → length u ≡ 32
+    → high_of_two_lanes 32 (bytes_one_before u) u ≡ by_position (λ z y x b. high_of_two x b) 0 0 0 u
+high_of_two_lanes-block u l = subst (λ n. high_of_two_lanes n (bytes_one_before u) u ≡ by_position (λ z y x b. high_of_two x b) 0 0 0 u) l
+    (high_of_two_lanes-by_position 0 0 0 u)
+
+abbrev pub high_lanes : ℕ → List ℕ → List ℕ → List ℕ
+high_lanes n two high = add high (times n (less_by n two 0xE0) 16)
+
+high_lanes-by_position : (z y x : ℕ) (u : List ℕ) → y < 256 → x < 256 → Each1 (Fits w8) u
+    → high_lanes (length u) (by_position (λ z y x b. y) z y x u) (by_position (λ z y x b. high_of_two x b) z y x u)
+    ≡ by_position (λ z y x b. high_byte y x b) z y x u
+high_lanes-by_position z y x [] l m f = refl
+high_lanes-by_position z y x (b ∷ u) l m f =
+    let less = less_by_lane 0xE0 y (omega arith) l in
+    λ i. (high_of_two x b + less i * 16 % 256) % 256 ∷ high_lanes-by_position y x b u m f.0.fits f.1 i
+
+pub high_lanes-block : (u : List ℕ) → length u ≡ 32 → Each1 (Fits w8) u
+    → high_lanes 32 (bytes_two_before u) (by_position (λ z y x b. high_of_two x b) 0 0 0 u)
+    ≡ by_position (λ z y x b. high_byte y x b) 0 0 0 u
+high_lanes-block u l f = subst (λ n. high_lanes n (bytes_two_before u) (by_position (λ z y x b. high_of_two x b) 0 0 0 u)
+    ≡ by_position (λ z y x b. high_byte y x b) 0 0 0 u) l (high_lanes-by_position 0 0 0 u (omega arith) (omega arith) f)
+
+abbrev pub any_low_lanes : ℕ → List ℕ → List ℕ → List ℕ → List ℕ
+any_low_lanes n two low high = sel_l (are_at_least n 0xF0 two) (add (over n low 16) (times n (less_by n high 4) 16)) low
+
+any_low_lane : (y low high : ℕ) → high < 256
+    → cond (flag (leb 0xF0 y)) ((low / 16 + (cond (flag (ltb high 4)) 4 high + (256 - 4)) % 256 * 16 % 256) % 256) low
+    ≡ cond (ltb y 0xF0) low ((low / 16 + (high - 4) * 16 % 256) % 256)
+any_low_lane y low high l = elim (cases_lt y 0xF0) [
+  | inl h ↦ rw (lt-leb 0xF0 y h, lt-ltb y 0xF0 h) refl
+  | inr h ↦ rw (le-leb 0xF0 y h, le-ltb y 0xF0 h) (λ i. (low / 16 + less_by_lane 4 high (omega arith) l i * 16 % 256) % 256)
+]
+
+any_low_lanes-by_position : (z y x : ℕ) (u : List ℕ)
+    → any_low_lanes (length u) (by_position (λ z y x b. y) z y x u) (by_position (λ z y x b. low_byte x b) z y x u)
+    (by_position (λ z y x b. high_byte y x b) z y x u) ≡ by_position (λ z y x b. low_of_any y x b) z y x u
+any_low_lanes-by_position z y x [] = refl
+any_low_lanes-by_position z y x (b ∷ u) =
+    let here = any_low_lane y (low_byte x b) (high_byte y x b) (omega arith) in
+    λ i. here i ∷ any_low_lanes-by_position y x b u i
+
+pub any_low_lanes-block : (u : List ℕ) → length u ≡ 32
+    → any_low_lanes 32 (bytes_two_before u) (by_position (λ z y x b. low_byte x b) 0 0 0 u) (by_position (λ z y x b. high_byte y x b) 0 0 0 u)
+    ≡ by_position (λ z y x b. low_of_any y x b) 0 0 0 u
+any_low_lanes-block u l = subst (λ n. any_low_lanes n (bytes_two_before u) (by_position (λ z y x b. low_byte x b) 0 0 0 u)
+    (by_position (λ z y x b. high_byte y x b) 0 0 0 u) ≡ by_position (λ z y x b. low_of_any y x b) 0 0 0 u) l
+    (any_low_lanes-by_position 0 0 0 u)
+
+abbrev pub any_high_lanes : ℕ → List ℕ → List ℕ → List ℕ → List ℕ
+any_high_lanes n two three high = sel_l (are_at_least n 0xF0 two) (add (replicate n 0xD8) (over n (less_by n high 4) 16))
+    (sel_l (are_at_least n 0xF0 three) (add (replicate n 0xDC) (modulo n high 4)) high)
+
+any_high_lane : (z y high : ℕ) → high < 256
+    → cond (flag (leb 0xF0 y)) ((0xD8 + (cond (flag (ltb high 4)) 4 high + (256 - 4)) % 256 / 16) % 256)
+    (cond (flag (leb 0xF0 z)) ((0xDC + high % 4) % 256) high)
+    ≡ cond (ltb y 0xF0) (cond (ltb z 0xF0) high ((0xDC + high % 4) % 256)) ((0xD8 + (high - 4) / 16) % 256)
+any_high_lane z y high l = elim (cases_lt y 0xF0) [
+  | inl h ↦ rw (lt-leb 0xF0 y h, lt-ltb y 0xF0 h) (elim (cases_lt z 0xF0) [
+    | inl k ↦ rw (lt-leb 0xF0 z k, lt-ltb z 0xF0 k) refl
+    | inr k ↦ rw (le-leb 0xF0 z k, le-ltb z 0xF0 k) refl
+  ])
+  | inr h ↦ rw (le-leb 0xF0 y h, le-ltb y 0xF0 h) (λ i. (0xD8 + less_by_lane 4 high (omega arith) l i / 16) % 256)
+]
+
+any_high_lanes-by_position : (z y x : ℕ) (u : List ℕ)
+    → any_high_lanes (length u) (by_position (λ z y x b. y) z y x u) (by_position (λ z y x b. z) z y x u)
+    (by_position (λ z y x b. high_byte y x b) z y x u) ≡ by_position high_of_any z y x u
+any_high_lanes-by_position z y x [] = refl
+any_high_lanes-by_position z y x (b ∷ u) =
+    let here = any_high_lane z y (high_byte y x b) (omega arith) in
+    λ i. here i ∷ any_high_lanes-by_position y x b u i
+
+pub any_high_lanes-block : (u : List ℕ) → length u ≡ 32
+    → any_high_lanes 32 (bytes_two_before u) (bytes_three_before u) (by_position (λ z y x b. high_byte y x b) 0 0 0 u)
+    ≡ by_position high_of_any 0 0 0 u
+any_high_lanes-block u l = subst (λ n. any_high_lanes n (bytes_two_before u) (bytes_three_before u) (by_position (λ z y x b. high_byte y x b) 0 0 0 u)
+    ≡ by_position high_of_any 0 0 0 u) l (any_high_lanes-by_position 0 0 0 u)
+
+-- without lead bytes of three or four bytes, and of four, the bytes of units are those of shorter ones
+pub high_byte-short : (z y x : ℕ) (u : List ℕ) → y < 0xE0 → x < 0xE0 → Each1 (λ b. b < 0xE0) u
+    → by_position (λ z y x b. high_of_two x b) z y x u ≡ by_position (λ z y x b. high_byte y x b) z y x u
+high_byte-short z y x [] l m e = refl
+high_byte-short z y x (b ∷ u) l m e =
+    let none : y - 0xE0 ≡ 0 = omega (arith, l) in
+    let here : high_of_two x b ≡ high_byte y x b = omega (arith, none) in
+    λ i. here i ∷ high_byte-short y x b u m e.0 e.1 i
+
+pub low_of_any-short : (z y x : ℕ) (u : List ℕ) → y < 0xF0 → x < 0xF0 → Each1 (λ b. b < 0xF0) u
+    → by_position (λ z y x b. low_byte x b) z y x u ≡ by_position (λ z y x b. low_of_any y x b) z y x u
+low_of_any-short z y x [] l m e = refl
+low_of_any-short z y x (b ∷ u) l m e =
+    let here : low_byte x b ≡ low_of_any y x b = rw (lt-ltb y 0xF0 l) refl in
+    λ i. here i ∷ low_of_any-short y x b u m e.0 e.1 i
+
+pub high_of_any-short : (z y x : ℕ) (u : List ℕ) → z < 0xF0 → y < 0xF0 → x < 0xF0 → Each1 (λ b. b < 0xF0) u
+    → by_position (λ z y x b. high_byte y x b) z y x u ≡ by_position high_of_any z y x u
+high_of_any-short z y x [] k l m e = refl
+high_of_any-short z y x (b ∷ u) k l m e =
+    let here : high_byte y x b ≡ high_of_any z y x b = rw (lt-ltb y 0xF0 l, lt-ltb z 0xF0 k) refl in
+    λ i. here i ∷ high_of_any-short y x b u l m e.0 e.1 i
+
+-- The mask of the positions at which a unit ends.
+
+abbrev ends_mask : List ℕ → ℕ → ℕ
+ends_mask lanes n = mask_l (are_less lanes (replicate n 0x80)) % 2 ^ 64
+
+abbrev short_end_lanes : ℕ → List ℕ → List ℕ → List ℕ
+short_end_lanes n one u = greater_lanes (less_by n u 0x40) (less_by n one 0x60)
+
+short_end_lane : ℕ → ℕ → Bool
+short_end_lane x b =
+    let own = (cond (flag (ltb b 0x40)) 0x40 b + (256 - 0x40)) % 256 in
+    let before = (cond (flag (ltb x 0x60)) 0x60 x + (256 - 0x60)) % 256 in
+    flag (ltb (cond (flag (ltb own before)) before own) 0x80)
+
+short_end_lane-ends : (y x b : ℕ) (w : List ℕ) → y < 0xF0 → x < 256 → b < 256 → short_end_lane x b ≡ ends_in_block y x b w
+unfolding short_end_lane
+short_end_lane-ends y x b [] l m k = grind (arith, nat_tests, cases_lt)
+short_end_lane-ends y x b (c ∷ w) l m k = grind (arith, nat_tests, cases_lt)
+
+short_end_lanes-by_position : (z y x : ℕ) (u : List ℕ) → y < 0xF0 → x < 0xF0 → Each1 (λ b. b < 0xF0) u
+    → are_less (short_end_lanes (length u) (by_position (λ z y x b. x) z y x u) u) (replicate (length u) 0x80) ≡ set_lanes y x u
+unfolding short_end_lane
+short_end_lanes-by_position z y x [] l m e = refl
+short_end_lanes-by_position z y x (b ∷ u) l m e =
+    let here = short_end_lane-ends y x b u l (omega (arith, m)) (omega (arith, e.0)) in
+    λ i. here i ∷ short_end_lanes-by_position y x b u m e.0 e.1 i
+
+pub length-set_lanes : (y x : ℕ) (u : List ℕ) → length (set_lanes y x u) ≡ length u
+length-set_lanes y x [] = refl
+length-set_lanes y x (b ∷ u) = ap suc (length-set_lanes x b u)
+
+-- the mask of up to 64 lanes
+mask-set_lanes : (lanes : List Bool) (u : List ℕ) → length u ≡ 32 → lanes ≡ set_lanes 0 0 u → mask_l lanes % 2 ^ 64 ≡ mask_l (set_lanes 0 0 u)
+mask-set_lanes lanes u l e =
+    ap (λ s. mask_l s % 2 ^ 64) e ∙ mask_l-mod (set_lanes 0 0 u) 64 (omega (arith, length-set_lanes 0 0 u, l))
+
+pub short_ends-mask : (u : List ℕ) → length u ≡ 32 → Each1 (λ b. b < 0xF0) u
+    → ends_mask (short_end_lanes 32 (bytes_one_before u) u) 32 ≡ mask_l (set_lanes 0 0 u)
+short_ends-mask u l e = mask-set_lanes _ u l (subst (λ n. are_less (short_end_lanes n (bytes_one_before u) u) (replicate n 0x80) ≡ set_lanes 0 0 u) l
+    (short_end_lanes-by_position 0 0 0 u (omega arith) (omega arith) e))
+
+-- 255 in the last of `n` lanes
+abbrev last_lane : ℕ → List ℕ
+last_lane zero = []
+last_lane (suc zero) = 255 ∷ []
+last_lane (suc (suc n)) = 0 ∷ last_lane (suc n)
+
+abbrev lesser_lanes : List ℕ → List ℕ → List ℕ
+lesser_lanes a b = sel_l (are_less a b) a b
+
+abbrev any_end_lanes : ℕ → List ℕ → List ℕ → List ℕ → List ℕ
+any_end_lanes n one two u = greater_lanes (short_end_lanes n one u) (lesser_lanes (less_by n two 0x70) (last_lane n))
+
+any_end_lane : ℕ → ℕ → ℕ → ℕ → Bool
+any_end_lane y x b last =
+    let own = (cond (flag (ltb b 0x40)) 0x40 b + (256 - 0x40)) % 256 in
+    let one = (cond (flag (ltb x 0x60)) 0x60 x + (256 - 0x60)) % 256 in
+    let two = (cond (flag (ltb y 0x70)) 0x70 y + (256 - 0x70)) % 256 in
+    let both = cond (flag (ltb own one)) one own in
+    let cut = cond (flag (ltb two last)) two last in
+    flag (ltb (cond (flag (ltb both cut)) cut both) 0x80)
+
+any_end_lane-inner : (y x b c : ℕ) (w : List ℕ) → y < 256 → x < 256 → b < 256 → any_end_lane y x b 0 ≡ ends_in_block y x b (c ∷ w)
+unfolding any_end_lane
+any_end_lane-inner y x b c w l m k = grind (arith, nat_tests, cases_lt)
+
+any_end_lane-last : (y x b : ℕ) → y < 256 → x < 256 → b < 256 → any_end_lane y x b 255 ≡ ends_in_block y x b []
+unfolding any_end_lane
+any_end_lane-last y x b l m k = grind (arith, nat_tests, cases_lt)
+
+any_end_lanes-by_position : (z y x : ℕ) (u : List ℕ) → y < 256 → x < 256 → Each1 (Fits w8) u
+    → are_less (any_end_lanes (length u) (by_position (λ z y x b. x) z y x u) (by_position (λ z y x b. y) z y x u) u)
+    (replicate (length u) 0x80) ≡ set_lanes y x u
+unfolding any_end_lane
+any_end_lanes-by_position z y x [] l m f = refl
+any_end_lanes-by_position z y x (b ∷ []) l m f = λ i. any_end_lane-last y x b l m f.0.fits i ∷ []
+any_end_lanes-by_position z y x (b ∷ c ∷ u) l m f =
+    let more = any_end_lanes-by_position y x b (c ∷ u) m f.0.fits f.1 in
+    λ i. any_end_lane-inner y x b c u l m f.0.fits i ∷ more i
+
+pub any_ends-mask : (u : List ℕ) → length u ≡ 32 → Each1 (Fits w8) u
+    → ends_mask (any_end_lanes 32 (bytes_one_before u) (bytes_two_before u) u) 32 ≡ mask_l (set_lanes 0 0 u)
+any_ends-mask u l f = mask-set_lanes _ u l
+    (subst (λ n. are_less (any_end_lanes n (bytes_one_before u) (bytes_two_before u) u) (replicate n 0x80) ≡ set_lanes 0 0 u) l
+    (any_end_lanes-by_position 0 0 0 u (omega arith) (omega arith) f))
+
+below_all : (k : ℕ) (xs : List ℕ) → mask_l (map (leb k) xs) ≡ 0 → Each1 (λ b. b < k) xs
+below_all k [] e = tt
+below_all k (x ∷ xs) e = elim (cases_lt x k) [
+  | inl l ↦ (l, below_all k xs (omega (arith, e)))
+  | inr g ↦ absurd (omega (arith, rw (le-leb k x g) at e))
+]
+
+-- if the mask of the bytes from `k` on is 0, all are below `k`
+pub below_if_none : (k : ℕ) (xs : List ℕ) → length xs ≡ 32 → IsTrue (eqb (mask_l (are_at_least 32 k xs) % 2 ^ 64) 0) → Each1 (λ b. b < k) xs
+below_if_none k xs long t =
+    let lanes = tops_compared w8 leb (replicate 32 k) xs ∙ zip2_splat_left leb k 32 xs long in
+    below_all k xs (sym (mask_l-mod (map (leb k) xs) 64 (omega (arith, length-map xs (leb k), long)))
+    ∙ (ap (λ ms. mask_l ms % 2 ^ 64) (sym lanes) ∙ eqb-true _ 0 t))
+
+-- The words of eight positions each.
+
+-- the indexes of the low and the high bytes of `n` positions from `k` on
+abbrev interleaved : ℕ → ℕ → List ℕ
+interleaved k zero = []
+interleaved k (suc n) = k ∷ (32 + k) ∷ interleaved (suc k) n
+
+abbrev words_from : ℕ → List ℕ → List ℕ → List ℕ
+words_from k low high = words (pick_l 0 (low ++ high) (interleaved k 8))
+
+-- the words that four shuffles interleave are all words, by eight
+pub record AreAllWords (low high : List ℕ) : Type 0 where
+  pub first : words_from 0 low high ≡ take 8 (joined_words low high)
+  pub second : words_from 8 low high ≡ take 8 (drop 8 (joined_words low high))
+  pub third : words_from 16 low high ≡ take 8 (drop 8 (drop 8 (joined_words low high)))
+  pub fourth : words_from 24 low high ≡ drop 8 (drop 8 (drop 8 (joined_words low high)))
+
+pub all_words : (low high : List ℕ) → length low ≡ 32 → length high ≡ 32 → AreAllWords low high
+all_words low high l m = of_32 (λ a. AreAllWords a high) low l (of_32 (λ b. AreAllWords (pick_l 0 low (range_with_len 0 32)) b) high m
+    (record { first = refl; second = refl; third = refl; fourth = refl }))
+
+pub joined_words-by_position : (z y x : ℕ) (u : List ℕ)
+    → joined_words (by_position (λ z y x b. low_of_any y x b) z y x u) (by_position high_of_any z y x u) ≡ by_position unit_at_end z y x u
+joined_words-by_position z y x [] = refl
+joined_words-by_position z y x (b ∷ u) = λ i. unit_at_end z y x b ∷ joined_words-by_position y x b u i
