@@ -1,7 +1,7 @@
 -- The words of a line that were parsed so far.
 use Rattle.std.proofs.Common.{◌≡◌, ℕ, List, [], ◌∷◌, ◌++◌, sym, ◌∙◌, append_assoc}
 use Rattle.std.specs.List.{AllZip}
-use Rattle.wtf8.specs.declared.strings.build.Build.{Build}
+use Rattle.wtf8.specs.declared.buffers.build.Build.{Build}
 use Rattle.dump_lines.specs.Lines.{words}
 use Rattle.dump_lines.specs.Word.{IsCall}
 use Rattle.dump_lines.proofs.Outputs.{AllZip-push_pair}

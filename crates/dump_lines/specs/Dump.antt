@@ -5,7 +5,7 @@ use Rattle.std.specs.List.{Any, AllZip, flat_map}
 use Rattle.wtf8.specs.Building.{Run}
 use Rattle.wtf8.specs.Form.{IsForm}
 use Rattle.wtf8.specs.Hex.{hex}
-use Rattle.wtf8.specs.declared.strings.build.Build.{Build}
+use Rattle.wtf8.specs.declared.buffers.build.Build.{Build}
 use Rattle.dump_lines.specs.Lines.{lines, words}
 use Rattle.dump_lines.specs.Word.{IsCall, IsNoCall}
 

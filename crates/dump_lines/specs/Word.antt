@@ -4,8 +4,8 @@ use Rattle.std.specs.List.{list_all}
 use Rattle.std.specs.Char.{is_digit}
 use Rattle.std.specs.Str.Parse.{digits_value}
 use Rattle.wtf8.specs.CodePoint.{number}
-use Rattle.wtf8.specs.declared.strings.build.Build.{Build}
-use Rattle.wtf8.specs.declared.strings.build.Build.TheVariants.{Push, Truncate, TruncateUnits}
+use Rattle.wtf8.specs.declared.buffers.build.Build.{Build}
+use Rattle.wtf8.specs.declared.buffers.build.Build.TheVariants.{Push, Truncate, TruncateUnits}
 
 -- The value of a word in a base, with letters of either case as digits, or `None` if a byte is no digit of that base.
 abbrev pub number_in : ℕ → List ℕ → Option ℕ

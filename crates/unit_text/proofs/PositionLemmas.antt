@@ -10,7 +10,7 @@ use Rattle.wtf8.specs.UnitMark.{IsMark, EqualCountsAreMarks, MarksStayInFront, M
 use Rattle.wtf8.specs.UnitString.{UnitString}
 use Rattle.wtf8.specs.View.{view_units, view_form}
 use Rattle.wtf8.specs.declared.strings.view.Wtf8.{Wtf8}
-use Rattle.wtf8.specs.declared.strings.unit_marks.UnitMark.{UnitMark}
+use Rattle.wtf8.specs.declared.units.marks.UnitMark.{UnitMark}
 use Rattle.unit_text.specs.Marks.{AreEnough, AreKept, AreMarks, spacing}
 
 -- if no mark is missing, a mark at or before `position` has at most `spacing + 1` units more than the kept mark of index

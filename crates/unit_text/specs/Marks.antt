@@ -1,7 +1,7 @@
 -- The marks that a text keeps.
 use Rattle.std.specs.Prelude.{◌≢◌, ℕ, ◌+◌, ◌*◌, ◌<◌, ◌≤◌, List, length, slice_index_or}
 use Rattle.wtf8.specs.UnitMark.{IsMark}
-use Rattle.wtf8.specs.declared.strings.unit_marks.UnitMark.{UnitMark}
+use Rattle.wtf8.specs.declared.units.marks.UnitMark.{UnitMark}
 
 -- The number of units from one mark to the next.
 abbrev pub spacing : ℕ

@@ -54,9 +54,9 @@ pub use Rattle.wtf8.specs.UnitString.{UnitString}
 pub use Rattle.wtf8.specs.Units.{unread_units, Unread}
 pub use Rattle.wtf8.specs.View.{view_units, view_form, view_points}
 pub use Rattle.wtf8.specs.declared.codec.code_point.CodePoint.{CodePoint}
-pub use Rattle.wtf8.specs.declared.strings.build.Build.{Build}
-pub use Rattle.wtf8.specs.declared.strings.build.Build.TheVariants.{Reserve, Truncate, TruncateUnits}
-pub use Rattle.wtf8.specs.declared.strings.unit_counts.UnitCursor.{UnitCursor}
+pub use Rattle.wtf8.specs.declared.buffers.build.Build.{Build}
+pub use Rattle.wtf8.specs.declared.buffers.build.Build.TheVariants.{Reserve, Truncate, TruncateUnits}
+pub use Rattle.wtf8.specs.declared.units.counts.UnitCursor.{UnitCursor}
 pub use Rattle.wtf8.specs.declared.strings.view.Wtf8.{Wtf8}
 pub use Rattle.wtf8.specs.private.Decoding.{point_of_item, decode_steps, ReadsAll}
 pub use Rattle.wtf8.specs.private.EncodedBytes.{ExtendsForm, ExtendsFormOrKeeps, BeginsWithPoint, FirstPointByLead, FirstPointIs}

@@ -5,4 +5,4 @@ pub mod codec
 pub mod strings
 pub mod formatting
 pub mod from_utf16
-pub mod to_utf16
+pub mod units

@@ -8,8 +8,8 @@ use Rattle.wtf8.specs.View.{view_units}
 use Rattle.wtf8.specs.Appending.{FitWithin}
 use Rattle.wtf8.specs.Position.{IsBoundary, IsFront}
 use Rattle.wtf8.specs.UnitPosition.{TruncatesUnits}
-use Rattle.wtf8.specs.declared.strings.build.Build.{Build}
-use Rattle.wtf8.specs.declared.strings.build.Build.TheVariants.{Push, PushChar, PushStr, PushWtf8, Extend, Reserve, Truncate, TruncateUnits}
+use Rattle.wtf8.specs.declared.buffers.build.Build.{Build}
+use Rattle.wtf8.specs.declared.buffers.build.Build.TheVariants.{Push, PushChar, PushStr, PushWtf8, Extend, Reserve, Truncate, TruncateUnits}
 
 -- Truncating `u` at a boundary `k` leaves the units `v` before it, and `r` is 0; else `v` is `u` and `r` is 1: refused.
 abbrev pub Truncates : List ℕ → ℕ → List ℕ → ℕ → Type 0

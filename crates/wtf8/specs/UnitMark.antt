@@ -5,7 +5,7 @@ use Rattle.wtf8.specs.Position.{IsFront}
 use Rattle.wtf8.specs.UnitPosition.{DividesPair}
 use Rattle.wtf8.specs.View.{view_units}
 use Rattle.wtf8.specs.declared.strings.view.Wtf8.{Wtf8}
-use Rattle.wtf8.specs.declared.strings.unit_marks.UnitMark.{UnitMark}
+use Rattle.wtf8.specs.declared.units.marks.UnitMark.{UnitMark}
 
 -- Byte position `k` is a mark of `n` units: the bytes before it are the form of the first `n` units, and the bytes
 -- after it the form of the rest (WTF-8, "Converting between WTF-8 and potentially ill-formed UTF-16").

@@ -3,7 +3,7 @@ use Rattle.std.specs.Prelude.{◌≡◌, ℕ, ◌<◌, ◌≤◌, ◌⊎◌, Lis
 use Rattle.std.specs.Option.{option_to_list}
 use Rattle.wtf8.specs.Concatenation.{MeetsAsPair}
 use Rattle.wtf8.specs.View.{view_units}
-use Rattle.wtf8.specs.declared.strings.unit_slices.UnitSlice.{UnitSlice}
+use Rattle.wtf8.specs.declared.units.slices.UnitSlice.{UnitSlice}
 
 -- The trail of a pair cut at a slice's start, if any, the units of whole code points, the lead of one cut at its end.
 abbrev pub units_of_slice : UnitSlice → List ℕ

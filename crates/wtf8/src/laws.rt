@@ -31,11 +31,11 @@ ghost use Rattle.wtf8.specs.Unicode.{IsLead, IsTrail};
 ghost use Rattle.wtf8.specs.UnitPosition.{DividesPair};
 ghost use Rattle.wtf8.specs.View.{view_points, view_units};
 
+use crate::buffers::buf::Wtf8Buf;
+use crate::buffers::build::Build;
 use crate::codec::code_point::CodePoint;
-use crate::strings::buf::Wtf8Buf;
-use crate::strings::build::Build;
-use crate::strings::unit_marks::UnitMark;
 use crate::strings::view::Wtf8;
+use crate::units::marks::UnitMark;
 use std::alloc::Allocator;
 use std::cmp::Ordering;
 

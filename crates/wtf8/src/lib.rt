@@ -1,6 +1,7 @@
 //! WTF-8 strings: text that holds any 16-bit units.
 #![tactic(auto)]
 
+mod buffers;
 mod codec;
 mod comparing;
 mod formatting;
@@ -8,13 +9,13 @@ mod from_utf16;
 mod lanes;
 pub mod laws;
 mod strings;
-mod to_utf16;
+mod units;
 mod vec;
 
+pub use buffers::buf::Wtf8Buf;
+pub use buffers::build::{Build, Stopped};
 pub use codec::code_point::CodePoint;
-pub use strings::buf::Wtf8Buf;
-pub use strings::build::{Build, Stopped};
 pub use strings::iters::{IllFormedUtf16CodeUnits, Wtf8CodePoints};
-pub use strings::unit_marks::UnitMark;
-pub use strings::unit_slices::UnitSlice;
 pub use strings::view::Wtf8;
+pub use units::marks::UnitMark;
+pub use units::slices::UnitSlice;

@@ -5,5 +5,3 @@ pub mod Positions
 pub mod PushedUnits
 pub mod StringLaws
 pub mod Surrogates
-pub mod UnitCuts
-pub mod UnitMarks

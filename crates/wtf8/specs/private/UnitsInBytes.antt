@@ -4,7 +4,7 @@ use Rattle.std.specs.List.{sum_by}
 use Rattle.wtf8.specs.Form.{IsWellFormed}
 use Rattle.wtf8.specs.Unicode.{units_of}
 use Rattle.wtf8.specs.Units.{Unread, unread_units}
-use Rattle.wtf8.specs.declared.strings.unit_counts.UnitCursor.{UnitCursor}
+use Rattle.wtf8.specs.declared.units.counts.UnitCursor.{UnitCursor}
 
 -- The number of units of a code point by its lead byte; 0 for a continuation byte (Unicode 3.9, "UTF-8", Table 3-6).
 unfoldable pub utf16_len : ℕ → ℕ

@@ -1,8 +1,8 @@
-// Code points.
-ghost use Rattle.std.specs.Prelude.{◌≡◌, ◌≤◌, ◌↔◌, length, IsSome, IfSome, IsNone};
+// Code points, and the surrogates among them: their ranges, and the supplementary code point of a pair.
+ghost use Rattle.std.specs.Prelude.{◌≡◌, ◌≤◌, ◌↔◌, length, IsSome, IfSome, IsNone, IsTrue};
 ghost use Rattle.wtf8.specs.Form.{encoding};
 ghost use Rattle.wtf8.specs.Surrogates.{replace_surrogate};
-ghost use Rattle.wtf8.specs.Unicode.{IsCodePoint, IsSurrogate};
+ghost use Rattle.wtf8.specs.Unicode.{IsCodePoint, IsSurrogate, IsLead, IsTrail, pair};
 
 /// A Unicode code point: a number from 0 to 0x10FFFF, surrogates included.
 ///
@@ -94,4 +94,35 @@ impl CodePoint {
     {
         self.to_char().unwrap_or('\u{FFFD}')
     }
+}
+
+pub(crate) const FIRST_LEAD: u16 = 0xD800;
+
+pub(crate) const LAST_LEAD: u16 = 0xDBFF;
+
+pub(crate) const FIRST_TRAIL: u16 = 0xDC00;
+
+pub(crate) const LAST_TRAIL: u16 = 0xDFFF;
+
+/// The number of lead surrogates, and of trail surrogates.
+pub(crate) const SURROGATES_PER_HALF: u16 = 0x400;
+
+pub(crate) const FIRST_SUPPLEMENTARY: u32 = 0x10000;
+
+#[inline(always)]
+pub(crate) fn is_trail(value: u32) -> bool
+    ensures { IsTrue result ↔ IsTrail value }
+{
+    FIRST_TRAIL as u32 <= value && value <= LAST_TRAIL as u32
+}
+
+/// The supplementary code point of a surrogate pair. The remainders tell the compiler that the result is in range.
+#[inline(always)]
+pub(crate) fn code_point_of_pair(lead: u32, trail: u32) -> u32
+    requires lead { IsLead lead }
+    requires trail { IsTrail trail }
+    ensures { result ≡ pair lead trail }
+{
+    let per_half = SURROGATES_PER_HALF as u32;
+    FIRST_SUPPLEMENTARY + lead % per_half * per_half + trail % per_half
 }

@@ -7,7 +7,7 @@ ghost use Rattle.wtf8.specs.Unicode.{IsCodePoint, IsLead};
 ghost use Rattle.wtf8.specs.private.UnitsInBytes.{trail_from_bytes};
 
 use crate::codec::code_point::CodePoint;
-use crate::vec::capacity::{reserve_if_short, spare_capacity};
+use crate::vec::{reserve_if_short, spare_capacity};
 use std::alloc::{AllocError, Allocator};
 
 #[inline(always)]

@@ -1,4 +1,3 @@
-// Code points, surrogate arithmetic, and the encoding of one code point.
+// Code points and surrogates, and the encoding of one code point.
 pub(crate) mod code_point;
 pub(crate) mod encoding;
-pub(crate) mod surrogates;

@@ -11,8 +11,8 @@ ghost use Rattle.std.specs.Prelude.{◌≡◌, ◌↔◌, ◌∷◌, nat_eq, IsT
 ghost use Rattle.wtf8.specs.Order.{Before};
 ghost use Rattle.wtf8.specs.View.{view_points, view_units};
 
+use crate::buffers::buf::Wtf8Buf;
 use crate::lanes::memcmp;
-use crate::strings::buf::Wtf8Buf;
 use crate::strings::view::Wtf8;
 use std::alloc::Allocator;
 use std::cmp::Ordering;

@@ -8,9 +8,9 @@ ghost use Rattle.wtf8.specs.View.{view_points};
 ghost use Rattle.wtf8.specs.Hex.{digit};
 ghost use Rattle.wtf8.specs.Unicode.{IsCodePoint};
 
+use crate::buffers::buf::Wtf8Buf;
 use crate::codec::code_point::CodePoint;
-use crate::formatting::hex_digits;
-use crate::strings::buf::Wtf8Buf;
+use crate::formatting::hex_dump;
 use crate::strings::view::Wtf8;
 use std::alloc::Allocator;
 use std::fmt;
@@ -19,7 +19,7 @@ fn write_hex_digit<W: fmt::Write>(value: u32, f: &mut fmt::Formatter<W>) -> fmt:
     requires { value < 16 }
     ensures { WritesStyledOnOk W.write_str_gives f.old result (digit value ∷ []) f.new }
 {
-    f.write_char(hex_digits::upper_digit(value as u8))
+    f.write_char(hex_dump::upper_digit(value as u8))
 }
 
 /// Writes the last four hexadecimal digits of a number, zeros included.

@@ -6,7 +6,7 @@ ghost use Rattle.wtf8.specs.Form.{bytes};
 ghost use Rattle.wtf8.specs.Surrogates.{lossy_points};
 ghost use Rattle.wtf8.specs.View.{view_points};
 
-use crate::strings::buf::Wtf8Buf;
+use crate::buffers::buf::Wtf8Buf;
 use crate::strings::view::Wtf8;
 use std::alloc::Allocator;
 use std::fmt;

@@ -8,8 +8,9 @@ ghost use Rattle.wtf8.specs.Form.{Reads};
 ghost use Rattle.wtf8.specs.Unicode.{IsCodePoint, IsLead, IsTrail, IsSurrogate, pair};
 ghost use Rattle.wtf8.specs.UnitPosition.{DividesPair};
 
-use crate::codec::code_point::CodePoint;
-use crate::codec::surrogates::{self, FIRST_LEAD, LAST_LEAD, LAST_TRAIL};
+use crate::codec::code_point::{
+    CodePoint, FIRST_LEAD, LAST_LEAD, LAST_TRAIL, code_point_of_pair, is_trail,
+};
 use std::iter::Ahead;
 
 /// Decodes the units that an iterator yields: each item is `Ok` of a `char` or `Err` of a lone surrogate.
@@ -38,7 +39,7 @@ pub(crate) struct DecodeUtf16<I> {
 fn is_trail_unit(unit: &u16) -> bool
     ensures { IsTrue result ↔ IsTrail unit.now }
 {
-    surrogates::is_trail(u32::from(*unit))
+    is_trail(u32::from(*unit))
 }
 
 #[inline(always)]
@@ -54,9 +55,7 @@ fn char_of_pair(lead: u16, trail: u16) -> char
     requires trail { IsTrail trail }
     ensures { result ≡ pair lead trail }
 {
-    unsafe {
-        char::from_u32_unchecked(surrogates::code_point_of_pair(u32::from(lead), u32::from(trail)))
-    }
+    unsafe { char::from_u32_unchecked(code_point_of_pair(u32::from(lead), u32::from(trail))) }
 }
 
 impl<I: Iterator<Item = u16>> Iterator for DecodeUtf16<I> {

@@ -22,7 +22,7 @@ ghost use Rattle.wtf8.specs.Unicode.{IsLead, IsUnit};
 ghost use Rattle.wtf8.specs.private.Prefixes.{AreScalarUnits, HasRoomFrom, IsKnownForm, ReadsOn};
 ghost use Rattle.wtf8.specs.private.PackedUnits.{tagged_units, tagged_block, scalar_head, scalar_last_byte, three_byte_flag, byte_lanes, units_table_index, AreUnitBytes, packed_units};
 
-use crate::codec::surrogates::{FIRST_LEAD, FIRST_TRAIL, SURROGATES_PER_HALF};
+use crate::codec::code_point::{FIRST_LEAD, FIRST_TRAIL, SURROGATES_PER_HALF};
 use crate::from_utf16::shuffle_table;
 use std::alloc::{AllocError, Allocator};
 use std::simd::prelude::*;

@@ -8,7 +8,7 @@ use crate::codec::encoding;
 use crate::from_utf16::decode;
 use crate::from_utf16::kernel::{self, LAST_UNITS, MIN_SPARE, Progress};
 use crate::lanes::ascii::ascii_run_len;
-use crate::vec::capacity::spare_capacity;
+use crate::vec::spare_capacity;
 use std::alloc::{AllocError, Allocator};
 use std::simd::prelude::*;
 

@@ -2,7 +2,7 @@
 ghost use Rattle.std.specs.Prelude.{◌*◌, ◌≤◌, length, take, IsTrue};
 ghost use Rattle.wtf8.specs.private.Prefixes.{AreAscii};
 
-use crate::lanes::masks::first_set_lane;
+use crate::lanes::first_set_lane;
 use std::simd::prelude::*;
 
 #[inline(always)]

@@ -4,8 +4,7 @@ ghost use Rattle.std.specs.Ordering.{nat_cmp};
 ghost use Rattle.std.specs.Prelude.{◌≡◌, ◌+◌, ◌*◌, ◌<◌, ◌≤◌, min, length, slice_get, nat_eq};
 ghost use Rattle.wtf8.specs.private.Search.{IsFirstIn, NoneIn, DifferAt, IsMismatch, DecidesNone};
 
-use crate::lanes::masks::lowest_set_lane;
-use crate::lanes::{BLOCK, STRIDE, VECTOR};
+use crate::lanes::{BLOCK, STRIDE, VECTOR, lowest_set_lane};
 use std::cmp::Ordering;
 use std::simd::prelude::*;
 

@@ -2,7 +2,7 @@
 ghost use Rattle.std.specs.Prelude.{◌+◌, ◌<◌, length};
 ghost use Rattle.wtf8.specs.private.Search.{IsFirst, IsFirstIn, SurrogateAt, SurrogateInLane};
 
-use crate::lanes::masks::first_set_lane;
+use crate::lanes::first_set_lane;
 use std::simd::prelude::*;
 
 /// The least lane that is 0xED in `firsts` and at least 0xA0 in `seconds`: the first two bytes of a surrogate.

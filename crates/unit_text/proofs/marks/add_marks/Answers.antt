@@ -1,6 +1,6 @@
 use Rattle.std.proofs.Common.{◌+◌, ◌*◌, ◌<◌, length, length-append, ap, arith}
 use Rattle.wtf8.specs.View.{view_units}
-use Rattle.wtf8.specs.declared.strings.unit_marks.UnitMark.{UnitMark}
+use Rattle.wtf8.specs.declared.units.marks.UnitMark.{UnitMark}
 use Rattle.unit_text.proofs.MarkLemmas.{IsKept-mark_at, AreKept-push}
 use Rattle.unit_text.proofs.marks.add_marks.Goals as goal
 

@@ -1,6 +1,6 @@
 use Rattle.wtf8.proofs.Common.{refl, view_units, view_form}
 use Rattle.wtf8.proofs.lemmas.strings.PositionLaws.{none_is_beyond}
-use Rattle.wtf8.proofs.lemmas.strings.UnitMarks.{same_front, boundary_divides_none, boundary_is_mark, front_is_first_units}
+use Rattle.wtf8.proofs.lemmas.units.UnitMarks.{same_front, boundary_divides_none, boundary_is_mark, front_is_first_units}
 use Rattle.wtf8.proofs.laws.law_boundary.Goals as goal
 
 pub returns : goal.returns

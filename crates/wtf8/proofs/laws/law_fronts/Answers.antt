@@ -1,4 +1,4 @@
-use Rattle.wtf8.proofs.lemmas.strings.UnitMarks.{same_front, boundaries_in_order, boundary_divides_none, boundary_is_mark}
+use Rattle.wtf8.proofs.lemmas.units.UnitMarks.{same_front, boundaries_in_order, boundary_divides_none, boundary_is_mark}
 use Rattle.wtf8.proofs.laws.law_fronts.Goals as goal
 
 pub returns : goal.returns

@@ -1,6 +1,6 @@
 use Rattle.wtf8.proofs.Common.{view_units, view_form, take, drop, IsFront, IsBack, arith}
 use Rattle.wtf8.proofs.lemmas.strings.Positions.{cut_by, front_unique, back_unique}
-use Rattle.wtf8.proofs.lemmas.strings.UnitMarks.{cut_of, mark_divides_none, same_mark, marks_in_order, mark_found_again}
+use Rattle.wtf8.proofs.lemmas.units.UnitMarks.{cut_of, mark_divides_none, same_mark, marks_in_order, mark_found_again}
 use Rattle.wtf8.proofs.laws.law_mark.Goals as goal
 
 pub returns : goal.returns

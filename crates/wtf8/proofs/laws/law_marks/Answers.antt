@@ -1,5 +1,5 @@
-use Rattle.wtf8.proofs.lemmas.strings.UnitMarks.{equal_counts, marks_stay, marks_stay_in_front, mark_divides_none, same_mark}
-use Rattle.wtf8.proofs.lemmas.strings.UnitMarks.{marks_in_order, mark_found_again}
+use Rattle.wtf8.proofs.lemmas.units.UnitMarks.{equal_counts, marks_stay, marks_stay_in_front, mark_divides_none, same_mark}
+use Rattle.wtf8.proofs.lemmas.units.UnitMarks.{marks_in_order, mark_found_again}
 use Rattle.wtf8.proofs.laws.law_marks.Goals as goal
 
 pub returns : goal.returns

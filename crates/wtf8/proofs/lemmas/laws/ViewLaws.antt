@@ -22,7 +22,7 @@ use Rattle.wtf8.proofs.lemmas.strings.Concatenation.{form_paired, glue_meeting, 
 use Rattle.wtf8.proofs.lemmas.strings.ExtendedForms.{all_back}
 use Rattle.wtf8.proofs.lemmas.strings.Surrogates.{scalars_true, scalars-lossy_points}
 use Rattle.wtf8.proofs.lemmas.strings.StringLaws.{run_once, runs_add, scalars_stay, equal_views}
-use Rattle.wtf8.proofs.lemmas.strings.UnitMarks.{divided_are_surrogates}
+use Rattle.wtf8.proofs.lemmas.units.UnitMarks.{divided_are_surrogates}
 
 -- the code points of a view are the only reading of its units
 pub view_reads : (t : Wtf8) → Reads (view_points t) (view_units t)

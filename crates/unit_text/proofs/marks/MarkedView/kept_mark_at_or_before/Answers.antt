@@ -1,7 +1,7 @@
 use Rattle.std.proofs.Common.{◌-◌, arith, rules}
 use Rattle.std.specs.Prelude.{slice_index_or}
 use Rattle.wtf8.specs.View.{view_units}
-use Rattle.wtf8.specs.declared.strings.unit_marks.UnitMark.{UnitMark}
+use Rattle.wtf8.specs.declared.units.marks.UnitMark.{UnitMark}
 use Rattle.unit_text.proofs.MarkLemmas.{chosen_mark_is_close}
 use Rattle.unit_text.proofs.marks.MarkedView.kept_mark_at_or_before.Goals as goal
 

@@ -1,6 +1,6 @@
 use Rattle.wtf8.proofs.Common.{◌≡◌, ℕ, ◌<◌, ◌≤◌, List, length, get_or, drop, arith, sym, subst, length-drop, inl, inr, IsWellFormed}
 use Rattle.wtf8.proofs.Common.{BeginsWithPoint, after_held_trail}
-use Rattle.wtf8.proofs.lemmas.strings.UnitCuts.{held_trail-two_bytes, none_held_at, steps_one, steps_lead, steps_trail}
+use Rattle.wtf8.proofs.lemmas.units.UnitCuts.{held_trail-two_bytes, none_held_at, steps_one, steps_lead, steps_trail}
 use Rattle.wtf8.proofs.lemmas.codec.Readings.{first_of, IsWellFormed-equal_bytes}
 use Rattle.wtf8.proofs.strings.iters.read_unit.Goals as goal
 

@@ -1,5 +1,5 @@
 use Rattle.wtf8.proofs.Common.{◌≡◌, ◌+◌, ◌≤◌, ◌<◌, ◌∙◌, sym, length, ap, drop, get_or, arith, get_or-drop}
-use Rattle.wtf8.proofs.lemmas.strings.UnitCuts.{continuation_range, held_trail-two_bytes, held_trail-some}
+use Rattle.wtf8.proofs.lemmas.units.UnitCuts.{continuation_range, held_trail-two_bytes, held_trail-some}
 use Rattle.wtf8.proofs.strings.iters.IllFormedUtf16CodeUnits.held_units.Goals as goal
 
 pub returns-in-Some-128-to-191-clause-value : goal.returns-in-Some-128-to-191-clause-value

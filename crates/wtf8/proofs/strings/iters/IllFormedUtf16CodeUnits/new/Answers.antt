@@ -1,5 +1,5 @@
 use Rattle.wtf8.proofs.Common.{arith}
-use Rattle.wtf8.proofs.lemmas.strings.UnitCuts.{none_held}
+use Rattle.wtf8.proofs.lemmas.units.UnitCuts.{none_held}
 use Rattle.wtf8.proofs.lemmas.codec.Readings.{IsWellFormed-equal_bytes, same_points}
 use Rattle.wtf8.proofs.strings.iters.IllFormedUtf16CodeUnits.new.Goals as goal
 

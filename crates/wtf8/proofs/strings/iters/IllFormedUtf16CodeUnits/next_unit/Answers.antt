@@ -1,7 +1,7 @@
 use Rattle.wtf8.proofs.Common.{◌∙◌, List, ℕ, [], ◌∷◌, ◌++◌, drop, arith, ap, sym, refl, length-drop, units, Unread, unread_units}
 use Rattle.wtf8.proofs.Common.{held_trail, unread_after}
 use Rattle.wtf8.proofs.lemmas.codec.Readings.{same_points}
-use Rattle.wtf8.proofs.lemmas.strings.UnitCuts.{nothing_held_at_end}
+use Rattle.wtf8.proofs.lemmas.units.UnitCuts.{nothing_held_at_end}
 use Rattle.wtf8.proofs.strings.iters.IllFormedUtf16CodeUnits.next_unit.Goals as goal
 
 abbrev held_with : List ℕ → List ℕ → Unread

@@ -1,5 +1,5 @@
 use Rattle.wtf8.proofs.Common.{◌∙◌, arith, sym, ap, Some, slice_get, slice_get-get_or, view_form}
-use Rattle.wtf8.proofs.lemmas.strings.UnitMarks.{ascii_same}
+use Rattle.wtf8.proofs.lemmas.units.UnitMarks.{ascii_same}
 use Rattle.wtf8.proofs.strings.view.Wtf8.ascii_unit_at.Goals as goal
 
 pub returns : goal.returns

@@ -1,6 +1,6 @@
 use Rattle.wtf8.proofs.Common.{false≢true, refl, ◌∷◌, ◌∙◌, ap, sym, append-nil, units}
 use Rattle.wtf8.proofs.lemmas.strings.Positions.{points_before}
-use Rattle.wtf8.proofs.lemmas.strings.UnitCuts.{divides_none, divides_some, in_pair_at, pair_at_cut, undivided_at}
+use Rattle.wtf8.proofs.lemmas.units.UnitCuts.{divides_none, divides_some, in_pair_at, pair_at_cut, undivided_at}
 use Rattle.wtf8.proofs.strings.view.Wtf8.first_units.Goals as goal
 
 pub returns-then-cut-n : goal.returns-then-cut-n

@@ -1,7 +1,7 @@
 use Rattle.wtf8.proofs.Common.{◌+◌, ◌-◌, ◌∙◌, inl, inr, ap, arith, length, length-drop, cases_lt}
 use Rattle.wtf8.proofs.lemmas.strings.Positions.{PointsAbout}
-use Rattle.wtf8.proofs.lemmas.strings.UnitCuts.{divides_some, in_pair_at_cursor, points_about_unit}
-use Rattle.wtf8.proofs.lemmas.strings.UnitMarks.{mark_at_cut, points_from_mark}
+use Rattle.wtf8.proofs.lemmas.units.UnitCuts.{divides_some, in_pair_at_cursor, points_about_unit}
+use Rattle.wtf8.proofs.lemmas.units.UnitMarks.{mark_at_cut, points_from_mark}
 use Rattle.wtf8.proofs.strings.view.Wtf8.mark_at.Goals.{After-cut_at-cut}
 use Rattle.wtf8.proofs.strings.view.Wtf8.mark_at.Goals as goal
 

@@ -1,5 +1,5 @@
 use Rattle.wtf8.proofs.Common.{arith, subst, view_units}
-use Rattle.wtf8.proofs.lemmas.strings.UnitMarks.{boundary_of_mark, mark_after}
+use Rattle.wtf8.proofs.lemmas.units.UnitMarks.{boundary_of_mark, mark_after}
 use Rattle.wtf8.specs.UnitMark.{IsMark}
 use Rattle.wtf8.proofs.strings.view.Wtf8.mark_before.Goals as goal
 

@@ -1,5 +1,5 @@
 use Rattle.wtf8.proofs.Common.{sym, subst, arith, view_units}
-use Rattle.wtf8.proofs.lemmas.strings.UnitMarks.{MarkBefore, boundary_of_mark, mark_before}
+use Rattle.wtf8.proofs.lemmas.units.UnitMarks.{MarkBefore, boundary_of_mark, mark_before}
 use Rattle.wtf8.proofs.strings.view.Wtf8.mark_shortly_before.Goals.{After-unit_len-more}
 use Rattle.wtf8.proofs.strings.view.Wtf8.mark_shortly_before.Goals as goal
 

@@ -2,7 +2,7 @@ use Rattle.wtf8.proofs.Common.{nat_tests, ◌≤◌, ◌≡◌, ◌∙◌, ◌+�
 use Rattle.wtf8.proofs.Common.{length-drop, length-take, drop, drop_all, units, view_units, drop-take, option_to_list}
 use Rattle.wtf8.proofs.Common.{take-append-add, ℕ, Option, None, Some, refl}
 use Rattle.wtf8.proofs.lemmas.codec.Readings.{points-nil}
-use Rattle.wtf8.proofs.lemmas.strings.UnitCuts.{divides_after}
+use Rattle.wtf8.proofs.lemmas.units.UnitCuts.{divides_after}
 use Rattle.std.specs.Option.{is_some}
 use mir.Val.{bool_byte}
 use Rattle.wtf8.proofs.strings.view.Wtf8.slice_units.Goals.{After-from}

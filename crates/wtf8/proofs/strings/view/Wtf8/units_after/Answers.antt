@@ -1,6 +1,6 @@
 use Rattle.wtf8.proofs.Common.{false≢true, refl, ◌∙◌, [], ◌∷◌, ◌++◌, ap, sym, units}
 use Rattle.wtf8.proofs.lemmas.strings.Positions.{boundary_of, points_after}
-use Rattle.wtf8.proofs.lemmas.strings.UnitCuts.{divides_none, divides_some, in_pair_at, trail_in_pair, undivided_at}
+use Rattle.wtf8.proofs.lemmas.units.UnitCuts.{divides_none, divides_some, in_pair_at, trail_in_pair, undivided_at}
 use Rattle.wtf8.proofs.strings.view.Wtf8.units_after.Goals as goal
 
 pub returns-then-cut-n : goal.returns-then-cut-n

@@ -1,0 +1,5 @@
+use Rattle.wtf8.proofs.Common.{rules}
+use Rattle.wtf8.proofs.buffers.buf.Wtf8Buf.is_empty.Goals as goal
+
+pub returns : goal.returns
+returns g c = search rules

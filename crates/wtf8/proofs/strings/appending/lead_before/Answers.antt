@@ -1,0 +1,16 @@
+use Rattle.wtf8.proofs.Common.{◌≡◌, ◌∷◌, [], ◌++◌, ◌∙◌, List, ℕ, IfSome, subst, sym}
+use Rattle.wtf8.proofs.lemmas.codec.Readings.{same_points}
+use Rattle.wtf8.proofs.lemmas.strings.PushedUnits.{lead_before_units}
+use Rattle.wtf8.proofs.strings.appending.lead_before.Goals as goal
+
+pub returns-in-Some-clause-last : goal.returns-in-Some-clause-last
+returns-in-Some-clause-last g c h =
+    let view = c.from_well_formed-view in
+    let same = same_points view.result.well_formed h (view.ensures.bytes ∙ c.as_slice.ensures.value) in
+    subst (λ p. IfSome c.final_lead_surrogate.result (λ l. (f : List ℕ) × (p ≡ f ++ l ∷ []))) same c.final_lead_surrogate.ensures.last
+
+pub returns-in-Some-clause-none : goal.returns-in-Some-clause-none
+returns-in-Some-clause-none g c h =
+    let view = c.from_well_formed-view in
+    let same = same_points h view.result.well_formed (sym (view.ensures.bytes ∙ c.as_slice.ensures.value)) in
+    lead_before_units c.final_lead_surrogate.result c.args.v.now h same c.final_lead_surrogate.ensures.none

@@ -1,5 +1,0 @@
-use Rattle.wtf8.proofs.Common.{rules}
-use Rattle.wtf8.proofs.strings.buf.Wtf8Buf.len.Goals as goal
-
-pub returns : goal.returns
-returns g c = search rules

@@ -1,5 +1,0 @@
-use Rattle.wtf8.proofs.lemmas.to_utf16.UnitLanes.{short_ends-mask}
-use Rattle.wtf8.proofs.to_utf16.unit_ends.end_positions.Goals as goal
-
-pub returns : goal.returns
-returns c short = rw c.bytes_before.ensures.one (short_ends-mask c.args.bytes c.fits-bytes.0 short)

@@ -1,0 +1,10 @@
+use Rattle.wtf8.proofs.Common.{arith}
+use Rattle.std.proofs.lemmas.Simd.{Each1-all, Each2-splat}
+use Rattle.wtf8.proofs.lemmas.units.FullBlocks.{words-twos}
+use Rattle.wtf8.proofs.units.blocks.read_sixteen_twos.Goals as goal
+
+pub returns-clause-firsts : goal.returns-clause-firsts
+returns-clause-firsts c = (words-twos c.args.bytes c.fits-bytes.0 c.fits-bytes.1).0
+
+pub returns-clause-units : goal.returns-clause-units
+returns-clause-units c = (words-twos c.args.bytes c.fits-bytes.0 c.fits-bytes.1).1

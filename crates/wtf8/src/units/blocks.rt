@@ -1,0 +1,164 @@
+// Decodes blocks of WTF-8 code points of one encoded length to code units.
+ghost use Rattle.std.specs.Prelude.{◌≡◌, ◌*◌, ◌/◌, ◌<◌, ◌≤◌, ◌++◌, length, take, drop, get_or, IsTrue};
+ghost use lib.Lanes.{Each1};
+ghost use Rattle.wtf8.specs.private.EncodedBytes.{BeginsWithUnits, map_run, unit_of_two, unit_of_three};
+
+use crate::lanes::first_set_lane;
+use std::simd::prelude::*;
+
+/// Shuffle indices: the lead bytes of eight two-byte code points; below, their second bytes.
+const FIRST_OF_TWO: [usize; 8] = [0, 2, 4, 6, 8, 10, 12, 14];
+
+const SECOND_OF_TWO: [usize; 8] = [1, 3, 5, 7, 9, 11, 13, 15];
+
+/// Shuffle indices for bytes 0 to 15 and 8 to 23: the lead bytes of eight three-byte code points, twice each; below,
+/// their third and second bytes.
+const FIRSTS_OF_THREES: [usize; 16] = [0, 0, 3, 3, 6, 6, 9, 9, 12, 12, 15, 15, 26, 26, 29, 29];
+
+const OTHERS_OF_THREES: [usize; 16] = [2, 1, 5, 4, 8, 7, 11, 10, 14, 13, 25, 24, 28, 27, 31, 30];
+
+/// Code points of one unit and `WIDTH` bytes each, of which `N` are decoded from a load of `BYTES` bytes.
+pub(crate) trait EncodedLength<const N: usize, const WIDTH: usize, const BYTES: usize> {
+    /// Decodes `N` code points as if all had `WIDTH` bytes. Returns their units, and how many of them at the front are
+    /// right: the ones before the first code point of another length.
+    fn read(bytes: &[u8]) -> ([u16; N], usize)
+        requires { BYTES ≤ length bytes.now }
+        ensures within { (result.1 ≤ N) × (result.1 ≤ WIDTH * result.1) × (WIDTH * result.1 ≤ BYTES) }
+        ensures more { result.1 < N → WIDTH * result.1 < BYTES }
+        ensures begins { BeginsWithUnits bytes.now (take result.1 result.0) (WIDTH * result.1) };
+}
+
+/// ASCII.
+pub(crate) struct OneByte;
+
+/// Code points of two bytes.
+pub(crate) struct TwoBytes;
+
+/// Code points of three bytes, surrogates included.
+pub(crate) struct ThreeBytes;
+
+/// Whether `byte` begins a code point of `width` bytes, at most three.
+#[inline(always)]
+pub(crate) fn is_lead_byte(byte: u8, width: usize) -> bool {
+    match width {
+        1 => byte < 0x80,
+        2 => byte / 32 == 6,
+        _ => byte / 16 == 14,
+    }
+}
+
+#[inline(always)]
+pub(crate) fn widen<const N: usize>(block: Simd<u8, N>) -> [u16; N]
+    requires lanes { N ≤ u64.BITS }
+    ensures { result ≡ block.entry }
+{
+    block.cast::<u16>().to_array()
+}
+
+/// Returns the number of lanes before the first with `byte / size != prefix`. Size and prefix are 128 and 0 for ASCII,
+/// 32 and 6 for lead bytes of two-byte code points, 16 and 14 for those of three (Unicode 3.9, "UTF-8", Table 3-6).
+#[inline(always)]
+fn count_leading_with_prefix<const N: usize>(bytes: Simd<u8, N>, size: u8, prefix: u8) -> usize
+    requires lanes { N ≤ u64.BITS }
+    requires size { 0 < size }
+    ensures within { result ≤ N }
+    ensures each { Each1 (λ b. b / size ≡ prefix) (take result bytes.entry) }
+{
+    let kinds = bytes / Simd::splat(size);
+    first_set_lane(kinds.simd_ne(Simd::splat(prefix)).to_bitmask()).unwrap_or(N)
+}
+
+/// Decodes eight two-byte code points. Returns their lead bytes, which are not checked here, and their units.
+#[inline(always)]
+fn read_twos(bytes: u8x16) -> (u8x8, [u16; 8])
+    ensures firsts { result.0 ≡ map_run 2 (λ w. get_or w 0 0) 8 bytes }
+    ensures units { result.1 ≡ map_run 2 unit_of_two 8 bytes }
+{
+    let first: u8x8 = bytes.shuffle(bytes, FIRST_OF_TWO);
+    let second: u8x8 = bytes.shuffle(bytes, SECOND_OF_TWO);
+    let high = (first % u8x8::splat(32)).cast::<u16>();
+    let low = (second % u8x8::splat(64)).cast::<u16>();
+    let units = high.strict_mul(u16x8::splat(64)).strict_add(low);
+    (first, units.to_array())
+}
+
+/// Whether `lane / size` is `prefix` in all lanes.
+#[inline(always)]
+fn all_have_prefix<const N: usize>(lanes: Simd<u16, N>, size: u16, prefix: u16) -> bool
+    requires lanes { N ≤ u64.BITS }
+    requires size { 0 < size }
+    ensures { IsTrue result → Each1 (λ b. b / size ≡ prefix) lanes.entry }
+{
+    let kinds = lanes / Simd::splat(size);
+    kinds.simd_ne(Simd::splat(prefix)).to_bitmask() == 0
+}
+
+/// Decodes sixteen two-byte code points by words. Returns their lead bytes, which are not checked here, and their
+/// units.
+#[inline(always)]
+fn read_sixteen_twos(bytes: u8x32) -> (u16x16, [u16; 16])
+    ensures firsts { result.0 ≡ map_run 2 (λ w. get_or w 0 0) 16 bytes }
+    ensures units { result.1 ≡ map_run 2 unit_of_two 16 bytes }
+{
+    let words = u16x16::from_le_bytes(bytes);
+    let high = words % u16x16::splat(32) * u16x16::splat(64);
+    let low = words / u16x16::splat(256) % u16x16::splat(64);
+    (words % u16x16::splat(256), (high + low).to_array())
+}
+
+/// Decodes eight three-byte code points, of bytes 0 to 15 and 8 to 23, by words. Returns their lead bytes, twice each
+/// in a word and not checked here, and their units. Of one load of 32 bytes LLVM takes bytes 16 to 23 one by one, in
+/// three times the time.
+#[inline(always)]
+fn read_eight_threes(front: u8x16, back: u8x16) -> (u16x8, [u16; 8])
+    ensures firsts { result.0 ≡ map_run 3 (λ w. 257 * get_or w 0 0) 8 (front ++ drop 8 back) }
+    ensures units { result.1 ≡ map_run 3 unit_of_three 8 (front ++ drop 8 back) }
+{
+    let firsts = u16x8::from_le_bytes(front.shuffle(back, FIRSTS_OF_THREES));
+    let others = u16x8::from_le_bytes(front.shuffle(back, OTHERS_OF_THREES));
+    let high = firsts * u16x8::splat(4096);
+    let middle = others / u16x8::splat(256) % u16x8::splat(64) * u16x8::splat(64);
+    let low = others % u16x8::splat(64);
+    (firsts, (high + middle + low).to_array())
+}
+
+impl EncodedLength<16, 1, 16> for OneByte {
+    #[inline(always)]
+    fn read(bytes: &[u8]) -> ([u16; 16], usize) {
+        let block = u8x16::from_slice(bytes);
+        (widen(block), count_leading_with_prefix(block, 128, 0))
+    }
+}
+
+impl EncodedLength<8, 2, 16> for TwoBytes {
+    #[inline(always)]
+    fn read(bytes: &[u8]) -> ([u16; 8], usize) {
+        let (firsts, units) = read_twos(u8x16::from_slice(bytes));
+        (units, count_leading_with_prefix(firsts, 32, 6))
+    }
+}
+
+/// All sixteen code points or none.
+impl EncodedLength<16, 2, 32> for TwoBytes {
+    #[inline(always)]
+    fn read(bytes: &[u8]) -> ([u16; 16], usize) {
+        let (firsts, units) = read_sixteen_twos(u8x32::from_slice(bytes));
+        if all_have_prefix(firsts, 32, 6) {
+            return (units, 16);
+        }
+        (units, 0)
+    }
+}
+
+/// All eight code points or none.
+impl EncodedLength<8, 3, 24> for ThreeBytes {
+    #[inline(always)]
+    fn read(bytes: &[u8]) -> ([u16; 8], usize) {
+        let back = u8x16::from_slice(&bytes[8..]);
+        let (firsts, units) = read_eight_threes(u8x16::from_slice(bytes), back);
+        if all_have_prefix(firsts, 4096, 14) {
+            return (units, 8);
+        }
+        (units, 0)
+    }
+}
