@@ -3,7 +3,7 @@ use Rattle.wtf8.proofs.Common.{◌≡◌, ℕ, suc, ◌+◌, ◌-◌, ◌*◌, �
 use Rattle.wtf8.proofs.Common.{replicate, zip2, Each1, cond, ltb, leb, eqb, top, Bool, false, length-append, false≢true, refl, sym}
 use Rattle.wtf8.proofs.Common.{ap, ◌∙◌, arith, lt-ltb, le-ltb, subst, cases_lt, cases_Bool, inl, inr, Fits, append-nil, append_assoc}
 use Rattle.wtf8.proofs.Common.{map-append, ◌&&◌, mask_l-mod, eq-eqb, pick_l_whole, IsSurrogate, sel_l, mask_l, w8, w16, bit_and}
-use Rattle.wtf8.proofs.Common.{bit_or, nat_tests, swz_l, IsLead, IsUnit, length-take-le, take-take, AreScalarUnits, length-take, length-drop}
+use Rattle.wtf8.proofs.Common.{bit_or, nat_tests, swz_l, IsLead, IsUnit, length-take-le, take-take, AreScalarUnits, length-take, length-drop, take_all}
 use lib.Lanes.{pick_l, digits_l, number_l}
 use Rattle.std.specs.Prelude.{nat_lt, if◌then◌else◌, bit_xor}
 use Rattle.std.proofs.lemmas.List.{take-map, drop-map}
@@ -359,31 +359,17 @@ block-table_index u long are = rw are.last (of_sixteen (λ u. mask_l (map (top 7
     (mask_l-mod (map is_set (digits_l 256 32 (number_l 65536 (map last (sixteen_lanes u))))) 64 (omega arith)
     ∙ mask-table_index (sixteen_lanes u)))
 
-table_index_four : (u : List ℕ) → 4 ≤ length u → units_table_index u ≡ units_table_index (take 4 u) + 256 * units_table_index (drop 4 u)
-table_index_four [] l = absurd (omega arith)
-table_index_four (a ∷ []) l = absurd (omega arith)
-table_index_four (a ∷ b ∷ []) l = absurd (omega arith)
-table_index_four (a ∷ b ∷ c ∷ []) l = absurd (omega arith)
-table_index_four (a ∷ b ∷ c ∷ d ∷ u) l = omega arith
-
-pub units_table_index_bound : (u : List ℕ) → length u ≤ 4 → units_table_index u < 256
-units_table_index_bound [] l = omega arith
-units_table_index_bound (a ∷ []) l = omega (arith, IsByteCount-byte_count a)
-units_table_index_bound (a ∷ b ∷ []) l = omega (arith, IsByteCount-byte_count a, IsByteCount-byte_count b)
-units_table_index_bound (a ∷ b ∷ c ∷ []) l = omega (
-  arith,
-  IsByteCount-byte_count a,
-  IsByteCount-byte_count b,
-  IsByteCount-byte_count c,
-)
-units_table_index_bound (a ∷ b ∷ c ∷ d ∷ []) l = omega (
-  arith,
-  IsByteCount-byte_count a,
-  IsByteCount-byte_count b,
-  IsByteCount-byte_count c,
-  IsByteCount-byte_count d,
-)
-units_table_index_bound (a ∷ b ∷ c ∷ d ∷ e ∷ u) l = absurd (omega arith)
+-- the table index of the first four units, that of the units after them, and the pieces of both
+first_four : (b : ℕ) (u : List ℕ) → 4 ≤ length u → (units_table_index u % 256 ≡ units_table_index (take 4 u))
+    × (units_table_index u / 256 ≡ units_table_index (drop 4 u))
+    × (packed_units b u ≡ packed_units b (take 4 u) ++ packed_units (get_or u 3 0) (drop 4 u))
+first_four b [] l = absurd (omega arith)
+first_four b (x ∷ []) l = absurd (omega arith)
+first_four b (x ∷ y ∷ []) l = absurd (omega arith)
+first_four b (x ∷ y ∷ z ∷ []) l = absurd (omega arith)
+first_four before (a ∷ b ∷ c ∷ d ∷ u) l =
+    let is = IsByteCount-byte_count in
+    (omega (arith, is a, is b, is c, is d), omega (arith, is a, is b, is c, is d), simp (append_assoc, append-nil))
 
 -- the index of each quarter's row
 pub quarter_indexes : (u : List ℕ) → length u ≡ 16 → let n = units_table_index u in
@@ -396,14 +382,11 @@ quarter_indexes u long =
     let lv : length v ≡ 12 = omega (arith, long, length-drop 4 u) in
     let lw : length w ≡ 8 = omega (arith, lv, length-drop 4 v) in
     let lx : length x ≡ 4 = omega (arith, lw, length-drop 4 w) in
-    let a = table_index_four u (omega (arith, long)) in
-    let b = table_index_four v (omega (arith, lv)) in
-    let c = table_index_four w (omega (arith, lw)) in
-    let i = units_table_index_bound (take 4 u) (omega (arith, length-take 4 u)) in
-    let j = units_table_index_bound (take 4 v) (omega (arith, length-take 4 v)) in
-    let k = units_table_index_bound (take 4 w) (omega (arith, length-take 4 w)) in
-    let l = units_table_index_bound x (omega (arith, lx)) in
-    (omega (arith, a, i), omega (arith, a, b, i, j), omega (arith, a, b, c, i, j, k), omega (arith, a, b, c, i, j, k, l))
+    let a = first_four 0 u (omega (arith, long)) in
+    let b = first_four 0 v (omega (arith, lv)) in
+    let c = first_four 0 w (omega (arith, lw)) in
+    let d = (first_four 0 x (omega (arith, lx))).0 ∙ ap units_table_index (take_all 4 x (omega (arith, lx))) in
+    (a.0, omega (arith, a.1, b.0), omega (arith, a.1, b.1, c.0), omega (arith, a.1, b.1, c.1, d))
 
 -- The bytes that a row of the table picks are the pieces of the units.
 
@@ -429,7 +412,7 @@ source_lanes-packed_units v a b c d =
     let second = source_lanes-packed_unit xs 4 a b refl refl refl in
     let third = source_lanes-packed_unit xs 8 b c refl refl refl in
     let fourth = source_lanes-packed_unit xs 12 c d refl refl refl in
-    simp (map-append, append-nil, append_assoc, first, second, third, fourth)
+    simp (map-append, append-nil, first, second, third, fourth)
 
 pub swz_l-packed_units : (xs row : List ℕ) (b : ℕ) (u : List ℕ) → length row ≤ 16 → Each1 (λ j. j < 16) row → length u ≡ 4
     → xs ≡ byte_lanes b u → let count = λ (k : ℕ). byte_count (get_or u k 0) in
@@ -442,13 +425,6 @@ swz_l-packed_units xs row b u short within long lanes own =
     ∙ ap (map (λ j. get_or xs j 0)) own ∙ rw (lanes ∙ ap (byte_lanes b) (sym us))
     (source_lanes-packed_units b (get_or u 0 0) (get_or u 1 0) (get_or u 2 0) (get_or u 3 0)) ∙ ap (packed_units b) us
 
-packed_units-four : (b : ℕ) (u : List ℕ) → 4 ≤ length u → packed_units b u ≡ packed_units b (take 4 u) ++ packed_units (get_or u 3 0) (drop 4 u)
-packed_units-four b [] l = absurd (omega arith)
-packed_units-four b (x ∷ []) l = absurd (omega arith)
-packed_units-four b (x ∷ y ∷ []) l = absurd (omega arith)
-packed_units-four b (x ∷ y ∷ z ∷ []) l = absurd (omega arith)
-packed_units-four e (a ∷ b ∷ c ∷ d ∷ u) l = simp (append_assoc, append-nil)
-
 -- the bytes of the four quarters, appended one after another, are those of the block
 pub packed_units-quarters : (kept : List ℕ) {a b c d : List ℕ} (u : List ℕ) → length u ≡ 16 → a ≡ kept ++ packed_units 0 (take 4 u)
     → b ≡ a ++ packed_units (get_or u 3 0) (take 4 (drop 4 u))
@@ -457,16 +433,10 @@ pub packed_units-quarters : (kept : List ℕ) {a b c d : List ℕ} (u : List ℕ
 packed_units-quarters kept u long first second third fourth =
     let v = drop 4 u in
     let lv : length v ≡ 12 = omega (arith, long, length-drop 4 u) in
-    let lw : length (drop 4 v) ≡ 8 = omega (arith, lv, length-drop 4 v) in
-    rw (
-      fourth,
-      third,
-      second,
-      first,
-      packed_units-four 0 u (omega (arith, long)),
-      packed_units-four (get_or u 3 0) v (omega (arith, lv)),
-      packed_units-four (get_or v 3 0) (drop 4 v) (omega (arith, lw)),
-    ) (simp append_assoc)
+    let a = (first_four 0 u (omega (arith, long))).2 in
+    let b = (first_four (get_or u 3 0) v (omega (arith, lv))).2 in
+    let c = (first_four (get_or v 3 0) (drop 4 v) (omega (arith, lv, length-drop 4 v))).2 in
+    rw (fourth, third, second, first, a, b, c) (simp append_assoc)
 
 -- the last of sixteen units is not tagged if it is a lead
 last-tagged : (u : List ℕ) → length u ≡ 16 → IsLead (get_or u 15 0) → IsLead (get_or (tagged_block u) 15 0)
