@@ -1,5 +1,5 @@
 -- The units whose encodings end at the bytes of a block, each computed from its byte and the three before it.
-use Rattle.std.specs.Prelude.{◌≡◌, ℕ, zero, suc, ◌+◌, ◌-◌, ◌*◌, ◌/◌, ◌%◌, List, [], ◌∷◌, Bool, true, false, length, take, nat_lt}
+use Rattle.std.specs.Prelude.{◌≡◌, ℕ, suc, ◌+◌, ◌-◌, ◌*◌, ◌/◌, ◌%◌, List, [], ◌∷◌, Bool, false, length, take, nat_lt}
 use Rattle.std.specs.Prelude.{if◌then◌else◌}
 use lib.Lanes.{mask_l, zip2}
 

@@ -1,5 +1,3 @@
-use Rattle.wtf8.proofs.Common.{arith}
-use Rattle.std.proofs.lemmas.Simd.{Each1-all, Each2-splat}
 use Rattle.wtf8.proofs.lemmas.to_utf16.FullBlocks.{words-twos}
 use Rattle.wtf8.proofs.to_utf16.blocks.read_sixteen_twos.Goals as goal
 
