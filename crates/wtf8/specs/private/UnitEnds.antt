@@ -1,5 +1,5 @@
 -- The units whose encodings end at the bytes of a block, each computed from its byte and the three before it.
-use Rattle.std.specs.Prelude.{◌≡◌, ℕ, zero, suc, ◌+◌, ◌-◌, ◌*◌, ◌/◌, ◌%◌, List, [], ◌∷◌, Bool, true, false, length, take, nat_lt}
+use Rattle.std.specs.Prelude.{◌≡◌, ℕ, suc, ◌+◌, ◌-◌, ◌*◌, ◌/◌, ◌%◌, List, [], ◌∷◌, Bool, false, length, take, nat_lt}
 use Rattle.std.specs.Prelude.{if◌then◌else◌}
 use lib.Lanes.{mask_l, zip2}
 
@@ -18,7 +18,7 @@ bytes_two_before w = by_position (λ z y x b. y) 0 0 0 w
 abbrev pub bytes_three_before : List ℕ → List ℕ
 bytes_three_before w = by_position (λ z y x b. z) 0 0 0 w
 
--- The byte `x` before `b` if both are of one encoding, or 0 if `b` is ASCII (Unicode 3.9, "UTF-8", Table 3-6).
+-- The byte `x` before `b`, or 0 if `b` is ASCII, which is an encoding of its own (Unicode 3.9, "UTF-8", Table 3-6).
 abbrev pub lead_or_none : ℕ → ℕ → ℕ
 lead_or_none x b = if nat_lt b 0x80 then 0 else x
 
@@ -54,12 +54,12 @@ unit_at_end z y x b = low_of_any y x b + 256 * high_of_any z y x b
 abbrev pub ends_unit : ℕ → ℕ → Bool
 ends_unit x b = if nat_lt b 0xC0 then nat_lt x 0xE0 else false
 
--- The same, but for a lead at the end of a block: `w` is the rest of the block.
+-- Whether a unit ends with `b` after `y` and `x` in a block that goes on with `w`. A lead at the block's end does not.
 abbrev pub ends_in_block : ℕ → ℕ → ℕ → List ℕ → Bool
 ends_in_block y x b [] = if nat_lt y 0xF0 then ends_unit x b else false
 ends_in_block y x b (c ∷ w) = ends_unit x b
 
--- For each byte of a block after `y` and `x`, whether a unit ends there that is no lead at the end.
+-- For each byte of a block after `y` and `x`, whether a unit ends with it, but for a lead at the block's end.
 abbrev pub set_lanes : ℕ → ℕ → List ℕ → List Bool
 set_lanes y x [] = []
 set_lanes y x (b ∷ w) = ends_in_block y x b w ∷ set_lanes x b w

@@ -271,7 +271,7 @@ fn copy_by_ends<const N: usize>(units: &[u16], block: &mut [u16])
     block[last..units.len()].copy_from_slice(&units[last..]);
 }
 
-/// Units, `LAST_UNITS` or more and fewer than a block, with zeros behind them.
+/// Units, `LAST_UNITS` or more and fewer than a block, with zeros after them.
 #[inline(always)]
 fn padded(units: &[u16]) -> u16x16
     requires least { LAST_UNITS ≤ length units.now }
@@ -287,7 +287,7 @@ fn padded(units: &[u16]) -> u16x16
     u16x16::from_array(block)
 }
 
-/// Encodes units, fewer than a block, at index `len` of a scratch buffer: as a block with zeros behind them. A lead before
+/// Encodes units, fewer than a block, at index `len` of a scratch buffer: as a block with zeros after them. A lead before
 /// these is lone, and each of them takes one byte, a zero, which is left out. Returns the index after their bytes, and
 /// whether no unit is a lone surrogate.
 #[inline(always)]

@@ -2,7 +2,7 @@
 use Rattle.wtf8.proofs.Common.{◌≡◌, ℕ, zero, suc, ◌+◌, ◌*◌, ◌/◌, ◌%◌, ◌^◌, ◌<◌, ◌≤◌, List, [], ◌∷◌, ◌++◌, Bool, not, eqb, cond, map, length}
 use Rattle.wtf8.proofs.Common.{take, drop, get_or, replicate, zip2, top, mask_l, refl, sym, ap, ◌∙◌, subst, arith, Each1, Fits, w8, w16}
 use Rattle.wtf8.proofs.Common.{cases_Bool, eqb-true, inl, inr, mask_l-mod, tops_compared, length-zip2, length-replicate, get_or-drop, drop-drop}
-use Rattle.wtf8.proofs.Common.{get_or_append_left, get_or-append-add, cases_lt, pick_l_whole, drop-take, take-add, unit_of_two, unit_of_three}
+use Rattle.wtf8.proofs.Common.{pick_l_whole, drop-take, take-add, unit_of_two, unit_of_three}
 use Rattle.std.specs.List.{range_with_len}
 use lib.Lanes.{pick_l, digits_l, number_l}
 use Rattle.wtf8.specs.private.EncodedBytes.{map_run}

@@ -1,7 +1,7 @@
 -- The rows that pack words, and the words that they pack.
 use Rattle.wtf8.proofs.Common.{◌≡◌, ℕ, zero, suc, ◌+◌, ◌-◌, ◌*◌, ◌/◌, ◌%◌, ◌^◌, ◌<◌, ◌≤◌, ◌&&◌, List, [], ◌∷◌, ◌++◌, Bool, true, false, length}
 use Rattle.wtf8.proofs.Common.{take, drop, get_or, map, cond, refl, sym, ap, ◌∙◌, subst, arith, Each1, Fits, w8, swz_l, mask_l, and_parts}
-use Rattle.wtf8.proofs.Common.{nat_eq, pointwise, cases_lt, cases_Bool, inl, inr, lt-ltb, le-ltb, length-map, take-append-drop, append_assoc, length-drop}
+use Rattle.wtf8.proofs.Common.{nat_eq, pointwise, cases_lt, inl, inr, lt-ltb, length-map, take-append-drop, append_assoc, length-drop}
 use Rattle.std.proofs.lemmas.List.Recursion.{and_at}
 use Rattle.std.proofs.lemmas.Simd.{ones-mask_l_cons, pick_l-range_with_len, mask_l-lt}
 use Rattle.std.proofs.Math.Nat.{pow-suc}

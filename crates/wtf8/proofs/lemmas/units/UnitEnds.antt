@@ -1,10 +1,10 @@
 -- The units whose encodings end at the bytes of a block are the units of the code points that it holds whole.
-use Rattle.wtf8.proofs.Common.{◌≡◌, ℕ, zero, suc, ◌+◌, ◌-◌, ◌*◌, ◌/◌, ◌%◌, ◌<◌, ◌≤◌, List, [], ◌∷◌, ◌++◌, Bool, true, false, length, take}
+use Rattle.wtf8.proofs.Common.{◌≡◌, ℕ, ◌+◌, ◌/◌, ◌%◌, ◌<◌, ◌≤◌, List, [], ◌∷◌, ◌++◌, Bool, true, false, length, take}
 use Rattle.wtf8.proofs.Common.{drop, get_or, refl, sym, ap, ◌∙◌, subst, arith, cases_lt, lt-ltb, le-ltb, inl, inr, encoding, bytes, units, units_of}
-use Rattle.wtf8.proofs.Common.{IsClean, IsWellFormed, BeginsWithUnits, Writes, length-append, append_assoc, nat_tests, drop_at, take-append-drop}
-use Rattle.wtf8.proofs.lemmas.codec.Encoding.{encoding_cases, one, two, three, four, bytes-append, length-encoding_bounds, second_row, third_row, fourth_row}
+use Rattle.wtf8.proofs.Common.{IsClean, IsWellFormed, BeginsWithUnits, Writes, length-append, nat_tests, drop_at, take-append-drop}
+use Rattle.wtf8.proofs.lemmas.codec.Encoding.{encoding_cases, one, two, three, four, bytes-append, second_row, third_row, fourth_row}
 use Rattle.wtf8.proofs.lemmas.codec.Readings.{units_one, units_two, units-append, clean-first, clean-rest, clean-back, lead_of, trail_of}
-use Rattle.wtf8.specs.private.UnitEnds.{by_position, lead_or_none, low_byte, high_byte, low_of_any, high_of_any, unit_at_end, ends_unit}
+use Rattle.wtf8.specs.private.UnitEnds.{by_position, unit_at_end}
 use Rattle.wtf8.specs.private.UnitEnds.{ends_in_block, set_lanes, picked, whole_len}
 
 -- The unit at the last byte of each encoding.

@@ -1,14 +1,14 @@
 -- The lanes that compute the units of a block.
-use Rattle.wtf8.proofs.Common.{◌≡◌, ℕ, zero, suc, ◌+◌, ◌-◌, ◌*◌, ◌/◌, ◌%◌, ◌^◌, ◌<◌, ◌≤◌, List, [], ◌∷◌, ◌++◌, Bool, true, false, length}
-use Rattle.wtf8.proofs.Common.{take, drop, get_or, map, cond, refl, sym, ap, ◌∙◌, subst, arith, Each1, Fits, w8, mask_l, top, sel_l, zip2, ltb, leb}
+use Rattle.wtf8.proofs.Common.{◌≡◌, ℕ, zero, suc, ◌+◌, ◌-◌, ◌*◌, ◌/◌, ◌%◌, ◌^◌, ◌<◌, List, [], ◌∷◌, ◌++◌, Bool, true, false, length}
+use Rattle.wtf8.proofs.Common.{take, drop, map, cond, refl, sym, ap, ◌∙◌, subst, arith, Each1, Fits, w8, mask_l, top, sel_l, zip2, ltb, leb}
 use Rattle.wtf8.proofs.Common.{replicate, nat_tests, cases_lt, inl, inr, lt-ltb, le-ltb, le-leb, lt-leb, mask_l-mod, length-map, pick_l_whole}
 use Rattle.wtf8.proofs.Common.{tops_compared, eqb, eqb-true, IsTrue}
 use Rattle.std.proofs.lemmas.Simd.{zip2_splat_left}
 use lib.Lanes.{pick_l}
 use Rattle.std.specs.List.{range_with_len}
 use Rattle.wtf8.specs.private.UnitEnds.{by_position, bytes_one_before, bytes_two_before, bytes_three_before, low_byte, high_of_two}
-use Rattle.wtf8.specs.private.UnitEnds.{lead_or_none, high_byte, low_of_any, high_of_any}
-use Rattle.wtf8.specs.private.UnitEnds.{unit_at_end, ends_unit, ends_in_block, set_lanes, words, joined_words}
+use Rattle.wtf8.specs.private.UnitEnds.{high_byte, low_of_any, high_of_any}
+use Rattle.wtf8.specs.private.UnitEnds.{unit_at_end, ends_in_block, set_lanes, words, joined_words}
 
 -- The bytes before each byte.
 

@@ -1,5 +1,3 @@
-use Rattle.wtf8.proofs.Common.{arith}
-use Rattle.std.proofs.lemmas.Simd.{Each1-all, Each2-splat}
 use Rattle.wtf8.proofs.lemmas.units.FullBlocks.{words-twos}
 use Rattle.wtf8.proofs.units.blocks.read_sixteen_twos.Goals as goal
 

@@ -1,4 +1,4 @@
-use Rattle.wtf8.proofs.Common.{◌≡◌, ℕ, ◌-◌, ◌<◌, ◌≤◌, ◌++◌, ◌∙◌, ap, sym, arith, List, length, drop, units, view_units, mask_l, length-drop}
+use Rattle.wtf8.proofs.Common.{◌≡◌, ℕ, ◌-◌, ◌≤◌, ◌++◌, ◌∙◌, ap, sym, arith, List, length, drop, units, view_units, mask_l, length-drop}
 use lib.Count.{count_leading_zeros}
 use Rattle.wtf8.specs.private.UnitEnds.{picked, joined_words, set_lanes, whole_len}
 use Rattle.wtf8.proofs.lemmas.codec.Readings.{IsWellFormed-equal_bytes}

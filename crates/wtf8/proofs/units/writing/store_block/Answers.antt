@@ -1,4 +1,4 @@
-use Rattle.wtf8.proofs.Common.{◌≡◌, ◌++◌, ◌∙◌, subst, arith, length, length-drop, length-take, take, drop, sym, Writes}
+use Rattle.wtf8.proofs.Common.{◌≡◌, ◌++◌, ◌∙◌, arith, length, length-drop, length-take, take, drop, sym}
 use Rattle.wtf8.specs.private.UnitEnds.{picked, words, joined_words}
 use Rattle.wtf8.proofs.lemmas.units.PackedWords.{four_masks, picked_by_eight}
 use Rattle.wtf8.proofs.lemmas.units.UnitEnds.{Writes-trans, Writes-equal_left}
