@@ -5,7 +5,7 @@ use std::cmp::Ordering;
 use std::collections::HashMap;
 use unit_text::UnitText;
 use wtf8::Wtf8Buf;
-use wtf8_tests::wrong::{Wrong, expect, expect_bytes, made};
+use wtf8_tests::wrong::{Failed, Wrong, expect, expect_bytes, in_row, made};
 
 /// The units and bytes of "a", a surrogate pair, "é" and a lone lead surrogate.
 const UNITS: [u16; 5] = [0x0061, 0xD83D, 0xDCA9, 0x00E9, 0xD800];
@@ -30,7 +30,7 @@ fn appended(alloc: Global) -> Result<UnitText<Global>, AllocError> {
 }
 
 #[test]
-fn each_call_that_appends_keeps_the_units_before(rt: HostRuntime) -> Result<(), Wrong> {
+fn each_call_that_appends_keeps_the_units_before(rt: HostRuntime) -> Result<(), Failed> {
     let text = made(appended(rt.alloc()))?;
     expect_text(rt.alloc(), &text, &UNITS, DUMP)?;
     let again = UnitText::from_wtf8(text.into_wtf8());
@@ -45,7 +45,7 @@ fn expect_slice(
     begin: usize,
     end: usize,
     dump: &str,
-) -> Result<(), Wrong> {
+) -> Result<(), Failed> {
     let slice = slice_of(alloc, text, begin, end)?;
     let is_at_begin = text.starts_with_at(begin, &slice);
     let is_after = text.starts_with_at(begin.saturating_add(1), &slice);
@@ -54,15 +54,17 @@ fn expect_slice(
 }
 
 #[test]
-fn a_slice_that_divides_a_pair_has_its_half(rt: HostRuntime) -> Result<(), Wrong> {
+fn a_slice_that_divides_a_pair_has_its_half(rt: HostRuntime) -> Result<(), Failed> {
     let text = made(UnitText::from_units(rt.alloc(), &UNITS))?;
+    let mut row = 0usize;
     for (begin, end, dump) in [
         (0, 2, "61 ED A0 BD"),
         (2, 3, "ED B2 A9"),
         (2, 2, ""),
         (0, 5, DUMP),
     ] {
-        expect_slice(&text, rt.alloc(), begin, end, dump)?;
+        in_row(row, expect_slice(&text, rt.alloc(), begin, end, dump))?;
+        row = row.wrapping_add(1);
     }
     Ok(())
 }
@@ -77,7 +79,7 @@ fn is_ordered(private: &UnitText<Global>, pair: &UnitText<Global>) -> bool {
 }
 
 #[test]
-fn the_order_of_units_is_not_that_of_code_points(rt: HostRuntime) -> Result<(), Wrong> {
+fn the_order_of_units_is_not_that_of_code_points(rt: HostRuntime) -> Result<(), Failed> {
     let private = made(UnitText::from_str(rt.alloc(), "\u{E000}"))?;
     let pair = made(UnitText::from_str(rt.alloc(), "\u{10000}"))?;
     expect(is_ordered(&private, &pair), Wrong::Outcome)
@@ -92,7 +94,7 @@ fn is_key(alloc: Global, units: &[u16]) -> Result<bool, AllocError> {
 }
 
 #[test]
-fn a_map_has_a_text_by_its_units(rt: HostRuntime) -> Result<(), Wrong> {
+fn a_map_has_a_text_by_its_units(rt: HostRuntime) -> Result<(), Failed> {
     let has_units = made(is_key(rt.alloc(), &UNITS))?;
     let has_other = made(is_key(rt.alloc(), &[0x0061]))?;
     expect(has_units && !has_other, Wrong::Outcome)

@@ -3,12 +3,12 @@ use crate::shared::expect_text;
 use refusing::{Lent, REFUSALS, Refusal, Refusing};
 use unit_text::UnitText;
 use wtf8::{Wtf8, Wtf8Buf};
-use wtf8_tests::wrong::{Wrong, expect, expect_bytes, made};
+use wtf8_tests::wrong::{Failed, Wrong, expect, expect_bytes, made};
 
 #[test]
 fn a_string_becomes_a_text_and_a_string_again_without_a_request(
     rt: HostRuntime,
-) -> Result<(), Wrong> {
+) -> Result<(), Failed> {
     let heap = Refusing::new(rt.alloc(), 9);
     let string = made(Wtf8Buf::from_ill_formed_utf16(&heap, &[0xDCA9, 0xD83D]))?;
     heap.grant(0);
@@ -29,7 +29,7 @@ fn are_refused<'a>(heap: Lent<'a>, text: &mut UnitText<Lent<'a>>, refusal: Refus
 }
 
 #[test]
-fn a_refused_string_is_not_appended(rt: HostRuntime) -> Result<(), Wrong> {
+fn a_refused_string_is_not_appended(rt: HostRuntime) -> Result<(), Failed> {
     let heap = Refusing::new(rt.alloc(), 9);
     let mut text = made(UnitText::from_units(&heap, &[0x0061, 0xD83D]))?;
     for refusal in REFUSALS {
@@ -49,7 +49,7 @@ fn is_made(heap: Lent<'_>, value: &str, refusal: Refusal) -> bool {
 }
 
 #[test]
-fn a_refused_str_makes_no_text(rt: HostRuntime) -> Result<(), Wrong> {
+fn a_refused_str_makes_no_text(rt: HostRuntime) -> Result<(), Failed> {
     let heap = Refusing::new(rt.alloc(), 0);
     for refusal in REFUSALS {
         expect(!is_made(&heap, "aé", refusal), Wrong::Outcome)?;

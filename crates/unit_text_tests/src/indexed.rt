@@ -5,7 +5,7 @@ use std::cmp::Ordering;
 use std::hash::{DefaultHasher, Hash, Hasher};
 use unit_text::{IndexedBuf, UnitText};
 use wtf8::{Wtf8, Wtf8Buf};
-use wtf8_tests::wrong::{Wrong, expect, expect_bytes, made};
+use wtf8_tests::wrong::{Failed, Wrong, expect, expect_bytes, in_row, made};
 
 /// What a unit of an output is before a call writes to it.
 const UNWRITTEN: u16 = 0x1234;
@@ -35,13 +35,13 @@ fn expect_copied<A: Allocator>(
     units: &[u16],
     begin: usize,
     end: usize,
-) -> Result<(), Wrong> {
+) -> Result<(), Failed> {
     if begin > end || end > buf.unit_len() || end > units.len() {
-        return Err(Wrong::Row);
+        return Err(Failed::by(Wrong::Row));
     }
     let mut out = made(unwritten(alloc, units.len().saturating_add(1)))?;
     if out.len() < end - begin {
-        return Err(Wrong::Row);
+        return Err(Failed::by(Wrong::Row));
     }
     buf.copy_units(begin, end, &mut out);
     let (front, rest) = out.split_at(end - begin);
@@ -81,7 +81,7 @@ fn expect_part<A: Allocator>(
     units: &[u16],
     begin: usize,
     end: usize,
-) -> Result<(), Wrong> {
+) -> Result<(), Failed> {
     if begin > end {
         return Ok(());
     }
@@ -96,7 +96,7 @@ fn expect_all<A: Allocator>(
     buf: &IndexedBuf<A>,
     units: &[u16],
     dump: &str,
-) -> Result<(), Wrong> {
+) -> Result<(), Failed> {
     expect_buf(alloc, buf, units, dump)?;
     for end in 0..=units.len() {
         for begin in 0..=end {
@@ -153,7 +153,7 @@ fn taken_over(alloc: Global, units: &[u16]) -> Result<IndexedBuf<Global>, AllocE
 }
 
 /// Fails unless buffers grown in several ways have the units and the bytes.
-fn expect_grown(alloc: Global, units: &[u16], dump: &str) -> Result<(), Wrong> {
+fn expect_grown(alloc: Global, units: &[u16], dump: &str) -> Result<(), Failed> {
     let each = made(pushed_each(alloc, units))?;
     expect_all(alloc, &each, units, dump)?;
     let at_once = made(pushed_at_once(alloc, units))?;
@@ -167,7 +167,7 @@ fn expect_copies(
     buf: &IndexedBuf<Global>,
     units: &[u16],
     dump: &str,
-) -> Result<(), Wrong> {
+) -> Result<(), Failed> {
     let copy = made(buf.clone())?;
     expect_all(alloc, &copy, units, dump)?;
     let over = made(taken_over(alloc, units))?;
@@ -175,7 +175,7 @@ fn expect_copies(
 }
 
 /// Fails unless the buffer of the units has these and the bytes, without marks and with them, and its string the bytes.
-fn expect_made(alloc: Global, units: &[u16], dump: &str) -> Result<(), Wrong> {
+fn expect_made(alloc: Global, units: &[u16], dump: &str) -> Result<(), Failed> {
     let mut buf = made(IndexedBuf::from_units(alloc, units))?;
     expect_all(alloc, &buf, units, dump)?;
     buf.mark_units(alloc);
@@ -185,85 +185,118 @@ fn expect_made(alloc: Global, units: &[u16], dump: &str) -> Result<(), Wrong> {
 }
 
 #[test]
-fn a_buffer_has_the_units_that_it_is_made_of(rt: HostRuntime) -> Result<(), Wrong> {
+fn a_buffer_has_the_units_that_it_is_made_of(rt: HostRuntime) -> Result<(), Failed> {
+    let mut row = 0usize;
     for (units, dump) in texts() {
-        expect_made(rt.alloc(), units, dump)?;
-        expect_grown(rt.alloc(), units, dump)?;
+        in_row(row, expect_made(rt.alloc(), units, dump))?;
+        in_row(row, expect_grown(rt.alloc(), units, dump))?;
+        row = row.wrapping_add(1);
     }
     Ok(())
 }
 
-/// Units of a buffer, a call that appends to it, and the units and bytes after that.
-type Row = (&'static [u16], Push, &'static [u16], &'static str);
+/// A call that appends to the buffer of the units `front`, and the units and bytes after it.
+#[derive(Clone, Copy)]
+struct Row {
+    front: &'static [u16],
+    push: Push,
+    units: &'static [u16],
+    dump: &'static str,
+}
 
 /// Code points, units and characters that are pushed.
 fn single_pushes() -> [Row; 7] {
     [
-        (&[0x0061], Push::Point(0xE9), &[0x0061, 0x00E9], "61 C3 A9"),
-        (
-            &[0xD83D],
-            Push::Point(0xDCA9),
-            &[0xD83D, 0xDCA9],
-            "F0 9F 92 A9",
-        ),
-        (
-            &[],
-            Push::Point(0x10_FFFF),
-            &[0xDBFF, 0xDFFF],
-            "F4 8F BF BF",
-        ),
-        (
-            &[0xD83D],
-            Push::Unit(0xDCA9),
-            &[0xD83D, 0xDCA9],
-            "F0 9F 92 A9",
-        ),
-        (
-            &[0xDCA9],
-            Push::Unit(0xD83D),
-            &[0xDCA9, 0xD83D],
-            "ED B2 A9 ED A0 BD",
-        ),
-        (&[0x0061], Push::Char('あ'), &[0x0061, 0x3042], "61 E3 81 82"),
-        (
-            &[0xD83D],
-            Push::Char('💩'),
-            &[0xD83D, 0xD83D, 0xDCA9],
-            "ED A0 BD F0 9F 92 A9",
-        ),
+        Row {
+            front: &[0x0061],
+            push: Push::Point(0xE9),
+            units: &[0x0061, 0x00E9],
+            dump: "61 C3 A9",
+        },
+        Row {
+            front: &[0xD83D],
+            push: Push::Point(0xDCA9),
+            units: &[0xD83D, 0xDCA9],
+            dump: "F0 9F 92 A9",
+        },
+        Row {
+            front: &[],
+            push: Push::Point(0x10_FFFF),
+            units: &[0xDBFF, 0xDFFF],
+            dump: "F4 8F BF BF",
+        },
+        Row {
+            front: &[0xD83D],
+            push: Push::Unit(0xDCA9),
+            units: &[0xD83D, 0xDCA9],
+            dump: "F0 9F 92 A9",
+        },
+        Row {
+            front: &[0xDCA9],
+            push: Push::Unit(0xD83D),
+            units: &[0xDCA9, 0xD83D],
+            dump: "ED B2 A9 ED A0 BD",
+        },
+        Row {
+            front: &[0x0061],
+            push: Push::Char('あ'),
+            units: &[0x0061, 0x3042],
+            dump: "61 E3 81 82",
+        },
+        Row {
+            front: &[0xD83D],
+            push: Push::Char('💩'),
+            units: &[0xD83D, 0xD83D, 0xDCA9],
+            dump: "ED A0 BD F0 9F 92 A9",
+        },
     ]
 }
 
 /// Strings and lists of units that are pushed.
 fn string_pushes() -> [Row; 7] {
     [
-        (&[0x0061], Push::Str(""), &[0x0061], "61"),
-        (
-            &[0xD83D],
-            Push::Str("aé💩"),
-            &[0xD83D, 0x0061, 0x00E9, 0xD83D, 0xDCA9],
-            "ED A0 BD 61 C3 A9 F0 9F 92 A9",
-        ),
-        (&[0xD83D], Push::Units(&[]), &[0xD83D], "ED A0 BD"),
-        (
-            &[0x0061, 0xD83D],
-            Push::Units(&[0xDCA9, 0xDCA9]),
-            &[0x0061, 0xD83D, 0xDCA9, 0xDCA9],
-            "61 F0 9F 92 A9 ED B2 A9",
-        ),
-        (&[0xD83D], Push::View(&[]), &[0xD83D], "ED A0 BD"),
-        (
-            &[0x0061, 0xD83D],
-            Push::View(&[0xDCA9, 0x00E9]),
-            &[0x0061, 0xD83D, 0xDCA9, 0x00E9],
-            "61 F0 9F 92 A9 C3 A9",
-        ),
-        (
-            &[0x0061],
-            Push::View(&[0xDCA9, 0xD83D]),
-            &[0x0061, 0xDCA9, 0xD83D],
-            "61 ED B2 A9 ED A0 BD",
-        ),
+        Row {
+            front: &[0x0061],
+            push: Push::Str(""),
+            units: &[0x0061],
+            dump: "61",
+        },
+        Row {
+            front: &[0xD83D],
+            push: Push::Str("aé💩"),
+            units: &[0xD83D, 0x0061, 0x00E9, 0xD83D, 0xDCA9],
+            dump: "ED A0 BD 61 C3 A9 F0 9F 92 A9",
+        },
+        Row {
+            front: &[0xD83D],
+            push: Push::Units(&[]),
+            units: &[0xD83D],
+            dump: "ED A0 BD",
+        },
+        Row {
+            front: &[0x0061, 0xD83D],
+            push: Push::Units(&[0xDCA9, 0xDCA9]),
+            units: &[0x0061, 0xD83D, 0xDCA9, 0xDCA9],
+            dump: "61 F0 9F 92 A9 ED B2 A9",
+        },
+        Row {
+            front: &[0xD83D],
+            push: Push::View(&[]),
+            units: &[0xD83D],
+            dump: "ED A0 BD",
+        },
+        Row {
+            front: &[0x0061, 0xD83D],
+            push: Push::View(&[0xDCA9, 0x00E9]),
+            units: &[0x0061, 0xD83D, 0xDCA9, 0x00E9],
+            dump: "61 F0 9F 92 A9 C3 A9",
+        },
+        Row {
+            front: &[0x0061],
+            push: Push::View(&[0xDCA9, 0xD83D]),
+            units: &[0x0061, 0xDCA9, 0xD83D],
+            dump: "61 ED B2 A9 ED A0 BD",
+        },
     ]
 }
 
@@ -271,42 +304,47 @@ fn string_pushes() -> [Row; 7] {
 /// lead at the end, with both, and without any unit.
 fn slice_pushes() -> [Row; 5] {
     [
-        (
-            &[0x0061, 0xD83D],
-            Push::Slice(&[0xD83D, 0xDCA9, 0x00E9], 1, 3),
-            &[0x0061, 0xD83D, 0xDCA9, 0x00E9],
-            "61 F0 9F 92 A9 C3 A9",
-        ),
-        (
-            &[0x0061],
-            Push::Slice(&[0xD83D, 0xDCA9, 0x00E9], 1, 3),
-            &[0x0061, 0xDCA9, 0x00E9],
-            "61 ED B2 A9 C3 A9",
-        ),
-        (
-            &[0x0061],
-            Push::Slice(&[0x00E9, 0xD83D, 0xDCA9], 0, 2),
-            &[0x0061, 0x00E9, 0xD83D],
-            "61 C3 A9 ED A0 BD",
-        ),
-        (
-            &[0xD83D],
-            Push::Slice(&[0xD83D, 0xDCA9, 0xD83D, 0xDCA9], 1, 3),
-            &[0xD83D, 0xDCA9, 0xD83D],
-            "F0 9F 92 A9 ED A0 BD",
-        ),
-        (
-            &[0xD83D],
-            Push::Slice(&[0xD83D, 0xDCA9], 1, 1),
-            &[0xD83D],
-            "ED A0 BD",
-        ),
+        Row {
+            front: &[0x0061, 0xD83D],
+            push: Push::Slice(&[0xD83D, 0xDCA9, 0x00E9], 1, 3),
+            units: &[0x0061, 0xD83D, 0xDCA9, 0x00E9],
+            dump: "61 F0 9F 92 A9 C3 A9",
+        },
+        Row {
+            front: &[0x0061],
+            push: Push::Slice(&[0xD83D, 0xDCA9, 0x00E9], 1, 3),
+            units: &[0x0061, 0xDCA9, 0x00E9],
+            dump: "61 ED B2 A9 C3 A9",
+        },
+        Row {
+            front: &[0x0061],
+            push: Push::Slice(&[0x00E9, 0xD83D, 0xDCA9], 0, 2),
+            units: &[0x0061, 0x00E9, 0xD83D],
+            dump: "61 C3 A9 ED A0 BD",
+        },
+        Row {
+            front: &[0xD83D],
+            push: Push::Slice(&[0xD83D, 0xDCA9, 0xD83D, 0xDCA9], 1, 3),
+            units: &[0xD83D, 0xDCA9, 0xD83D],
+            dump: "F0 9F 92 A9 ED A0 BD",
+        },
+        Row {
+            front: &[0xD83D],
+            push: Push::Slice(&[0xD83D, 0xDCA9], 1, 1),
+            units: &[0xD83D],
+            dump: "ED A0 BD",
+        },
     ]
 }
 
 /// Fails unless the row's call appends its units, with marks kept or without.
-fn expect_push(alloc: Global, row: Row, is_marked: bool) -> Result<(), Wrong> {
-    let (front, push, units, dump) = row;
+fn expect_push(alloc: Global, row: Row, is_marked: bool) -> Result<(), Failed> {
+    let Row {
+        front,
+        push,
+        units,
+        dump,
+    } = row;
     let mut buf = made(IndexedBuf::from_units(alloc, front))?;
     if is_marked {
         buf.mark_units(alloc);
@@ -316,18 +354,22 @@ fn expect_push(alloc: Global, row: Row, is_marked: bool) -> Result<(), Wrong> {
 }
 
 #[test]
-fn each_call_that_pushes_appends_its_units(rt: HostRuntime) -> Result<(), Wrong> {
+fn each_call_that_pushes_appends_its_units(rt: HostRuntime) -> Result<(), Failed> {
+    let mut index = 0usize;
     for row in single_pushes() {
-        expect_push(rt.alloc(), row, false)?;
-        expect_push(rt.alloc(), row, true)?;
+        in_row(index, expect_push(rt.alloc(), row, false))?;
+        in_row(index, expect_push(rt.alloc(), row, true))?;
+        index = index.wrapping_add(1);
     }
     for row in string_pushes() {
-        expect_push(rt.alloc(), row, false)?;
-        expect_push(rt.alloc(), row, true)?;
+        in_row(index, expect_push(rt.alloc(), row, false))?;
+        in_row(index, expect_push(rt.alloc(), row, true))?;
+        index = index.wrapping_add(1);
     }
     for row in slice_pushes() {
-        expect_push(rt.alloc(), row, false)?;
-        expect_push(rt.alloc(), row, true)?;
+        in_row(index, expect_push(rt.alloc(), row, false))?;
+        in_row(index, expect_push(rt.alloc(), row, true))?;
+        index = index.wrapping_add(1);
     }
     Ok(())
 }
@@ -358,7 +400,7 @@ fn expect_order(
     alloc: Global,
     (units, number): (&[u16], usize),
     (others, other_number): (&[u16], usize),
-) -> Result<(), Wrong> {
+) -> Result<(), Failed> {
     let buf = made(IndexedBuf::from_units(alloc, units))?;
     let other = made(pushed_each(alloc, others))?;
     let order = number.cmp(&other_number);
@@ -374,10 +416,13 @@ fn expect_order(
 }
 
 #[test]
-fn buffers_compare_by_code_points(rt: HostRuntime) -> Result<(), Wrong> {
+fn buffers_compare_by_code_points(rt: HostRuntime) -> Result<(), Failed> {
     for (number, units) in ordered().iter().enumerate() {
         for (other_number, others) in ordered().iter().enumerate() {
-            expect_order(rt.alloc(), (units, number), (others, other_number))?;
+            in_row(
+                number,
+                expect_order(rt.alloc(), (units, number), (others, other_number)),
+            )?;
         }
     }
     Ok(())
@@ -406,7 +451,7 @@ fn is_mapped<A: Allocator>(buf: &IndexedBuf<A>) -> bool {
 }
 
 #[test]
-fn positions_of_a_buffer_are_rounded_down(rt: HostRuntime) -> Result<(), Wrong> {
+fn positions_of_a_buffer_are_rounded_down(rt: HostRuntime) -> Result<(), Failed> {
     let units = [0x0061, 0xD83D, 0xDCA9, 0x00E9, 0xD800];
     let mut buf = made(IndexedBuf::from_units(rt.alloc(), &units))?;
     expect(is_mapped(&buf), Wrong::Outcome)?;
@@ -513,12 +558,12 @@ fn expect_long<A: Allocator>(
     buf: &IndexedBuf<A>,
     units: &[u16],
     kind: Kind,
-) -> Result<(), Wrong> {
+) -> Result<(), Failed> {
     expect(buf_has_units(buf, units), Wrong::Units)?;
     expect(has_positions(buf, kind), Wrong::Outcome)?;
     for end in indexes() {
         for begin in indexes() {
-            expect_part(alloc, buf, units, begin, end)?;
+            in_row(end, expect_part(alloc, buf, units, begin, end))?;
         }
     }
     Ok(())
@@ -541,17 +586,17 @@ fn pushed_str(alloc: Global, text: &str) -> Result<IndexedBuf<Global>, AllocErro
 }
 
 /// Fails unless a buffer with marks has the units of its kind after these are pushed as one string and as one text.
-fn expect_pushed_string(alloc: Global, units: &[u16], kind: Kind) -> Result<(), Wrong> {
+fn expect_pushed_string(alloc: Global, units: &[u16], kind: Kind) -> Result<(), Failed> {
     let text = made(Wtf8Buf::from_ill_formed_utf16(alloc, units))?;
     let view = made(pushed_view(alloc, text.as_wtf8()))?;
     expect_long(alloc, &view, units, kind)?;
-    let value = text.as_wtf8().as_str().ok_or(Wrong::Outcome)?;
+    let value = text.as_wtf8().as_str().ok_or(Failed::by(Wrong::Outcome))?;
     let buf = made(pushed_str(alloc, value))?;
     expect_long(alloc, &buf, units, kind)
 }
 
 #[test]
-fn a_buffer_has_marks_of_a_string_pushed_at_once(rt: HostRuntime) -> Result<(), Wrong> {
+fn a_buffer_has_marks_of_a_string_pushed_at_once(rt: HostRuntime) -> Result<(), Failed> {
     for kind in KINDS {
         let units = made(long_units(rt.alloc(), kind))?;
         expect_pushed_string(rt.alloc(), &units, kind)?;
@@ -560,7 +605,7 @@ fn a_buffer_has_marks_of_a_string_pushed_at_once(rt: HostRuntime) -> Result<(), 
 }
 
 /// Fails unless a long buffer of the kind has its units without marks, with them, and if it is grown with them.
-fn expect_kind(alloc: Global, kind: Kind) -> Result<(), Wrong> {
+fn expect_kind(alloc: Global, kind: Kind) -> Result<(), Failed> {
     let units = made(long_units(alloc, kind))?;
     let mut buf = made(pushed_each(alloc, &units))?;
     expect_long(alloc, &buf, &units, kind)?;
@@ -573,7 +618,7 @@ fn expect_kind(alloc: Global, kind: Kind) -> Result<(), Wrong> {
 }
 
 #[test]
-fn a_long_buffer_finds_its_units(rt: HostRuntime) -> Result<(), Wrong> {
+fn a_long_buffer_finds_its_units(rt: HostRuntime) -> Result<(), Failed> {
     for kind in KINDS {
         expect_kind(rt.alloc(), kind)?;
     }
@@ -586,10 +631,10 @@ fn expect_cut<A: Allocator>(
     buf: &mut IndexedBuf<A>,
     (units, kind): (&[u16], Kind),
     n: usize,
-) -> Result<(), Wrong> {
+) -> Result<(), Failed> {
     let (front, back) = units.split_at(n.min(units.len()));
     if buf.unit_len() < front.len() {
-        return Err(Wrong::Row);
+        return Err(Failed::by(Wrong::Row));
     }
     buf.truncate_units(front.len());
     expect(buf_has_units(buf, front), Wrong::Units)?;
@@ -609,10 +654,10 @@ fn expect_cut_near_end<A: Allocator>(
     buf: &mut IndexedBuf<A>,
     units: &[u16],
     n: usize,
-) -> Result<(), Wrong> {
+) -> Result<(), Failed> {
     let (front, back) = units.split_at(n.min(units.len()));
     if buf.unit_len() < front.len() {
-        return Err(Wrong::Row);
+        return Err(Failed::by(Wrong::Row));
     }
     buf.truncate_units(front.len());
     expect(buf_has_units(buf, front), Wrong::Units)?;
@@ -622,20 +667,20 @@ fn expect_cut_near_end<A: Allocator>(
 
 /// Fails unless a long buffer without marks has its units and positions from each of `last_indexes` on, and if it is cut
 /// there.
-fn expect_end(alloc: Global, kind: Kind) -> Result<(), Wrong> {
+fn expect_end(alloc: Global, kind: Kind) -> Result<(), Failed> {
     let units = made(long_units(alloc, kind))?;
     let mut buf = made(IndexedBuf::from_units(alloc, &units))?;
     for i in last_indexes() {
         let is_found = i <= buf.unit_len() && buf.position_at(i) == position_of(kind, i);
-        expect(is_found, Wrong::Outcome)?;
-        expect_part(alloc, &buf, &units, i, LENGTH)?;
-        expect_cut_near_end(&mut buf, &units, i)?;
+        in_row(i, expect(is_found, Wrong::Outcome))?;
+        in_row(i, expect_part(alloc, &buf, &units, i, LENGTH))?;
+        in_row(i, expect_cut_near_end(&mut buf, &units, i))?;
     }
     Ok(())
 }
 
 #[test]
-fn the_last_units_of_a_buffer_without_marks_are_found(rt: HostRuntime) -> Result<(), Wrong> {
+fn the_last_units_of_a_buffer_without_marks_are_found(rt: HostRuntime) -> Result<(), Failed> {
     for kind in KINDS {
         expect_end(rt.alloc(), kind)?;
     }
@@ -649,12 +694,12 @@ fn expect_cut_at_position<A: Allocator>(
     buf: &mut IndexedBuf<A>,
     (units, kind): (&[u16], Kind),
     n: usize,
-) -> Result<(), Wrong> {
+) -> Result<(), Failed> {
     let position = position_of(kind, n);
     let kept = units_before(kind, position).min(units.len());
     let (front, back) = units.split_at(kept);
     if !buf.as_wtf8().is_code_point_boundary(position) {
-        return Err(Wrong::Outcome);
+        return Err(Failed::by(Wrong::Outcome));
     }
     buf.truncate(position);
     expect(buf_has_units(buf, front), Wrong::Units)?;
@@ -669,7 +714,7 @@ fn expect_cleared<A: Allocator>(
     buf: &mut IndexedBuf<A>,
     units: &[u16],
     kind: Kind,
-) -> Result<(), Wrong> {
+) -> Result<(), Failed> {
     let capacity = buf.capacity();
     buf.clear();
     expect_buf(alloc, buf, &[], "")?;
@@ -681,21 +726,24 @@ fn expect_cleared<A: Allocator>(
 }
 
 /// Fails unless a long buffer, cut at each of `indexes` or emptied, has its units again once they are pushed.
-fn expect_shortened(alloc: Global, kind: Kind, is_marked: bool) -> Result<(), Wrong> {
+fn expect_shortened(alloc: Global, kind: Kind, is_marked: bool) -> Result<(), Failed> {
     let units = made(long_units(alloc, kind))?;
     let mut buf = made(IndexedBuf::from_units(alloc, &units))?;
     if is_marked {
         buf.mark_units(alloc);
     }
     for n in indexes() {
-        expect_cut(alloc, &mut buf, (&units, kind), n)?;
-        expect_cut_at_position(alloc, &mut buf, (&units, kind), n)?;
+        in_row(n, expect_cut(alloc, &mut buf, (&units, kind), n))?;
+        in_row(
+            n,
+            expect_cut_at_position(alloc, &mut buf, (&units, kind), n),
+        )?;
     }
     expect_cleared(alloc, &mut buf, &units, kind)
 }
 
 #[test]
-fn a_buffer_that_became_shorter_grows_again(rt: HostRuntime) -> Result<(), Wrong> {
+fn a_buffer_that_became_shorter_grows_again(rt: HostRuntime) -> Result<(), Failed> {
     for kind in KINDS {
         expect_shortened(rt.alloc(), kind, false)?;
         expect_shortened(rt.alloc(), kind, true)?;
@@ -709,21 +757,21 @@ fn expect_shrunk(
     mut buf: IndexedBuf<Global>,
     units: &[u16],
     kind: Kind,
-) -> Result<(), Wrong> {
+) -> Result<(), Failed> {
     buf.shrink_to_fit();
     expect(buf.capacity() == buf.as_wtf8().len(), Wrong::Outcome)?;
     expect_long(alloc, &buf, units, kind)
 }
 
 /// Fails unless long buffers with spare capacity, without marks and with them, have their units without it.
-fn expect_kind_shrunk(alloc: Global, kind: Kind) -> Result<(), Wrong> {
+fn expect_kind_shrunk(alloc: Global, kind: Kind) -> Result<(), Failed> {
     let units = made(long_units(alloc, kind))?;
     expect_shrunk(alloc, made(pushed_each(alloc, &units))?, &units, kind)?;
     expect_shrunk(alloc, made(pushed_at_once(alloc, &units))?, &units, kind)
 }
 
 #[test]
-fn a_buffer_without_spare_capacity_has_its_units(rt: HostRuntime) -> Result<(), Wrong> {
+fn a_buffer_without_spare_capacity_has_its_units(rt: HostRuntime) -> Result<(), Failed> {
     for kind in KINDS {
         expect_kind_shrunk(rt.alloc(), kind)?;
     }
@@ -757,7 +805,12 @@ fn text_in_parts(
 }
 
 /// Fails unless a text pushed in two parts, cut after index `cut`, has the units and bytes, and its copy too.
-fn expect_text_in_parts(alloc: Global, units: &[u16], dump: &str, cut: usize) -> Result<(), Wrong> {
+fn expect_text_in_parts(
+    alloc: Global,
+    units: &[u16],
+    dump: &str,
+    cut: usize,
+) -> Result<(), Failed> {
     let (front, back) = units.split_at(cut.min(units.len()));
     let text = made(text_in_parts(alloc, front, back))?;
     expect_text(alloc, &text, units, dump)?;
@@ -768,7 +821,7 @@ fn expect_text_in_parts(alloc: Global, units: &[u16], dump: &str, cut: usize) ->
 }
 
 /// Fails unless a text pushed in two parts, wherever they are cut, has the units and bytes.
-fn expect_each_cut(alloc: Global, units: &[u16], dump: &str) -> Result<(), Wrong> {
+fn expect_each_cut(alloc: Global, units: &[u16], dump: &str) -> Result<(), Failed> {
     for cut in 0..=units.len() {
         expect_text_in_parts(alloc, units, dump, cut)?;
     }
@@ -776,10 +829,12 @@ fn expect_each_cut(alloc: Global, units: &[u16], dump: &str) -> Result<(), Wrong
 }
 
 #[test]
-fn a_text_is_pushed_in_parts_and_copied(rt: HostRuntime) -> Result<(), Wrong> {
+fn a_text_is_pushed_in_parts_and_copied(rt: HostRuntime) -> Result<(), Failed> {
     expect_text(rt.alloc(), &UnitText::new(rt.alloc()), &[], "")?;
+    let mut row = 0usize;
     for (units, dump) in texts() {
-        expect_each_cut(rt.alloc(), units, dump)?;
+        in_row(row, expect_each_cut(rt.alloc(), units, dump))?;
+        row = row.wrapping_add(1);
     }
     Ok(())
 }

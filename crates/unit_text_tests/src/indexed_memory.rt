@@ -3,7 +3,7 @@ use crate::shared::{Push, buf_has_units, expect_buf, expect_text, push_to};
 use refusing::{Lent, REFUSALS, Refusal, Refusing};
 use std::alloc::{AllocError, Allocator, Global};
 use unit_text::{IndexedBuf, UnitText};
-use wtf8_tests::wrong::{Wrong, expect, expect_bytes, made};
+use wtf8_tests::wrong::{Failed, Wrong, expect, expect_bytes, in_row, made};
 
 /// "a" and a lone lead, and their four bytes.
 const FRONT: [u16; 2] = [0x0061, 0xD83D];
@@ -15,97 +15,149 @@ const PAIR: [u16; 3] = [0x0061, 0xD83D, 0xDCA9];
 
 const PAIR_DUMP: &str = "61 F0 9F 92 A9";
 
-/// A call that appends to `FRONT`, the units and bytes after it, by how many bytes the string grows, and the number of
-/// requests without spare capacity. `push_units` first reserves a byte for each unit, and then what its units need.
-type Row = (Push, &'static [u16], &'static str, usize, u64);
+/// A call that appends to `FRONT`.
+#[derive(Clone, Copy)]
+struct Row {
+    push: Push,
+    /// The units and the bytes after the call.
+    units: &'static [u16],
+    dump: &'static str,
+    /// The number of bytes by which the string grows.
+    growth: usize,
+    /// The number of requests without spare capacity. `push_units` first reserves a byte for each unit, and then what
+    /// its units need.
+    requests: u64,
+}
 
 /// Calls that append one code point, or nothing.
 fn single_pushes() -> [Row; 8] {
     [
-        (Push::Point(0xDCA9), &PAIR, PAIR_DUMP, 1, 1),
-        (Push::Unit(0xDCA9), &PAIR, PAIR_DUMP, 1, 1),
-        (
-            Push::Unit(0x00E9),
-            &[0x0061, 0xD83D, 0x00E9],
-            "61 ED A0 BD C3 A9",
-            2,
-            1,
-        ),
-        (
-            Push::Char('💩'),
-            &[0x0061, 0xD83D, 0xD83D, 0xDCA9],
-            "61 ED A0 BD F0 9F 92 A9",
-            4,
-            1,
-        ),
-        (Push::Units(&[0xDCA9]), &PAIR, PAIR_DUMP, 1, 1),
-        (Push::Str(""), &FRONT, FRONT_DUMP, 0, 0),
-        (Push::Units(&[]), &FRONT, FRONT_DUMP, 0, 0),
-        (Push::View(&[]), &FRONT, FRONT_DUMP, 0, 0),
+        Row {
+            push: Push::Point(0xDCA9),
+            units: &PAIR,
+            dump: PAIR_DUMP,
+            growth: 1,
+            requests: 1,
+        },
+        Row {
+            push: Push::Unit(0xDCA9),
+            units: &PAIR,
+            dump: PAIR_DUMP,
+            growth: 1,
+            requests: 1,
+        },
+        Row {
+            push: Push::Unit(0x00E9),
+            units: &[0x0061, 0xD83D, 0x00E9],
+            dump: "61 ED A0 BD C3 A9",
+            growth: 2,
+            requests: 1,
+        },
+        Row {
+            push: Push::Char('💩'),
+            units: &[0x0061, 0xD83D, 0xD83D, 0xDCA9],
+            dump: "61 ED A0 BD F0 9F 92 A9",
+            growth: 4,
+            requests: 1,
+        },
+        Row {
+            push: Push::Units(&[0xDCA9]),
+            units: &PAIR,
+            dump: PAIR_DUMP,
+            growth: 1,
+            requests: 1,
+        },
+        Row {
+            push: Push::Str(""),
+            units: &FRONT,
+            dump: FRONT_DUMP,
+            growth: 0,
+            requests: 0,
+        },
+        Row {
+            push: Push::Units(&[]),
+            units: &FRONT,
+            dump: FRONT_DUMP,
+            growth: 0,
+            requests: 0,
+        },
+        Row {
+            push: Push::View(&[]),
+            units: &FRONT,
+            dump: FRONT_DUMP,
+            growth: 0,
+            requests: 0,
+        },
     ]
 }
 
 /// Calls that append several code points.
 fn string_pushes() -> [Row; 3] {
     [
-        (
-            Push::Str("aé💩"),
-            &[0x0061, 0xD83D, 0x0061, 0x00E9, 0xD83D, 0xDCA9],
-            "61 ED A0 BD 61 C3 A9 F0 9F 92 A9",
-            7,
-            1,
-        ),
-        (
-            Push::Units(&[0xDCA9, 0xE000, 0xE000]),
-            &[0x0061, 0xD83D, 0xDCA9, 0xE000, 0xE000],
-            "61 F0 9F 92 A9 EE 80 80 EE 80 80",
-            7,
-            2,
-        ),
-        (
-            Push::View(&[0xDCA9, 0x00E9]),
-            &[0x0061, 0xD83D, 0xDCA9, 0x00E9],
-            "61 F0 9F 92 A9 C3 A9",
-            3,
-            1,
-        ),
+        Row {
+            push: Push::Str("aé💩"),
+            units: &[0x0061, 0xD83D, 0x0061, 0x00E9, 0xD83D, 0xDCA9],
+            dump: "61 ED A0 BD 61 C3 A9 F0 9F 92 A9",
+            growth: 7,
+            requests: 1,
+        },
+        Row {
+            push: Push::Units(&[0xDCA9, 0xE000, 0xE000]),
+            units: &[0x0061, 0xD83D, 0xDCA9, 0xE000, 0xE000],
+            dump: "61 F0 9F 92 A9 EE 80 80 EE 80 80",
+            growth: 7,
+            requests: 2,
+        },
+        Row {
+            push: Push::View(&[0xDCA9, 0x00E9]),
+            units: &[0x0061, 0xD83D, 0xDCA9, 0x00E9],
+            dump: "61 F0 9F 92 A9 C3 A9",
+            growth: 3,
+            requests: 1,
+        },
     ]
 }
 
 /// Slices whose trail in front completes the pair, alone or before other code points, that have a lead at the end, or
-/// that are empty. Each part of a slice is appended by itself, and a growth is at least to twice the capacity, which is
+/// that are empty. Each part of a slice is appended separately, and a growth is at least to twice the capacity, which is
 /// four bytes at first.
 fn slice_pushes() -> [Row; 5] {
     [
-        (Push::Slice(&[0xD83D, 0xDCA9], 1, 2), &PAIR, PAIR_DUMP, 1, 1),
-        (
-            Push::Slice(&[0xD83D, 0xDCA9, 0x00E9], 1, 3),
-            &[0x0061, 0xD83D, 0xDCA9, 0x00E9],
-            "61 F0 9F 92 A9 C3 A9",
-            3,
-            1,
-        ),
-        (
-            Push::Slice(&[0xD83D, 0xDCA9, 0xE000, 0xD83D, 0xDCA9], 1, 4),
-            &[0x0061, 0xD83D, 0xDCA9, 0xE000, 0xD83D],
-            "61 F0 9F 92 A9 EE 80 80 ED A0 BD",
-            7,
-            2,
-        ),
-        (
-            Push::Slice(&[0x00E9, 0xD83D, 0xDCA9], 0, 2),
-            &[0x0061, 0xD83D, 0x00E9, 0xD83D],
-            "61 ED A0 BD C3 A9 ED A0 BD",
-            5,
-            2,
-        ),
-        (
-            Push::Slice(&[0xD83D, 0xDCA9], 1, 1),
-            &FRONT,
-            FRONT_DUMP,
-            0,
-            0,
-        ),
+        Row {
+            push: Push::Slice(&[0xD83D, 0xDCA9], 1, 2),
+            units: &PAIR,
+            dump: PAIR_DUMP,
+            growth: 1,
+            requests: 1,
+        },
+        Row {
+            push: Push::Slice(&[0xD83D, 0xDCA9, 0x00E9], 1, 3),
+            units: &[0x0061, 0xD83D, 0xDCA9, 0x00E9],
+            dump: "61 F0 9F 92 A9 C3 A9",
+            growth: 3,
+            requests: 1,
+        },
+        Row {
+            push: Push::Slice(&[0xD83D, 0xDCA9, 0xE000, 0xD83D, 0xDCA9], 1, 4),
+            units: &[0x0061, 0xD83D, 0xDCA9, 0xE000, 0xD83D],
+            dump: "61 F0 9F 92 A9 EE 80 80 ED A0 BD",
+            growth: 7,
+            requests: 2,
+        },
+        Row {
+            push: Push::Slice(&[0x00E9, 0xD83D, 0xDCA9], 0, 2),
+            units: &[0x0061, 0xD83D, 0x00E9, 0xD83D],
+            dump: "61 ED A0 BD C3 A9 ED A0 BD",
+            growth: 5,
+            requests: 2,
+        },
+        Row {
+            push: Push::Slice(&[0xD83D, 0xDCA9], 1, 1),
+            units: &FRONT,
+            dump: FRONT_DUMP,
+            growth: 0,
+            requests: 0,
+        },
     ]
 }
 
@@ -133,8 +185,14 @@ fn expect_in_room(
     row: Row,
     spare: usize,
     is_marked: bool,
-) -> Result<(), Wrong> {
-    let (push, units, dump, growth, _) = row;
+) -> Result<(), Failed> {
+    let Row {
+        push,
+        units,
+        dump,
+        growth,
+        ..
+    } = row;
     let mut buf = made(with_spare(heap, spare))?;
     if is_marked {
         buf.mark_units(heap);
@@ -151,8 +209,8 @@ fn expect_in_room(
 
 /// Fails unless the row's call does what `expect_in_room` requires at each spare capacity, up to one byte more than it
 /// needs.
-fn expect_in_each_room(alloc: Global, heap: Lent<'_>, row: Row) -> Result<(), Wrong> {
-    let (_, _, _, growth, _) = row;
+fn expect_in_each_room(alloc: Global, heap: Lent<'_>, row: Row) -> Result<(), Failed> {
+    let growth = row.growth;
     for spare in 0..=growth.saturating_add(1) {
         expect_in_room(alloc, heap, row, spare, false)?;
         expect_in_room(alloc, heap, row, spare, true)?;
@@ -161,16 +219,20 @@ fn expect_in_each_room(alloc: Global, heap: Lent<'_>, row: Row) -> Result<(), Wr
 }
 
 #[test]
-fn a_push_makes_no_request_just_if_it_fits(rt: HostRuntime) -> Result<(), Wrong> {
+fn a_push_makes_no_request_just_if_it_fits(rt: HostRuntime) -> Result<(), Failed> {
     let heap = Refusing::new(rt.alloc(), 0);
+    let mut index = 0usize;
     for row in single_pushes() {
-        expect_in_each_room(rt.alloc(), &heap, row)?;
+        in_row(index, expect_in_each_room(rt.alloc(), &heap, row))?;
+        index = index.wrapping_add(1);
     }
     for row in string_pushes() {
-        expect_in_each_room(rt.alloc(), &heap, row)?;
+        in_row(index, expect_in_each_room(rt.alloc(), &heap, row))?;
+        index = index.wrapping_add(1);
     }
     for row in slice_pushes() {
-        expect_in_each_room(rt.alloc(), &heap, row)?;
+        in_row(index, expect_in_each_room(rt.alloc(), &heap, row))?;
+        index = index.wrapping_add(1);
     }
     Ok(())
 }
@@ -181,7 +243,7 @@ fn expect_refused(
     heap: Lent<'_>,
     push: Push,
     (granted, refusal): (u64, Refusal),
-) -> Result<(), Wrong> {
+) -> Result<(), Failed> {
     let mut buf = made(with_spare(heap, 0))?;
     heap.refuse_after(granted, refusal);
     let is_pushed = push_to(alloc, &mut buf, push).is_ok();
@@ -191,8 +253,14 @@ fn expect_refused(
 }
 
 /// Fails unless the row's call, without spare capacity, makes its requests and fails at each that is refused.
-fn expect_each_refused(alloc: Global, heap: Lent<'_>, row: Row) -> Result<(), Wrong> {
-    let (push, units, dump, _, requests) = row;
+fn expect_each_refused(alloc: Global, heap: Lent<'_>, row: Row) -> Result<(), Failed> {
+    let Row {
+        push,
+        units,
+        dump,
+        requests,
+        ..
+    } = row;
     for refusal in REFUSALS {
         for granted in 0..requests {
             expect_refused(alloc, heap, push, (granted, refusal))?;
@@ -206,16 +274,20 @@ fn expect_each_refused(alloc: Global, heap: Lent<'_>, row: Row) -> Result<(), Wr
 }
 
 #[test]
-fn a_push_fails_at_each_refusal_and_changes_nothing(rt: HostRuntime) -> Result<(), Wrong> {
+fn a_push_fails_at_each_refusal_and_changes_nothing(rt: HostRuntime) -> Result<(), Failed> {
     let heap = Refusing::new(rt.alloc(), 0);
+    let mut index = 0usize;
     for row in single_pushes() {
-        expect_each_refused(rt.alloc(), &heap, row)?;
+        in_row(index, expect_each_refused(rt.alloc(), &heap, row))?;
+        index = index.wrapping_add(1);
     }
     for row in string_pushes() {
-        expect_each_refused(rt.alloc(), &heap, row)?;
+        in_row(index, expect_each_refused(rt.alloc(), &heap, row))?;
+        index = index.wrapping_add(1);
     }
     for row in slice_pushes() {
-        expect_each_refused(rt.alloc(), &heap, row)?;
+        in_row(index, expect_each_refused(rt.alloc(), &heap, row))?;
+        index = index.wrapping_add(1);
     }
     Ok(())
 }
@@ -256,7 +328,7 @@ fn expect_one_more<'a>(
     marks: Lent<'a>,
     buf: &mut IndexedBuf<Lent<'a>>,
     mut units: Vec<u16>,
-) -> Result<(), Wrong> {
+) -> Result<(), Failed> {
     heap.grant(9);
     marks.grant(9);
     made(buf.push_unit(0x0061))?;
@@ -267,10 +339,15 @@ fn expect_one_more<'a>(
 
 /// Makes the row's call on a long buffer, with just the spare capacity that it needs and every request refused. Fails
 /// unless it appends its units, though a mark is refused, and a later call adds the mark.
-fn expect_long_push(alloc: Global, row: Row) -> Result<(), Wrong> {
+fn expect_long_push(alloc: Global, row: Row) -> Result<(), Failed> {
     let heap = Refusing::new(alloc, 0);
     let marks = Refusing::new(alloc, 0);
-    let (push, units, _, growth, _) = row;
+    let Row {
+        push,
+        units,
+        growth,
+        ..
+    } = row;
     let mut buf = made(long_with_spare(alloc, &heap, &marks, growth))?;
     heap.grant(0);
     marks.grant(0);
@@ -284,25 +361,29 @@ fn expect_long_push(alloc: Global, row: Row) -> Result<(), Wrong> {
 }
 
 #[test]
-fn a_refused_mark_refuses_no_push(rt: HostRuntime) -> Result<(), Wrong> {
+fn a_refused_mark_refuses_no_push(rt: HostRuntime) -> Result<(), Failed> {
+    let mut index = 0usize;
     for row in single_pushes() {
-        expect_long_push(rt.alloc(), row)?;
+        in_row(index, expect_long_push(rt.alloc(), row))?;
+        index = index.wrapping_add(1);
     }
     for row in string_pushes() {
-        expect_long_push(rt.alloc(), row)?;
+        in_row(index, expect_long_push(rt.alloc(), row))?;
+        index = index.wrapping_add(1);
     }
     for row in slice_pushes() {
-        expect_long_push(rt.alloc(), row)?;
+        in_row(index, expect_long_push(rt.alloc(), row))?;
+        index = index.wrapping_add(1);
     }
     Ok(())
 }
 
 /// Makes the row's call on a long buffer with marks, with one byte too little of spare capacity and every request
 /// refused. Fails unless it changes nothing, asks for no mark, and a later call adds the mark that is then missing.
-fn expect_long_refused(alloc: Global, row: Row) -> Result<(), Wrong> {
+fn expect_long_refused(alloc: Global, row: Row) -> Result<(), Failed> {
     let heap = Refusing::new(alloc, 0);
     let marks = Refusing::new(alloc, 0);
-    let (push, _, _, growth, _) = row;
+    let Row { push, growth, .. } = row;
     let spare = growth.saturating_sub(1);
     let mut buf = made(long_with_spare(alloc, &heap, &marks, spare))?;
     heap.grant(0);
@@ -317,15 +398,19 @@ fn expect_long_refused(alloc: Global, row: Row) -> Result<(), Wrong> {
 }
 
 #[test]
-fn a_refused_push_changes_no_long_buffer(rt: HostRuntime) -> Result<(), Wrong> {
+fn a_refused_push_changes_no_long_buffer(rt: HostRuntime) -> Result<(), Failed> {
+    let mut index = 0usize;
     for row in single_pushes() {
-        expect_long_refused(rt.alloc(), row)?;
+        in_row(index, expect_long_refused(rt.alloc(), row))?;
+        index = index.wrapping_add(1);
     }
     for row in string_pushes() {
-        expect_long_refused(rt.alloc(), row)?;
+        in_row(index, expect_long_refused(rt.alloc(), row))?;
+        index = index.wrapping_add(1);
     }
     for row in slice_pushes() {
-        expect_long_refused(rt.alloc(), row)?;
+        in_row(index, expect_long_refused(rt.alloc(), row))?;
+        index = index.wrapping_add(1);
     }
     Ok(())
 }
@@ -352,7 +437,7 @@ fn shrink<'a>(
     marks: Lent<'a>,
     buf: &mut IndexedBuf<Lent<'a>>,
     is_granted: bool,
-) -> Result<(), Wrong> {
+) -> Result<(), Failed> {
     buf.shrink_to_fit();
     expect(heap.requests() == 1, Wrong::Requests)?;
     expect(marks.requests() == 1, Wrong::Requests)?;
@@ -368,7 +453,7 @@ fn expect_next_mark<'a>(
     marks: Lent<'a>,
     buf: &mut IndexedBuf<Lent<'a>>,
     is_full: bool,
-) -> Result<(), Wrong> {
+) -> Result<(), Failed> {
     heap.grant(u64::MAX);
     marks.grant(0);
     made(push_each(buf, &[0x3042; 127]))?;
@@ -382,7 +467,7 @@ fn expect_released<'a>(
     heap: Lent<'a>,
     marks: Lent<'a>,
     buf: &mut IndexedBuf<Lent<'a>>,
-) -> Result<(), Wrong> {
+) -> Result<(), Failed> {
     heap.grant(0);
     marks.grant(0);
     buf.clear();
@@ -401,7 +486,7 @@ fn expect_shrunk<'a>(
     marks: Lent<'a>,
     buf: &mut IndexedBuf<Lent<'a>>,
     (is_granted, is_full): (bool, bool),
-) -> Result<(), Wrong> {
+) -> Result<(), Failed> {
     let mut units = made(after_wide(alloc, &PAIR))?;
     shrink(heap, marks, buf, is_granted)?;
     expect(buf_has_units(buf, &units), Wrong::Units)?;
@@ -416,7 +501,7 @@ fn expect_each_shrunk(
     alloc: Global,
     (is_granted, is_full): (bool, bool),
     refusal: Refusal,
-) -> Result<(), Wrong> {
+) -> Result<(), Failed> {
     let heap = Refusing::new(alloc, 0);
     let marks = Refusing::new(alloc, 0);
     let mut buf = made(long_with_room(alloc, &heap, &marks))?;
@@ -427,7 +512,7 @@ fn expect_each_shrunk(
 }
 
 #[test]
-fn a_buffer_releases_spare_capacity_if_that_is_granted(rt: HostRuntime) -> Result<(), Wrong> {
+fn a_buffer_releases_spare_capacity_if_that_is_granted(rt: HostRuntime) -> Result<(), Failed> {
     for granted in [(false, false), (false, true), (true, false), (true, true)] {
         for refusal in REFUSALS {
             expect_each_shrunk(rt.alloc(), granted, refusal)?;
@@ -438,7 +523,7 @@ fn a_buffer_releases_spare_capacity_if_that_is_granted(rt: HostRuntime) -> Resul
 
 /// Asks for marks of a long buffer with `granted` requests granted. Fails unless the buffer has its units then, and
 /// after a push.
-fn expect_marked(alloc: Global, granted: u64, refusal: Refusal) -> Result<(), Wrong> {
+fn expect_marked(alloc: Global, granted: u64, refusal: Refusal) -> Result<(), Failed> {
     let heap = Refusing::new(alloc, 9);
     let marks = Refusing::new(alloc, 0);
     let mut units = made(after_wide(alloc, &[0xD83D, 0xD83D, 0xDCA9]))?;
@@ -453,7 +538,7 @@ fn expect_marked(alloc: Global, granted: u64, refusal: Refusal) -> Result<(), Wr
 }
 
 #[test]
-fn marks_that_are_refused_change_nothing(rt: HostRuntime) -> Result<(), Wrong> {
+fn marks_that_are_refused_change_nothing(rt: HostRuntime) -> Result<(), Failed> {
     for refusal in REFUSALS {
         for granted in 0..4 {
             expect_marked(rt.alloc(), granted, refusal)?;
@@ -497,7 +582,7 @@ fn expect_make<'a>(
     other: &IndexedBuf<Lent<'a>>,
     make: Make,
     requests: u64,
-) -> Result<(), Wrong> {
+) -> Result<(), Failed> {
     for refusal in REFUSALS {
         for granted in 0..requests {
             heap.refuse_after(granted, refusal);
@@ -511,11 +596,13 @@ fn expect_make<'a>(
 }
 
 #[test]
-fn a_buffer_is_made_of_the_memory_that_it_needs(rt: HostRuntime) -> Result<(), Wrong> {
+fn a_buffer_is_made_of_the_memory_that_it_needs(rt: HostRuntime) -> Result<(), Failed> {
     let heap = Refusing::new(rt.alloc(), 9);
     let other = made(with_spare(&heap, 0))?;
+    let mut row = 0usize;
     for (make, requests) in makes() {
-        expect_make(&heap, &other, make, requests)?;
+        in_row(row, expect_make(&heap, &other, make, requests))?;
+        row = row.wrapping_add(1);
     }
     expect_buf(rt.alloc(), &other, &FRONT, FRONT_DUMP)
 }
@@ -527,7 +614,7 @@ fn expect_reserved(
     heap: Lent<'_>,
     (additional, granted): (usize, u64),
     (is_reserved, requests): (bool, u64),
-) -> Result<(), Wrong> {
+) -> Result<(), Failed> {
     let mut buf = made(with_spare(heap, 2))?;
     heap.grant(granted);
     let is_ok = buf.reserve(additional).is_ok();
@@ -539,8 +626,9 @@ fn expect_reserved(
 }
 
 #[test]
-fn spare_capacity_is_reserved_once(rt: HostRuntime) -> Result<(), Wrong> {
+fn spare_capacity_is_reserved_once(rt: HostRuntime) -> Result<(), Failed> {
     let heap = Refusing::new(rt.alloc(), 9);
+    let mut row = 0usize;
     for (call, outcome) in [
         ((0, 0), (true, 0)),
         ((2, 0), (true, 0)),
@@ -548,18 +636,19 @@ fn spare_capacity_is_reserved_once(rt: HostRuntime) -> Result<(), Wrong> {
         ((3, 1), (true, 1)),
         ((300, 1), (true, 1)),
     ] {
-        expect_reserved(rt.alloc(), &heap, call, outcome)?;
+        in_row(row, expect_reserved(rt.alloc(), &heap, call, outcome))?;
+        row = row.wrapping_add(1);
     }
     Ok(())
 }
 
 /// Takes the string of a buffer and makes a buffer of it again, cuts it inside the pair and empties it. Fails unless
 /// each call leaves the right bytes.
-fn expect_shorter<'a>(alloc: Global, buf: IndexedBuf<Lent<'a>>) -> Result<(), Wrong> {
+fn expect_shorter<'a>(alloc: Global, buf: IndexedBuf<Lent<'a>>) -> Result<(), Failed> {
     let mut again = IndexedBuf::from_buf(buf.into_buf());
     expect_buf(alloc, &again, &PAIR, PAIR_DUMP)?;
     if again.unit_len() < 2 {
-        return Err(Wrong::Units);
+        return Err(Failed::by(Wrong::Units));
     }
     again.truncate_units(2);
     expect_buf(alloc, &again, &FRONT, FRONT_DUMP)?;
@@ -568,7 +657,7 @@ fn expect_shorter<'a>(alloc: Global, buf: IndexedBuf<Lent<'a>>) -> Result<(), Wr
 }
 
 #[test]
-fn calls_that_append_nothing_make_no_request(rt: HostRuntime) -> Result<(), Wrong> {
+fn calls_that_append_nothing_make_no_request(rt: HostRuntime) -> Result<(), Failed> {
     let heap = Refusing::new(rt.alloc(), 9);
     let buf = made(IndexedBuf::from_units(&heap, &PAIR))?;
     heap.grant(0);
@@ -583,7 +672,7 @@ fn expect_uncopied<'a>(
     heap: Lent<'a>,
     text: &UnitText<Lent<'a>>,
     refusal: Refusal,
-) -> Result<(), Wrong> {
+) -> Result<(), Failed> {
     heap.refuse_after(0, refusal);
     let is_copied = text.clone().is_ok();
     expect(!is_copied && heap.requests() == 1, Wrong::Requests)
@@ -594,7 +683,7 @@ fn expect_unpushed<'a>(
     heap: Lent<'a>,
     text: &mut UnitText<Lent<'a>>,
     refusal: Refusal,
-) -> Result<(), Wrong> {
+) -> Result<(), Failed> {
     heap.refuse_after(0, refusal);
     let is_pushed = text.push_units(&[0xE000; 6]).is_ok();
     expect(!is_pushed && heap.requests() == 1, Wrong::Requests)?;
@@ -604,7 +693,7 @@ fn expect_unpushed<'a>(
 }
 
 /// Fails unless the text of `FRONT` is as it was after a copy, and then units pushed to it, are refused.
-fn expect_text_kept(alloc: Global, heap: Lent<'_>, refusal: Refusal) -> Result<(), Wrong> {
+fn expect_text_kept(alloc: Global, heap: Lent<'_>, refusal: Refusal) -> Result<(), Failed> {
     heap.grant(9);
     let mut text = made(UnitText::from_units(heap, &FRONT))?;
     expect_uncopied(heap, &text, refusal)?;
@@ -613,7 +702,7 @@ fn expect_text_kept(alloc: Global, heap: Lent<'_>, refusal: Refusal) -> Result<(
 }
 
 #[test]
-fn a_text_is_unchanged_if_a_copy_or_units_are_refused(rt: HostRuntime) -> Result<(), Wrong> {
+fn a_text_is_unchanged_if_a_copy_or_units_are_refused(rt: HostRuntime) -> Result<(), Failed> {
     let heap = Refusing::new(rt.alloc(), 9);
     for refusal in REFUSALS {
         expect_text_kept(rt.alloc(), &heap, refusal)?;

@@ -3,7 +3,7 @@ use crate::shared::slice_of;
 use refusing::{Lent, Refusing};
 use std::alloc::{AllocError, Global};
 use unit_text::UnitText;
-use wtf8_tests::wrong::{Wrong, expect, made};
+use wtf8_tests::wrong::{Failed, Wrong, expect, in_row, made};
 
 /// Eight units that repeat in a text: of one kind alone, or mixed.
 fn kinds() -> [[u16; 8]; 5] {
@@ -107,7 +107,7 @@ fn expect_slice<'a>(
     kind: &[u16; 8],
     begin: usize,
     end: usize,
-) -> Result<(), Wrong> {
+) -> Result<(), Failed> {
     heap.grant(u64::MAX);
     let slice = slice_of(heap, text, begin, end)?;
     let room = room_between(kind, text.unit_len(), begin, end, slice.as_wtf8().len());
@@ -121,7 +121,7 @@ fn expect_slices<'a>(
     text: &UnitText<Lent<'a>>,
     kind: &[u16; 8],
     length: usize,
-) -> Result<(), Wrong> {
+) -> Result<(), Failed> {
     let half = length / 2;
     for (begin, end) in [
         (0, length),
@@ -136,7 +136,7 @@ fn expect_slices<'a>(
 }
 
 /// Fails unless a text is appended to a copy of it with at most one request, for at most the bytes of both, or 16.
-fn expect_twice<'a>(heap: Lent<'a>, text: &UnitText<Lent<'a>>) -> Result<(), Wrong> {
+fn expect_twice<'a>(heap: Lent<'a>, text: &UnitText<Lent<'a>>) -> Result<(), Failed> {
     let mut front = slice_of(heap, text, 0, text.unit_len())?;
     let most = front.as_wtf8().len().saturating_mul(2).max(16);
     heap.grant(u64::MAX);
@@ -148,7 +148,7 @@ fn expect_twice<'a>(heap: Lent<'a>, text: &UnitText<Lent<'a>>) -> Result<(), Wro
 }
 
 /// Fails unless slices of `length` units that repeat `kind`, and appending these to a copy, request what they need.
-fn expect_done(alloc: Global, kind: &[u16; 8], length: usize) -> Result<(), Wrong> {
+fn expect_done(alloc: Global, kind: &[u16; 8], length: usize) -> Result<(), Failed> {
     let heap = Refusing::new(alloc, 0);
     let text = made(text_of(alloc, &heap, kind, length))?;
     expect_slices(&heap, &text, kind, length)?;
@@ -156,23 +156,23 @@ fn expect_done(alloc: Global, kind: &[u16; 8], length: usize) -> Result<(), Wron
 }
 
 #[test]
-fn each_call_is_done_at_each_length(rt: HostRuntime) -> Result<(), Wrong> {
+fn each_call_is_done_at_each_length(rt: HostRuntime) -> Result<(), Failed> {
     for kind in &kinds() {
         for length in 0..=300 {
-            expect_done(rt.alloc(), kind, length)?;
+            in_row(length, expect_done(rt.alloc(), kind, length))?;
         }
         for length in long() {
-            expect_done(rt.alloc(), kind, length)?;
+            in_row(length, expect_done(rt.alloc(), kind, length))?;
         }
     }
     Ok(())
 }
 
 #[test]
-fn each_call_is_done_about_powers_of_two(rt: HostRuntime) -> Result<(), Wrong> {
+fn each_call_is_done_about_powers_of_two(rt: HostRuntime) -> Result<(), Failed> {
     for (unit, lengths) in ABOUT_POWERS {
         for length in lengths {
-            expect_done(rt.alloc(), &[unit; 8], *length)?;
+            in_row(*length, expect_done(rt.alloc(), &[unit; 8], *length))?;
         }
     }
     Ok(())

@@ -2,7 +2,7 @@
 use refusing::{Lent, Refusing};
 use std::alloc::{AllocError, Allocator, Global};
 use unit_text::UnitText;
-use wtf8_tests::wrong::{Wrong, expect, made};
+use wtf8_tests::wrong::{Failed, Wrong, expect, in_row, made};
 
 /// Lengths in units of a growing text, and the number of requests for its marks up to each. The text has a mark for each
 /// multiple of 128 below its length; the list of marks has room for four at first, and then for twice as many.
@@ -65,18 +65,19 @@ fn expect_requests<'a>(
     marks: Lent<'a>,
     text: &mut UnitText<Lent<'a>>,
     growth: Growth,
-) -> Result<(), Wrong> {
+) -> Result<(), Failed> {
     for (length, requests) in requests_by_length() {
         let count = length.saturating_sub(text.unit_len());
         made(grow(heap, text, count, growth))?;
-        expect(text.unit_len() == length, Wrong::Units)?;
-        expect(marks.requests() == requests, Wrong::Requests)?;
+        in_row(length, expect(text.unit_len() == length, Wrong::Units))?;
+        let is_asked = marks.requests() == requests;
+        in_row(length, expect(is_asked, Wrong::Requests))?;
     }
     Ok(())
 }
 
 /// Grows a text that keeps marks from the start, and whose marks have an allocator of their own.
-fn expect_growth(alloc: Global, growth: Growth) -> Result<(), Wrong> {
+fn expect_growth(alloc: Global, growth: Growth) -> Result<(), Failed> {
     let heap = Refusing::new(alloc, u64::MAX);
     let marks = Refusing::new(alloc, u64::MAX);
     let mut text = made(UnitText::from_units(&heap, &[]))?;
@@ -85,7 +86,7 @@ fn expect_growth(alloc: Global, growth: Growth) -> Result<(), Wrong> {
 }
 
 #[test]
-fn a_growing_text_asks_for_room_for_marks(rt: HostRuntime) -> Result<(), Wrong> {
+fn a_growing_text_asks_for_room_for_marks(rt: HostRuntime) -> Result<(), Failed> {
     for growth in [Growth::Push, Growth::Concat, Growth::PushStr] {
         expect_growth(rt.alloc(), growth)?;
     }

@@ -3,7 +3,7 @@ use crate::shared::expect_units;
 use refusing::{Lent, REFUSALS, Refusal, Refusing};
 use std::alloc::{AllocError, Allocator, Global};
 use unit_text::UnitText;
-use wtf8_tests::wrong::{Wrong, expect, made};
+use wtf8_tests::wrong::{Failed, Wrong, expect, in_row, made};
 
 /// Six units that repeat in a text.
 fn kinds() -> [[u16; 6]; 5] {
@@ -39,7 +39,7 @@ fn expect_between<A: Allocator + Drop>(
     units: &[u16],
     begin: usize,
     end: usize,
-) -> Result<(), Wrong> {
+) -> Result<(), Failed> {
     if begin > end || end > text.unit_len() || end > units.len() {
         return Ok(());
     }
@@ -52,7 +52,7 @@ fn expect_found<A: Allocator + Copy + Drop>(
     alloc: A,
     text: &UnitText<A>,
     units: &[u16],
-) -> Result<(), Wrong> {
+) -> Result<(), Failed> {
     for end in indexes() {
         for begin in indexes() {
             expect_between(alloc, text, units, begin, end)?;
@@ -68,7 +68,7 @@ fn expect_kind<A: Allocator + Copy + Drop>(
     text: &UnitText<A>,
     kind: &[u16; 6],
     length: usize,
-) -> Result<(), Wrong> {
+) -> Result<(), Failed> {
     let units = made(units_of(alloc, kind, length))?;
     expect_found(text_alloc, text, &units)
 }
@@ -85,7 +85,7 @@ fn requests() -> [([u16; 6], usize, u64); 5] {
 }
 
 /// Fails unless `mark_units` makes this number of requests for the text of `units`.
-fn expect_requests(heap: Lent<'_>, units: &[u16], requests: u64) -> Result<(), Wrong> {
+fn expect_requests(heap: Lent<'_>, units: &[u16], requests: u64) -> Result<(), Failed> {
     heap.grant(u64::MAX);
     let mut text = made(UnitText::from_units(heap, units))?;
     heap.grant(u64::MAX);
@@ -94,11 +94,11 @@ fn expect_requests(heap: Lent<'_>, units: &[u16], requests: u64) -> Result<(), W
 }
 
 #[test]
-fn marks_ask_for_what_they_need(rt: HostRuntime) -> Result<(), Wrong> {
+fn marks_ask_for_what_they_need(rt: HostRuntime) -> Result<(), Failed> {
     let heap = Refusing::new(rt.alloc(), u64::MAX);
     for (kind, length, requests) in requests() {
         let units = made(units_of(rt.alloc(), &kind, length))?;
-        expect_requests(&heap, &units, requests)?;
+        in_row(length, expect_requests(&heap, &units, requests))?;
     }
     Ok(())
 }
@@ -139,7 +139,7 @@ fn expect_left(
     kind: &[u16; 6],
     granted: u64,
     refusal: Refusal,
-) -> Result<(), Wrong> {
+) -> Result<(), Failed> {
     let mut text = made(UnitText::from_units(heap, &[]))?;
     let units = made(units_of(alloc, kind, 60))?;
     let grown = made(grow(heap, &mut text, &units, granted, refusal))?;
@@ -148,14 +148,17 @@ fn expect_left(
 }
 
 #[test]
-fn refused_marks_are_left_out(rt: HostRuntime) -> Result<(), Wrong> {
+fn refused_marks_are_left_out(rt: HostRuntime) -> Result<(), Failed> {
+    let mut row = 0usize;
     for kind in &kinds() {
         for refusal in REFUSALS {
             for granted in 0..12 {
                 let heap = Refusing::new(rt.alloc(), u64::MAX);
-                expect_left(rt.alloc(), &heap, kind, granted, refusal)?;
+                let outcome = expect_left(rt.alloc(), &heap, kind, granted, refusal);
+                in_row(row, outcome)?;
             }
         }
+        row = row.wrapping_add(1);
     }
     Ok(())
 }

@@ -3,7 +3,7 @@ use crate::shared::slice_of;
 use refusing::{Lent, REFUSALS, Refusal, Refusing};
 use std::alloc::{AllocError, Allocator, Global};
 use unit_text::UnitText;
-use wtf8_tests::wrong::{Wrong, expect, expect_bytes, made};
+use wtf8_tests::wrong::{Failed, Wrong, expect, expect_bytes, in_row, made};
 
 /// Units of three bytes each, so that a text of them grows more than once.
 const WIDE: [u16; 6] = [0xE000; 6];
@@ -14,9 +14,9 @@ fn expect_unasked<'a>(
     heap: Lent<'a>,
     text: &UnitText<Lent<'a>>,
     dump: &str,
-) -> Result<(), Wrong> {
+) -> Result<(), Failed> {
     if heap.requests() != 0 {
-        return Err(Wrong::Requests);
+        return Err(Failed::by(Wrong::Requests));
     }
     expect_bytes(alloc, text.as_wtf8(), dump)
 }
@@ -27,13 +27,13 @@ fn expect_empty_slice<'a>(
     heap: Lent<'a>,
     text: &UnitText<Lent<'a>>,
     index: usize,
-) -> Result<(), Wrong> {
+) -> Result<(), Failed> {
     let slice = slice_of(heap, text, index, index)?;
     expect_unasked(alloc, heap, &slice, "")
 }
 
 #[test]
-fn no_units_ask_for_no_memory(rt: HostRuntime) -> Result<(), Wrong> {
+fn no_units_ask_for_no_memory(rt: HostRuntime) -> Result<(), Failed> {
     let heap = Refusing::new(rt.alloc(), 0);
     let empty = made(UnitText::from_units(&heap, &[]))?;
     expect_unasked(rt.alloc(), &heap, &empty, "")?;
@@ -49,14 +49,14 @@ fn lead_and_nothing(heap: Lent<'_>) -> Result<UnitText<Lent<'_>>, AllocError> {
 }
 
 #[test]
-fn the_empty_text_asks_for_no_memory(rt: HostRuntime) -> Result<(), Wrong> {
+fn the_empty_text_asks_for_no_memory(rt: HostRuntime) -> Result<(), Failed> {
     let heap = Refusing::new(rt.alloc(), 9);
     let lead = made(lead_and_nothing(&heap))?;
     expect_unasked(rt.alloc(), &heap, &lead, "ED A0 BD")
 }
 
 #[test]
-fn an_empty_slice_asks_for_no_memory(rt: HostRuntime) -> Result<(), Wrong> {
+fn an_empty_slice_asks_for_no_memory(rt: HostRuntime) -> Result<(), Failed> {
     let heap = Refusing::new(rt.alloc(), 9);
     let text = made(UnitText::from_units(&heap, &[0xD83D, 0xDCA9]))?;
     heap.grant(0);
@@ -64,28 +64,73 @@ fn an_empty_slice_asks_for_no_memory(rt: HostRuntime) -> Result<(), Wrong> {
     expect_bytes(rt.alloc(), text.as_wtf8(), "F0 9F 92 A9")
 }
 
-/// The units of a text, the begin and end of a slice in units, and the number of its requests and of the bytes in them.
-/// A growth is to the greatest of eight bytes, twice the capacity and what is needed.
-type Slice = (&'static [u16], usize, usize, u64, usize);
+/// A slice of the text of `units`, and what it requests.
+#[derive(Clone, Copy)]
+struct Slice {
+    units: &'static [u16],
+    /// The range of the slice, in units.
+    begin: usize,
+    end: usize,
+    /// The number of its requests, and of the bytes in them. A growth is to the greatest of eight bytes, twice the
+    /// capacity and what is needed.
+    requests: u64,
+    bytes: usize,
+}
 
 /// Slices of units of three bytes, and slices that split surrogate pairs.
 fn slices() -> [Slice; 7] {
     [
-        (&WIDE, 0, 6, 1, 18),
-        (&WIDE, 3, 6, 1, 9),
-        (&WIDE, 2, 3, 1, 8),
-        (&WIDE, 3, 3, 0, 0),
-        (&[0xD83D, 0xDCA9], 1, 2, 1, 8),
-        (&[0xD83D, 0xDCA9, 0xD83D, 0xDCA9], 1, 3, 1, 8),
-        (
-            &[
+        Slice {
+            units: &WIDE,
+            begin: 0,
+            end: 6,
+            requests: 1,
+            bytes: 18,
+        },
+        Slice {
+            units: &WIDE,
+            begin: 3,
+            end: 6,
+            requests: 1,
+            bytes: 9,
+        },
+        Slice {
+            units: &WIDE,
+            begin: 2,
+            end: 3,
+            requests: 1,
+            bytes: 8,
+        },
+        Slice {
+            units: &WIDE,
+            begin: 3,
+            end: 3,
+            requests: 0,
+            bytes: 0,
+        },
+        Slice {
+            units: &[0xD83D, 0xDCA9],
+            begin: 1,
+            end: 2,
+            requests: 1,
+            bytes: 8,
+        },
+        Slice {
+            units: &[0xD83D, 0xDCA9, 0xD83D, 0xDCA9],
+            begin: 1,
+            end: 3,
+            requests: 1,
+            bytes: 8,
+        },
+        Slice {
+            units: &[
                 0xD83D, 0xDCA9, 0xD83D, 0xDCA9, 0xD83D, 0xDCA9, 0xD83D, 0xDCA9,
             ],
-            1,
-            7,
-            2,
-            8 + 16,
-        ),
+            begin: 1,
+            end: 7,
+            requests: 2,
+            bytes: 8 + 16,
+        },
     ]
 }
 
@@ -97,10 +142,10 @@ fn is_sliced<'a>(
     range: (usize, usize),
     granted: u64,
     refusal: Refusal,
-) -> Result<bool, Wrong> {
+) -> Result<bool, Failed> {
     let (begin, end) = range;
     if begin > end || end > text.unit_len() {
-        return Err(Wrong::Row);
+        return Err(Failed::by(Wrong::Row));
     }
     heap.refuse_after(granted, refusal);
     Ok(text.slice_units(heap, begin, end).is_ok())
@@ -112,28 +157,39 @@ fn expect_unsliced<'a>(
     text: &UnitText<Lent<'a>>,
     row: Slice,
     refusal: Refusal,
-) -> Result<(), Wrong> {
-    let (_, begin, end, requests, _) = row;
+) -> Result<(), Failed> {
+    let Slice {
+        begin,
+        end,
+        requests,
+        ..
+    } = row;
     for granted in 0..requests {
         let is_sliced = is_sliced(heap, text, (begin, end), granted, refusal)?;
         if is_sliced || heap.requests() != granted.wrapping_add(1) {
-            return Err(Wrong::Requests);
+            return Err(Failed::by(Wrong::Requests));
         }
     }
     Ok(())
 }
 
 /// Fails unless the row's slice succeeds if all its requests are granted, with the row's requests and bytes.
-fn expect_sliced<'a>(heap: Lent<'a>, text: &UnitText<Lent<'a>>, row: Slice) -> Result<(), Wrong> {
-    let (_, begin, end, requests, bytes) = row;
+fn expect_sliced<'a>(heap: Lent<'a>, text: &UnitText<Lent<'a>>, row: Slice) -> Result<(), Failed> {
+    let Slice {
+        begin,
+        end,
+        requests,
+        bytes,
+        ..
+    } = row;
     let is_sliced = is_sliced(heap, text, (begin, end), 9, Refusal::Once)?;
     let is_asked = heap.requests() == requests && heap.bytes() == bytes;
     expect(is_sliced && is_asked, Wrong::Requests)
 }
 
 /// Fails unless the row's slice requests what the row says, and fails at each request that is refused.
-fn expect_slice(heap: Lent<'_>, row: Slice) -> Result<(), Wrong> {
-    let (units, _, _, _, _) = row;
+fn expect_slice(heap: Lent<'_>, row: Slice) -> Result<(), Failed> {
+    let units = row.units;
     heap.grant(9);
     let text = made(UnitText::from_units(heap, units))?;
     for refusal in REFUSALS {
@@ -143,10 +199,12 @@ fn expect_slice(heap: Lent<'_>, row: Slice) -> Result<(), Wrong> {
 }
 
 #[test]
-fn a_slice_asks_for_what_it_needs(rt: HostRuntime) -> Result<(), Wrong> {
+fn a_slice_asks_for_what_it_needs(rt: HostRuntime) -> Result<(), Failed> {
     let heap = Refusing::new(rt.alloc(), 9);
+    let mut index = 0usize;
     for row in slices() {
-        expect_slice(&heap, row)?;
+        in_row(index, expect_slice(&heap, row))?;
+        index = index.wrapping_add(1);
     }
     Ok(())
 }
@@ -157,7 +215,7 @@ fn is_made<A: Allocator>(alloc: A) -> bool {
 }
 
 #[test]
-fn a_text_of_units_asks_for_what_it_needs(rt: HostRuntime) -> Result<(), Wrong> {
+fn a_text_of_units_asks_for_what_it_needs(rt: HostRuntime) -> Result<(), Failed> {
     let heap = Refusing::new(rt.alloc(), 9);
     expect(is_made(&heap), Wrong::Outcome)?;
     let is_asked = heap.requests() == 3 && heap.bytes() == 6 + 12 + 24;
@@ -183,12 +241,12 @@ fn is_appended<'a>(
     text: &mut UnitText<Lent<'a>>,
     granted: u64,
     refusal: Refusal,
-) -> Result<bool, Wrong> {
+) -> Result<bool, Failed> {
     let trails = made(UnitText::from_units(heap, &hundred_trails()))?;
     heap.refuse_after(granted, refusal);
     let is_appended = text.concat(&trails).is_ok();
     if trails.unit_len() != 100 || heap.requests() != 1 || heap.bytes() != 302 {
-        return Err(Wrong::Requests);
+        return Err(Failed::by(Wrong::Requests));
     }
     Ok(is_appended)
 }
@@ -199,10 +257,10 @@ fn expect_grown<'a>(
     heap: Lent<'a>,
     text: &UnitText<Lent<'a>>,
     is_grown: bool,
-) -> Result<(), Wrong> {
+) -> Result<(), Failed> {
     let len = if is_grown { 102 } else { 2 };
     if text.unit_len() != len {
-        return Err(Wrong::Units);
+        return Err(Failed::by(Wrong::Units));
     }
     if !is_grown {
         return expect_bytes(alloc, text.as_wtf8(), "61 ED A0 BD");
@@ -220,22 +278,25 @@ fn expect_appended(
     granted: u64,
     refusal: Refusal,
     is_granted: bool,
-) -> Result<(), Wrong> {
+) -> Result<(), Failed> {
     let mut text = made(UnitText::from_units(heap, &[0x0061, 0xD83D]))?;
     let is_grown = is_appended(heap, &mut text, granted, refusal)?;
     if is_grown != is_granted {
-        return Err(Wrong::Outcome);
+        return Err(Failed::by(Wrong::Outcome));
     }
     expect_grown(alloc, heap, &text, is_grown)
 }
 
 #[test]
-fn a_refused_text_is_not_appended(rt: HostRuntime) -> Result<(), Wrong> {
+fn a_refused_text_is_not_appended(rt: HostRuntime) -> Result<(), Failed> {
+    let mut row = 0usize;
     for (granted, is_granted) in [(0, false), (1, true), (9, true)] {
         for refusal in REFUSALS {
             let heap = Refusing::new(rt.alloc(), 9);
-            expect_appended(rt.alloc(), &heap, granted, refusal, is_granted)?;
+            let outcome = expect_appended(rt.alloc(), &heap, granted, refusal, is_granted);
+            in_row(row, outcome)?;
         }
+        row = row.wrapping_add(1);
     }
     Ok(())
 }

@@ -3,7 +3,7 @@ use crate::shared::expect_units;
 use refusing::Refusing;
 use std::alloc::{AllocError, Allocator, Global};
 use unit_text::UnitText;
-use wtf8_tests::wrong::{Wrong, expect, made};
+use wtf8_tests::wrong::{Failed, Wrong, expect, in_row, made};
 
 /// "a", a surrogate pair, "é" and a lone lead surrogate: in bytes 61, F0 9F 92 A9, C3 A9 and ED A0 80.
 const UNITS: [u16; 5] = [0x0061, 0xD83D, 0xDCA9, 0x00E9, 0xD800];
@@ -30,7 +30,7 @@ fn is_mapped<A: Allocator>(text: &UnitText<A>) -> bool {
 }
 
 #[test]
-fn positions_are_rounded_down(rt: HostRuntime) -> Result<(), Wrong> {
+fn positions_are_rounded_down(rt: HostRuntime) -> Result<(), Failed> {
     let text = made(UnitText::from_units(rt.alloc(), &UNITS))?;
     expect(is_mapped(&text), Wrong::Outcome)
 }
@@ -98,7 +98,7 @@ fn has_positions<A: Allocator>(text: &UnitText<A>, units: &[u16]) -> bool {
 }
 
 /// Fails unless a text with marks has the positions of `units`, also after it is cut to `n` units and grows again.
-fn expect_positions(alloc: Global, units: &[u16], n: usize) -> Result<(), Wrong> {
+fn expect_positions(alloc: Global, units: &[u16], n: usize) -> Result<(), Failed> {
     let mut text = made(UnitText::from_units(alloc, units))?;
     text.mark_units(alloc);
     expect(has_positions(&text, units), Wrong::Units)?;
@@ -106,10 +106,10 @@ fn expect_positions(alloc: Global, units: &[u16], n: usize) -> Result<(), Wrong>
 }
 
 /// Fails unless a text, cut to its first `n` units, has these alone, and then the others again if they are pushed.
-fn expect_cut<A: Allocator>(text: &mut UnitText<A>, units: &[u16], n: usize) -> Result<(), Wrong> {
+fn expect_cut<A: Allocator>(text: &mut UnitText<A>, units: &[u16], n: usize) -> Result<(), Failed> {
     let (front, back) = units.split_at(n.min(units.len()));
     if text.unit_len() < front.len() {
-        return Err(Wrong::Row);
+        return Err(Failed::by(Wrong::Row));
     }
     text.truncate_units(front.len());
     expect_units(text, front)?;
@@ -121,24 +121,24 @@ fn expect_cut<A: Allocator>(text: &mut UnitText<A>, units: &[u16], n: usize) -> 
 }
 
 #[test]
-fn a_long_text_has_positions_by_its_marks(rt: HostRuntime) -> Result<(), Wrong> {
+fn a_long_text_has_positions_by_its_marks(rt: HostRuntime) -> Result<(), Failed> {
     for kind in &kinds() {
         let units = made(units_of(rt.alloc(), kind, 600))?;
         for n in [0, 1, 127, 128, 129, 257, 385, 599, 600] {
-            expect_positions(rt.alloc(), &units, n)?;
+            in_row(n, expect_positions(rt.alloc(), &units, n))?;
         }
     }
     Ok(())
 }
 
 #[test]
-fn positions_and_shorter_texts_request_no_memory(rt: HostRuntime) -> Result<(), Wrong> {
+fn positions_and_shorter_texts_request_no_memory(rt: HostRuntime) -> Result<(), Failed> {
     let heap = Refusing::new(rt.alloc(), u64::MAX);
     let mut text = made(UnitText::from_units(&heap, &UNITS))?;
     heap.grant(0);
     let is_mapped = is_mapped(&text);
     if text.unit_len() != 5 {
-        return Err(Wrong::Units);
+        return Err(Failed::by(Wrong::Units));
     }
     text.truncate_units(2);
     expect(is_mapped && heap.requests() == 0, Wrong::Requests)?;

@@ -3,26 +3,60 @@ use crate::shared::expect_units;
 use refusing::{Lent, Refusal, Refusing};
 use std::alloc::{AllocError, Global};
 use unit_text::UnitText;
-use wtf8_tests::wrong::{Wrong, expect_bytes, made};
+use wtf8_tests::wrong::{Failed, Wrong, expect, expect_bytes, in_row, made};
 
 type Text<'a> = UnitText<Lent<'a>>;
 
-/// Six units that repeat in a text, whether it has marks, and the number of requests that 300 units make: for their
-/// bytes, whose capacity is eight and then doubles, and for marks. If the units begin with a trail, every even index
-/// but 0 splits a surrogate pair.
-fn grown() -> [([u16; 6], bool, u64, u64); 6] {
+/// A text to which 300 units are pushed.
+#[derive(Clone, Copy)]
+struct Row {
+    /// Six units that repeat in it.
+    kind: [u16; 6],
+    is_marked: bool,
+    /// The number of requests for its bytes, whose capacity is eight and then doubles, and for its marks.
+    growths: u64,
+    marks: u64,
+}
+
+/// If the units begin with a trail, every even index but 0 splits a surrogate pair.
+fn rows() -> [Row; 6] {
     [
-        ([0x0061; 6], true, 7, 0),
-        ([0x3042; 6], false, 8, 0),
-        ([0x3042; 6], true, 8, 1),
-        ([0xDCA9, 0xD83D, 0xDCA9, 0xD83D, 0xDCA9, 0xD83D], true, 8, 1),
-        ([0x00E9, 0xD83D, 0xDCA9, 0x00E9, 0xD83D, 0xDCA9], true, 8, 1),
-        (
-            [0x0061, 0x3042, 0xDCA9, 0xD83D, 0xDCA9, 0xD83D],
-            false,
-            8,
-            0,
-        ),
+        Row {
+            kind: [0x0061; 6],
+            is_marked: true,
+            growths: 7,
+            marks: 0,
+        },
+        Row {
+            kind: [0x3042; 6],
+            is_marked: false,
+            growths: 8,
+            marks: 0,
+        },
+        Row {
+            kind: [0x3042; 6],
+            is_marked: true,
+            growths: 8,
+            marks: 1,
+        },
+        Row {
+            kind: [0xDCA9, 0xD83D, 0xDCA9, 0xD83D, 0xDCA9, 0xD83D],
+            is_marked: true,
+            growths: 8,
+            marks: 1,
+        },
+        Row {
+            kind: [0x00E9, 0xD83D, 0xDCA9, 0x00E9, 0xD83D, 0xDCA9],
+            is_marked: true,
+            growths: 8,
+            marks: 1,
+        },
+        Row {
+            kind: [0x0061, 0x3042, 0xDCA9, 0xD83D, 0xDCA9, 0xD83D],
+            is_marked: false,
+            growths: 8,
+            marks: 0,
+        },
     ]
 }
 
@@ -35,9 +69,9 @@ fn checked() -> [usize; 7] {
 }
 
 /// Fails unless a text equals another one and has its bytes.
-fn expect_same<'a>(alloc: Global, text: &Text<'a>, other: &Text<'a>) -> Result<(), Wrong> {
+fn expect_same<'a>(alloc: Global, text: &Text<'a>, other: &Text<'a>) -> Result<(), Failed> {
     if *text != *other {
-        return Err(Wrong::Outcome);
+        return Err(Failed::by(Wrong::Outcome));
     }
     let dump = made(other.as_wtf8().hex_dump(alloc))?;
     expect_bytes(alloc, text.as_wtf8(), dump.as_str())
@@ -49,7 +83,7 @@ fn expect_made<'a>(
     heap: Lent<'a>,
     text: &UnitText<Lent<'a>>,
     units: &[u16],
-) -> Result<(), Wrong> {
+) -> Result<(), Failed> {
     expect_units(text, units)?;
     heap.grant(u64::MAX);
     let other = made(UnitText::from_units(heap, units))?;
@@ -63,7 +97,7 @@ fn append(units: &mut Vec<u16>, unit: u16) -> Result<(), AllocError> {
 }
 
 /// Pushes units that repeat `kind`, and returns the ones not refused. Fails unless the text has them at each check.
-fn pushed(alloc: Global, text: &mut Text<'_>, kind: &[u16; 6]) -> Result<Vec<u16>, Wrong> {
+fn pushed(alloc: Global, text: &mut Text<'_>, kind: &[u16; 6]) -> Result<Vec<u16>, Failed> {
     let mut units = Vec::new(alloc);
     for at in 0..LENGTH {
         let unit = kind[at % 6];
@@ -84,7 +118,7 @@ fn push_and_expect<'a>(
     heap: Lent<'a>,
     text: &mut Text<'a>,
     kind: &[u16; 6],
-) -> Result<u64, Wrong> {
+) -> Result<u64, Failed> {
     let units = pushed(alloc, text, kind)?;
     expect_made(alloc, heap, text, &units)?;
     Ok(LENGTH.saturating_sub(units.len()) as u64)
@@ -99,7 +133,7 @@ fn expect_grown(
     is_marked: bool,
     granted: u64,
     refusal: Refusal,
-) -> Result<u64, Wrong> {
+) -> Result<u64, Failed> {
     let heap = Refusing::new(alloc, 0);
     let mut text = made(UnitText::from_units(&heap, &[]))?;
     if is_marked {
@@ -109,17 +143,24 @@ fn expect_grown(
     push_and_expect(alloc, &heap, &mut text, kind)
 }
 
+/// Refuses each request of the pushes in turn. Fails unless a refused growth refuses one push, and a refused mark none.
+fn expect_each_refused(alloc: Global, row: &Row) -> Result<(), Failed> {
+    let mut refused = 0u64;
+    // None is refused if all requests are granted.
+    for granted in 0..=row.growths.wrapping_add(row.marks) {
+        expect_grown(alloc, &row.kind, row.is_marked, granted, Refusal::ForGood)?;
+        let left_out = expect_grown(alloc, &row.kind, row.is_marked, granted, Refusal::Once)?;
+        refused = refused.wrapping_add(left_out);
+    }
+    expect(refused == row.growths, Wrong::Outcome)
+}
+
 #[test]
-fn pushed_units_are_found(rt: HostRuntime) -> Result<(), Wrong> {
-    for (kind, is_marked, growths, marks) in grown() {
-        let mut refused = 0u64;
-        for granted in 0..=growths.wrapping_add(marks) {
-            expect_grown(rt.alloc(), &kind, is_marked, granted, Refusal::ForGood)?;
-            let left_out = expect_grown(rt.alloc(), &kind, is_marked, granted, Refusal::Once)?;
-            refused = refused.wrapping_add(left_out);
-        }
-        // A refused growth refuses one push, and a refused mark none. None is refused if all requests are granted.
-        assert_eq!(rt; refused, growths);
+fn pushed_units_are_found(rt: HostRuntime) -> Result<(), Failed> {
+    let mut index = 0usize;
+    for row in &rows() {
+        in_row(index, expect_each_refused(rt.alloc(), row))?;
+        index = index.wrapping_add(1);
     }
     Ok(())
 }

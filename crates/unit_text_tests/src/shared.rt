@@ -2,7 +2,7 @@
 use std::alloc::{AllocError, Allocator, Global};
 use unit_text::{IndexedBuf, UnitText};
 use wtf8::{CodePoint, Wtf8, Wtf8Buf};
-use wtf8_tests::wrong::{Wrong, expect, expect_bytes, made};
+use wtf8_tests::wrong::{Failed, Wrong, expect, expect_bytes, made};
 
 /// The slice from unit `begin` to before unit `end`. Fails if this is no range of the text's units.
 pub fn slice_of<A: Allocator + Drop>(
@@ -10,9 +10,9 @@ pub fn slice_of<A: Allocator + Drop>(
     text: &UnitText<A>,
     begin: usize,
     end: usize,
-) -> Result<UnitText<A>, Wrong> {
+) -> Result<UnitText<A>, Failed> {
     if begin > end || end > text.unit_len() {
-        return Err(Wrong::Row);
+        return Err(Failed::by(Wrong::Row));
     }
     made(text.slice_units(alloc, begin, end))
 }
@@ -28,7 +28,7 @@ fn has_units<A: Allocator>(text: &UnitText<A>, units: &[u16]) -> bool {
 }
 
 /// Fails unless the text has `units` by index, and no more.
-pub fn expect_units<A: Allocator>(text: &UnitText<A>, units: &[u16]) -> Result<(), Wrong> {
+pub fn expect_units<A: Allocator>(text: &UnitText<A>, units: &[u16]) -> Result<(), Failed> {
     expect(has_units(text, units), Wrong::Units)
 }
 
@@ -38,7 +38,7 @@ pub fn expect_text<A: Allocator>(
     text: &UnitText<A>,
     units: &[u16],
     dump: &str,
-) -> Result<(), Wrong> {
+) -> Result<(), Failed> {
     expect_units(text, units)?;
     expect_bytes(alloc, text.as_wtf8(), dump)
 }
@@ -59,7 +59,7 @@ pub fn expect_buf<A: Allocator>(
     buf: &IndexedBuf<A>,
     units: &[u16],
     dump: &str,
-) -> Result<(), Wrong> {
+) -> Result<(), Failed> {
     expect(buf_has_units(buf, units), Wrong::Units)?;
     expect_bytes(alloc, buf.as_wtf8(), dump)
 }

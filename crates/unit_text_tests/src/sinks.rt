@@ -3,7 +3,7 @@ use std::alloc::{AllocError, Global};
 use std::fmt::Write;
 use unit_text::{IndexedBuf, UnitText};
 use wtf8_tests::sinks::Sink;
-use wtf8_tests::wrong::{Wrong, expect, made};
+use wtf8_tests::wrong::{Failed, Wrong, expect, made};
 
 /// Writes the debug output, with a sign and a width if `is_styled`, to a sink that refuses write number `refused`.
 /// Fails unless it ends there, or is `expected` if no write is refused. Returns the number of writes.
@@ -13,7 +13,7 @@ fn writes_of(
     is_styled: bool,
     refused: u32,
     expected: &str,
-) -> Result<u32, Wrong> {
+) -> Result<u32, Failed> {
     let mut sink = Sink::new(alloc, refused);
     let is_ok = if is_styled {
         write!(sink, "{text:+3000?}").is_ok()
@@ -21,13 +21,13 @@ fn writes_of(
         write!(sink, "{text:?}").is_ok()
     };
     if is_ok != sink.has_taken(expected) {
-        return Err(Wrong::Outcome);
+        return Err(Failed::by(Wrong::Outcome));
     }
     sink.expect_end(is_ok, expected)
 }
 
 /// Refuses each write of the debug output in turn. Fails unless the output ends there.
-fn expect_ends(alloc: Global, units: &[u16], expected: &str) -> Result<(), Wrong> {
+fn expect_ends(alloc: Global, units: &[u16], expected: &str) -> Result<(), Failed> {
     let text = UnitText::from_units(alloc, units)?;
     for is_styled in [false, true] {
         let writes = writes_of(alloc, &text, is_styled, u32::MAX, expected)?;
@@ -51,7 +51,7 @@ fn long_text(alloc: Global) -> Result<(Vec<u16>, String), AllocError> {
 }
 
 #[test]
-fn a_debug_text_ends_at_a_refused_write(rt: HostRuntime) -> Result<(), Wrong> {
+fn a_debug_text_ends_at_a_refused_write(rt: HostRuntime) -> Result<(), Failed> {
     expect_ends(rt.alloc(), &[], "\"\"")?;
     expect_ends(rt.alloc(), &[0xD83D, 0xDCA9], "\"\u{1F4A9}\"")?;
     expect_ends(
@@ -69,7 +69,7 @@ fn a_debug_text_ends_at_a_refused_write(rt: HostRuntime) -> Result<(), Wrong> {
 }
 
 #[test]
-fn a_buffer_has_the_debug_text_of_its_view(rt: HostRuntime) -> Result<(), Wrong> {
+fn a_buffer_has_the_debug_text_of_its_view(rt: HostRuntime) -> Result<(), Failed> {
     let units = [0x0061, 0xD83D, 0xDCA9, 0xD800];
     let buf = made(IndexedBuf::from_units(rt.alloc(), &units))?;
     let mut sink = Sink::new(rt.alloc(), u32::MAX);

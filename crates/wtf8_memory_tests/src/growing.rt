@@ -5,108 +5,172 @@ use std::alloc::{AllocError, Allocator, Global};
 use wtf8::{Build, CodePoint, Wtf8, Wtf8Buf};
 use wtf8_tests::examples::{TEXT, joined};
 use wtf8_tests::way::Way;
-use wtf8_tests::wrong::{Wrong, expect_bytes};
+use wtf8_tests::wrong::{Failed, Wrong, expect_bytes, in_row};
 
-/// A call on a string whose four bytes, "a" and D83D, fill its capacity; the bytes after it, and the number of bytes in
-/// its requests, if all are granted; and for each request the bytes after the call if that is the first one refused.
-type Row<'a> = (Build<'a>, &'static str, usize, &'static [&'static str]);
+/// A call on a string whose four bytes, "a" and D83D, fill its capacity.
+#[derive(Clone, Copy)]
+struct Row<'a> {
+    call: Build<'a>,
+    /// The bytes after the call if all its requests are granted.
+    dump: &'static str,
+    /// The number of bytes in its requests.
+    requested: usize,
+    /// For each request the bytes after the call if that is the first one refused.
+    refused: &'static [&'static str],
+}
 
-/// Calls that make one request: to twice the capacity or to what is needed, whichever is more. Each has the bytes after
-/// it, and the number of bytes in its request. `trails` has the units DCA9, DCA9 and 62.
-fn one_request<'a>(
+/// Calls that make one request, to twice the capacity or to what is needed, whichever is more; then calls that make no
+/// request and leave the string unchanged; and last an extension by three code points of three bytes. Reserving three
+/// bytes grows the capacity to eight, which fits the first of these code points but not the second. `trails` has the
+/// units DCA9, DCA9 and 62.
+fn rows<'a>(
     trails: Wtf8<'a>,
     joining: &'a [CodePoint; 2],
-) -> [(Build<'a>, &'static str, usize); 13] {
+    points: &'a [CodePoint; 3],
+) -> [Row<'a>; 17] {
     let [a, e, hiragana, pile] = ['a', 'é', 'あ', '💩'].map(CodePoint::from_char);
     [
-        (
-            Build::Push(CodePoint::from_unit(0x0061)),
-            "61 ED A0 BD 61",
-            8,
-        ),
-        (Build::Push(joining[0]), "61 F0 9F 92 A9", 8),
-        (
-            Build::Push(CodePoint::from_unit(0xD83D)),
-            "61 ED A0 BD ED A0 BD",
-            8,
-        ),
-        (Build::Push(a), "61 ED A0 BD 61", 8),
-        (Build::Push(e), "61 ED A0 BD C3 A9", 8),
-        (Build::Push(hiragana), "61 ED A0 BD E3 81 82", 8),
-        (Build::Push(pile), "61 ED A0 BD F0 9F 92 A9", 8),
-        (Build::PushChar('💩'), "61 ED A0 BD F0 9F 92 A9", 8),
-        (
-            Build::PushStr(TEXT),
-            "61 ED A0 BD 61 C3 A9 20 F0 9F 92 A9",
-            12,
-        ),
-        (
-            Build::PushWtf8(Wtf8::from_str("ab")),
-            "61 ED A0 BD 61 62",
-            8,
-        ),
-        (Build::PushWtf8(trails), "61 F0 9F 92 A9 ED B2 A9 62", 9),
-        (Build::Extend(joining), "61 F0 9F 92 A9 62", 8),
-        (Build::Reserve(1000), FULL, 1004),
+        Row {
+            call: Build::Push(CodePoint::from_unit(0x0061)),
+            dump: "61 ED A0 BD 61",
+            requested: 8,
+            refused: &[FULL],
+        },
+        Row {
+            call: Build::Push(joining[0]),
+            dump: "61 F0 9F 92 A9",
+            requested: 8,
+            refused: &[FULL],
+        },
+        Row {
+            call: Build::Push(CodePoint::from_unit(0xD83D)),
+            dump: "61 ED A0 BD ED A0 BD",
+            requested: 8,
+            refused: &[FULL],
+        },
+        Row {
+            call: Build::Push(a),
+            dump: "61 ED A0 BD 61",
+            requested: 8,
+            refused: &[FULL],
+        },
+        Row {
+            call: Build::Push(e),
+            dump: "61 ED A0 BD C3 A9",
+            requested: 8,
+            refused: &[FULL],
+        },
+        Row {
+            call: Build::Push(hiragana),
+            dump: "61 ED A0 BD E3 81 82",
+            requested: 8,
+            refused: &[FULL],
+        },
+        Row {
+            call: Build::Push(pile),
+            dump: "61 ED A0 BD F0 9F 92 A9",
+            requested: 8,
+            refused: &[FULL],
+        },
+        Row {
+            call: Build::PushChar('💩'),
+            dump: "61 ED A0 BD F0 9F 92 A9",
+            requested: 8,
+            refused: &[FULL],
+        },
+        Row {
+            call: Build::PushStr(TEXT),
+            dump: "61 ED A0 BD 61 C3 A9 20 F0 9F 92 A9",
+            requested: 12,
+            refused: &[FULL],
+        },
+        Row {
+            call: Build::PushWtf8(Wtf8::from_str("ab")),
+            dump: "61 ED A0 BD 61 62",
+            requested: 8,
+            refused: &[FULL],
+        },
+        Row {
+            call: Build::PushWtf8(trails),
+            dump: "61 F0 9F 92 A9 ED B2 A9 62",
+            requested: 9,
+            refused: &[FULL],
+        },
+        Row {
+            call: Build::Extend(joining),
+            dump: "61 F0 9F 92 A9 62",
+            requested: 8,
+            refused: &[FULL],
+        },
+        Row {
+            call: Build::Reserve(1000),
+            dump: FULL,
+            requested: 1004,
+            refused: &[FULL],
+        },
+        Row {
+            call: Build::PushStr(""),
+            dump: FULL,
+            requested: 0,
+            refused: &[],
+        },
+        Row {
+            call: Build::PushWtf8(Wtf8::from_str("")),
+            dump: FULL,
+            requested: 0,
+            refused: &[],
+        },
+        Row {
+            call: Build::Reserve(0),
+            dump: FULL,
+            requested: 0,
+            refused: &[],
+        },
+        Row {
+            call: Build::Extend(points),
+            dump: "61 ED A0 BD E0 A0 80 E0 A0 80 E0 A0 80",
+            requested: 24,
+            refused: &[FULL, "61 ED A0 BD E0 A0 80"],
+        },
     ]
-}
-
-/// Calls that make no request, and leave the string unchanged.
-fn no_request() -> [Build<'static>; 3] {
-    [
-        Build::PushStr(""),
-        Build::PushWtf8(Wtf8::from_str("")),
-        Build::Reserve(0),
-    ]
-}
-
-/// An extension by three code points of three bytes. Reserving three bytes grows the capacity to eight, which fits the
-/// first code point but not the second.
-fn two_requests(points: &[CodePoint; 3]) -> Row<'_> {
-    (
-        Build::Extend(points),
-        "61 ED A0 BD E0 A0 80 E0 A0 80 E0 A0 80",
-        24,
-        &[FULL, "61 ED A0 BD E0 A0 80"],
-    )
 }
 
 /// Fails unless a trail surrogate is refused, and the string of "a" and D83D is unchanged, also after an empty text.
-fn expect_trail_refused<A: Allocator>(alloc: Global, text: &mut Wtf8Buf<A>) -> Result<(), Wrong> {
+fn expect_trail_refused<A: Allocator>(alloc: Global, text: &mut Wtf8Buf<A>) -> Result<(), Failed> {
     if text.push(CodePoint::from_unit(0xDCA9)).is_ok() {
-        return Err(Wrong::Outcome);
+        return Err(Failed::by(Wrong::Outcome));
     }
     expect_bytes(alloc, text.as_wtf8(), FULL)?;
     if text.push_str("").is_err() {
-        return Err(Wrong::Outcome);
+        return Err(Failed::by(Wrong::Outcome));
     }
     expect_bytes(alloc, text.as_wtf8(), FULL)
 }
 
 /// Fails unless a trail surrogate is refused after "a" and D83D, and an empty text is not.
-fn expect_full_kept(alloc: Global, heap: Lent<'_>) -> Result<(), Wrong> {
+fn expect_full_kept(alloc: Global, heap: Lent<'_>) -> Result<(), Failed> {
     let mut text = full(heap)?;
     heap.grant(0);
     expect_trail_refused(alloc, &mut text)
 }
 
 #[test]
-fn an_empty_text_is_pushed_after_a_refused_trail(rt: HostRuntime) -> Result<(), Wrong> {
+fn an_empty_text_is_pushed_after_a_refused_trail(rt: HostRuntime) -> Result<(), Failed> {
     let alloc = rt.alloc();
     let heap = Refusing::new(alloc, 0);
     expect_full_kept(alloc, &heap)
 }
 
 /// Fails unless the call, with all its requests granted, succeeds with the requests and bytes of the row.
-fn expect_granted(alloc: Global, heap: Lent<'_>, row: Row<'_>, way: Way) -> Result<(), Wrong> {
-    let (call, granted, asked, refused) = row;
+fn expect_granted(alloc: Global, heap: Lent<'_>, row: Row<'_>, way: Way) -> Result<(), Failed> {
     let mut text = full(heap)?;
     heap.grant(9);
-    let is_made = succeeds(&mut text, call, way);
-    if !is_made || heap.requests() != refused.len() as u64 || heap.bytes() != asked {
-        return Err(Wrong::Requests);
+    let is_made = succeeds(&mut text, row.call, way);
+    let are_counted = heap.requests() == row.refused.len() as u64 && heap.bytes() == row.requested;
+    if !is_made || !are_counted {
+        return Err(Failed::by(Wrong::Requests));
     }
-    expect_bytes(alloc, text.as_wtf8(), granted)
+    expect_bytes(alloc, text.as_wtf8(), row.dump)
 }
 
 /// Makes the call with `granted` requests granted, and the following ones, or the next one alone, refused. Fails unless
@@ -117,12 +181,12 @@ fn expect_stopped(
     (call, way): (Build<'_>, Way),
     (granted, refusal): (u64, Refusal),
     dump: &str,
-) -> Result<(), Wrong> {
+) -> Result<(), Failed> {
     let mut text = full(heap)?;
     heap.refuse_after(granted, refusal);
     let is_made = succeeds(&mut text, call, way);
     if is_made || heap.requests() != granted.wrapping_add(1) {
-        return Err(Wrong::Requests);
+        return Err(Failed::by(Wrong::Requests));
     }
     expect_bytes(alloc, text.as_wtf8(), dump)
 }
@@ -134,11 +198,10 @@ fn expect_kept(
     row: Row<'_>,
     way: Way,
     refusal: Refusal,
-) -> Result<(), Wrong> {
-    let (call, _, _, refused) = row;
+) -> Result<(), Failed> {
     let mut granted = 0u64;
-    for dump in refused {
-        expect_stopped(alloc, heap, (call, way), (granted, refusal), dump)?;
+    for dump in row.refused {
+        expect_stopped(alloc, heap, (row.call, way), (granted, refusal), dump)?;
         granted = granted.wrapping_add(1);
     }
     Ok(())
@@ -152,7 +215,7 @@ fn expect_call(
     row: Row<'_>,
     way: Way,
     refusal: Option<Refusal>,
-) -> Result<(), Wrong> {
+) -> Result<(), Failed> {
     match refusal {
         None => expect_granted(alloc, heap, row, way),
         Some(refusal) => expect_kept(alloc, heap, row, way, refusal),
@@ -165,7 +228,7 @@ fn expect_row(
     heap: Lent<'_>,
     row: Row<'_>,
     refusal: Option<Refusal>,
-) -> Result<(), Wrong> {
+) -> Result<(), Failed> {
     expect_call(alloc, heap, row, Way::Method, refusal)?;
     expect_call(alloc, heap, row, Way::Apply, refusal)
 }
@@ -176,32 +239,31 @@ fn expect_rows(
     heap: Lent<'_>,
     trails: Wtf8<'_>,
     refusal: Option<Refusal>,
-) -> Result<(), Wrong> {
+) -> Result<(), Failed> {
     let joining = [CodePoint::from_unit(0xDCA9), CodePoint::from_unit(0x62)];
-    for (call, granted, asked) in one_request(trails, &joining) {
-        expect_row(alloc, heap, (call, granted, asked, &[FULL]), refusal)?;
-    }
-    for call in no_request() {
-        expect_row(alloc, heap, (call, FULL, 0, &[]), refusal)?;
-    }
     let points = [CodePoint::from_unit(0x0800); 3];
-    expect_row(alloc, heap, two_requests(&points), refusal)
+    let mut index = 0usize;
+    for row in rows(trails, &joining, &points) {
+        in_row(index, expect_row(alloc, heap, row, refusal))?;
+        index = index.wrapping_add(1);
+    }
+    Ok(())
 }
 
 /// Fails unless each call, made as a method and through `apply`, does what `expect_call` requires.
-fn expect_table(alloc: Global, refusal: Option<Refusal>) -> Result<(), Wrong> {
+fn expect_table(alloc: Global, refusal: Option<Refusal>) -> Result<(), Failed> {
     let trails = joined(alloc, &[0xDCA9, 0xDCA9, 0x62])?;
     let heap = Refusing::new(alloc, 0);
     expect_rows(alloc, &heap, trails.as_wtf8(), refusal)
 }
 
 #[test]
-fn a_growing_call_makes_its_requests_and_no_other(rt: HostRuntime) -> Result<(), Wrong> {
+fn a_growing_call_makes_its_requests_and_no_other(rt: HostRuntime) -> Result<(), Failed> {
     expect_table(rt.alloc(), None)
 }
 
 #[test]
-fn a_refused_request_leaves_the_string_unchanged(rt: HostRuntime) -> Result<(), Wrong> {
+fn a_refused_request_leaves_the_string_unchanged(rt: HostRuntime) -> Result<(), Failed> {
     let alloc = rt.alloc();
     for refusal in REFUSALS {
         expect_table(alloc, Some(refusal))?;
@@ -218,17 +280,17 @@ fn reserves<A: Allocator>(text: &mut Wtf8Buf<A>, way: Way) -> bool {
 }
 
 /// Fails unless there is room for 1,000 more bytes after they are reserved.
-fn expect_reserved(heap: Lent<'_>, way: Way) -> Result<(), Wrong> {
+fn expect_reserved(heap: Lent<'_>, way: Way) -> Result<(), Failed> {
     let mut text = full(heap)?;
     heap.grant(1);
     if !reserves(&mut text, way) || text.capacity() < 1004 {
-        return Err(Wrong::Outcome);
+        return Err(Failed::by(Wrong::Outcome));
     }
     Ok(())
 }
 
 #[test]
-fn reserve_gives_the_capacity(rt: HostRuntime) -> Result<(), Wrong> {
+fn reserve_gives_the_capacity(rt: HostRuntime) -> Result<(), Failed> {
     let heap = Refusing::new(rt.alloc(), 0);
     for way in [Way::Method, Way::Apply] {
         expect_reserved(&heap, way)?;
@@ -237,19 +299,19 @@ fn reserve_gives_the_capacity(rt: HostRuntime) -> Result<(), Wrong> {
 }
 
 /// Fails unless reserving `usize::MAX` bytes is refused, as a method and through `apply`, and leaves "a".
-fn expect_refused_room(alloc: Global, text: &mut Wtf8Buf<Global>) -> Result<(), Wrong> {
+fn expect_refused_room(alloc: Global, text: &mut Wtf8Buf<Global>) -> Result<(), Failed> {
     if text.reserve(usize::MAX).is_ok() {
-        return Err(Wrong::Outcome);
+        return Err(Failed::by(Wrong::Outcome));
     }
     expect_bytes(alloc, text.as_wtf8(), "61")?;
     if text.apply(Build::Reserve(usize::MAX)).is_ok() {
-        return Err(Wrong::Outcome);
+        return Err(Failed::by(Wrong::Outcome));
     }
     expect_bytes(alloc, text.as_wtf8(), "61")
 }
 
 #[test]
-fn reserving_usize_max_bytes_is_refused(rt: HostRuntime) -> Result<(), Wrong> {
+fn reserving_usize_max_bytes_is_refused(rt: HostRuntime) -> Result<(), Failed> {
     let alloc = rt.alloc();
     assert!(rt; Wtf8Buf::with_capacity(alloc, usize::MAX).is_err());
     let mut text = Wtf8Buf::from_str(alloc, "a")?;
@@ -261,10 +323,10 @@ fn expect_shrunk<A: Allocator>(
     alloc: Global,
     text: &mut Wtf8Buf<A>,
     capacity: usize,
-) -> Result<(), Wrong> {
+) -> Result<(), Failed> {
     text.shrink_to_fit();
     if text.capacity() != capacity {
-        return Err(Wrong::Outcome);
+        return Err(Failed::by(Wrong::Outcome));
     }
     expect_bytes(alloc, text.as_wtf8(), FULL)
 }
@@ -281,27 +343,29 @@ fn expect_released(
     alloc: Global,
     heap: Lent<'_>,
     text: &mut Wtf8Buf<Lent<'_>>,
-) -> Result<(), Wrong> {
+) -> Result<(), Failed> {
     // If the smaller block is refused, the capacity stays. Else it is the length, and an empty string keeps none.
+    let mut row = 0usize;
     for (granted, capacity) in [(0, 100), (1, 4), (1, 4)] {
         heap.grant(granted);
-        expect_shrunk(alloc, text, capacity)?;
+        in_row(row, expect_shrunk(alloc, text, capacity))?;
+        row = row.wrapping_add(1);
     }
     heap.grant(0);
     if !releases(text) {
-        return Err(Wrong::Outcome);
+        return Err(Failed::by(Wrong::Outcome));
     }
     Ok(())
 }
 
 /// Fails unless a string with a capacity of 100 bytes releases what it does not need, if memory is granted.
-fn expect_hundred_released(alloc: Global, heap: Lent<'_>) -> Result<(), Wrong> {
+fn expect_hundred_released(alloc: Global, heap: Lent<'_>) -> Result<(), Failed> {
     let mut text = filled(heap, 100)?;
     expect_released(alloc, heap, &mut text)
 }
 
 #[test]
-fn shrink_to_fit_releases_spare_capacity(rt: HostRuntime) -> Result<(), Wrong> {
+fn shrink_to_fit_releases_spare_capacity(rt: HostRuntime) -> Result<(), Failed> {
     let alloc = rt.alloc();
     let heap = Refusing::new(alloc, u64::MAX);
     expect_hundred_released(alloc, &heap)
@@ -316,7 +380,7 @@ fn shrunk_capacity(alloc: Global, length: usize) -> Result<usize, AllocError> {
 }
 
 #[test]
-fn shrink_to_fit_leaves_no_spare_capacity_at_each_length(rt: HostRuntime) -> Result<(), Wrong> {
+fn shrink_to_fit_leaves_no_spare_capacity_at_each_length(rt: HostRuntime) -> Result<(), Failed> {
     for length in 0..=70 {
         let capacity = shrunk_capacity(rt.alloc(), length)?;
         assert_eq!(rt; capacity, length);

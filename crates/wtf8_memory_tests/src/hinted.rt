@@ -4,7 +4,7 @@ use std::alloc::{AllocError, Allocator, Global};
 use std::cell::Cell;
 use wtf8::{CodePoint, Wtf8, Wtf8Buf};
 use wtf8_tests::examples::{expect_units, joined};
-use wtf8_tests::wrong::{Wrong, expect_bytes};
+use wtf8_tests::wrong::{Failed, Wrong, expect_bytes, in_row};
 
 /// Yields a code point `left` times, with size hints that the test chooses, of which the lower one may be wrong. Counts
 /// the items that are taken.
@@ -80,34 +80,36 @@ fn expect_trails(
     left: u32,
     has_lead: bool,
     taken: &Cell<u32>,
-) -> Result<(), Wrong> {
+) -> Result<(), Failed> {
     if taken.take() != left {
-        return Err(Wrong::Outcome);
+        return Err(Failed::by(Wrong::Outcome));
     }
     let expected = expected_units(alloc, left, has_lead)?;
     expect_units(alloc, text, &expected)
 }
 
 /// Fails unless `from_iter` takes all items, whatever the lower hint.
-fn expect_made(alloc: Global, left: u32, hint: usize, taken: &Cell<u32>) -> Result<(), Wrong> {
+fn expect_made(alloc: Global, left: u32, hint: usize, taken: &Cell<u32>) -> Result<(), Failed> {
     let text = Wtf8Buf::from_iter(alloc, trails(left, hint, taken))?;
     expect_trails(alloc, text.as_wtf8(), left, false, taken)
 }
 
 /// Fails unless `extend` appends all items to a lead surrogate, whatever the lower hint.
-fn expect_extended(alloc: Global, left: u32, hint: usize, taken: &Cell<u32>) -> Result<(), Wrong> {
+fn expect_extended(alloc: Global, left: u32, hint: usize, taken: &Cell<u32>) -> Result<(), Failed> {
     let mut text = joined(alloc, &[0xD83D])?;
     text.extend(trails(left, hint, taken))?;
     expect_trails(alloc, text.as_wtf8(), left, true, taken)
 }
 
 #[test]
-fn a_lower_hint_may_be_false(rt: HostRuntime) -> Result<(), Wrong> {
+fn a_lower_hint_may_be_false(rt: HostRuntime) -> Result<(), Failed> {
     let alloc = rt.alloc();
     let taken = Cell::new(0);
+    let mut row = 0usize;
     for (left, hint) in [(1000, 0), (2, 5), (0, 3)] {
-        expect_made(alloc, left, hint, &taken)?;
-        expect_extended(alloc, left, hint, &taken)?;
+        in_row(row, expect_made(alloc, left, hint, &taken))?;
+        in_row(row, expect_extended(alloc, left, hint, &taken))?;
+        row = row.wrapping_add(1);
     }
     Ok(())
 }
@@ -127,9 +129,9 @@ fn expect_reserved(
     heap: Lent<'_>,
     text: &mut Wtf8Buf<Lent<'_>>,
     taken: &Cell<u32>,
-) -> Result<(), Wrong> {
+) -> Result<(), Failed> {
     if !is_extended(text, 0, 50, taken) || text.capacity() < 50 || heap.requests() != 1 {
-        return Err(Wrong::Requests);
+        return Err(Failed::by(Wrong::Requests));
     }
     Ok(())
 }
@@ -139,15 +141,15 @@ fn expect_refused(
     heap: Lent<'_>,
     text: &mut Wtf8Buf<Lent<'_>>,
     taken: &Cell<u32>,
-) -> Result<(), Wrong> {
+) -> Result<(), Failed> {
     if is_extended(text, 1, 51, taken) || heap.requests() != 2 || taken.get() != 0 {
-        return Err(Wrong::Requests);
+        return Err(Failed::by(Wrong::Requests));
     }
     Ok(())
 }
 
 /// Fails unless room for the lower hint is reserved first, and a refusal leaves the string empty.
-fn expect_reserved_first(alloc: Global, heap: Lent<'_>, taken: &Cell<u32>) -> Result<(), Wrong> {
+fn expect_reserved_first(alloc: Global, heap: Lent<'_>, taken: &Cell<u32>) -> Result<(), Failed> {
     let mut text = Wtf8Buf::new(heap);
     expect_reserved(heap, &mut text, taken)?;
     expect_refused(heap, &mut text, taken)?;
@@ -155,7 +157,7 @@ fn expect_reserved_first(alloc: Global, heap: Lent<'_>, taken: &Cell<u32>) -> Re
 }
 
 #[test]
-fn room_for_the_lower_hint_is_reserved_first(rt: HostRuntime) -> Result<(), Wrong> {
+fn room_for_the_lower_hint_is_reserved_first(rt: HostRuntime) -> Result<(), Failed> {
     let alloc = rt.alloc();
     let taken = Cell::new(0);
     let heap = Refusing::new(alloc, 0);
@@ -166,25 +168,68 @@ fn room_for_the_lower_hint_is_reserved_first(rt: HostRuntime) -> Result<(), Wron
     Ok(())
 }
 
-/// The number of items U+DCA9, their lower and upper hints, and the number of requests and bytes that they make: for
-/// the lower hint, then for at least eight bytes and twice the capacity each time.
-type Upper = (u32, usize, usize, u64, usize);
+/// `left` times U+DCA9 with a lower and an upper hint, and the number of requests that they make, and of the bytes in
+/// them.
+#[derive(Clone, Copy)]
+struct Upper {
+    left: u32,
+    lower: usize,
+    upper: usize,
+    requests: u64,
+    bytes: usize,
+}
 
+/// The requests are for the lower hint, then for at least eight bytes and twice the capacity each time.
 fn upper_rows() -> [Upper; 6] {
     [
-        (0, 0, 1000, 0, 0),
-        (1, 0, 1000, 1, 8),
-        (1, 1, 1000, 1, 8),
-        (10, 10, 100_000, 3, 10 + 20 + 40),
-        (10, 9, usize::MAX, 3, 9 + 18 + 36),
-        (10, 100, usize::MAX, 1, 100),
+        Upper {
+            left: 0,
+            lower: 0,
+            upper: 1000,
+            requests: 0,
+            bytes: 0,
+        },
+        Upper {
+            left: 1,
+            lower: 0,
+            upper: 1000,
+            requests: 1,
+            bytes: 8,
+        },
+        Upper {
+            left: 1,
+            lower: 1,
+            upper: 1000,
+            requests: 1,
+            bytes: 8,
+        },
+        Upper {
+            left: 10,
+            lower: 10,
+            upper: 100_000,
+            requests: 3,
+            bytes: 10 + 20 + 40,
+        },
+        Upper {
+            left: 10,
+            lower: 9,
+            upper: usize::MAX,
+            requests: 3,
+            bytes: 9 + 18 + 36,
+        },
+        Upper {
+            left: 10,
+            lower: 100,
+            upper: usize::MAX,
+            requests: 1,
+            bytes: 100,
+        },
     ]
 }
 
 /// The items of a row.
 fn items_of(row: Upper, taken: &Cell<u32>) -> Hinted<'_> {
-    let (left, hint, upper, _, _) = row;
-    items(left, hint, Some(upper), taken)
+    items(row.left, row.lower, Some(row.upper), taken)
 }
 
 /// The length in bytes of a string made of the items of a row.
@@ -213,24 +258,33 @@ fn expect_upper(
     row: Upper,
     len: Result<usize, AllocError>,
     taken: &Cell<u32>,
-) -> Result<(), Wrong> {
-    let (left, _, upper, requests, bytes) = row;
+) -> Result<(), Failed> {
+    let Upper {
+        left,
+        requests,
+        bytes,
+        ..
+    } = row;
     let are_taken = taken.take() == left && len == Ok(left as usize * 3);
     if !are_taken || heap.requests() != requests || heap.bytes() != bytes {
-        return Err(Wrong::Requests);
+        return Err(Failed::by(Wrong::Requests));
     }
     Ok(())
 }
 
 #[test]
-fn no_room_is_reserved_for_the_upper_hint(rt: HostRuntime) -> Result<(), Wrong> {
+fn no_room_is_reserved_for_the_upper_hint(rt: HostRuntime) -> Result<(), Failed> {
     let taken = Cell::new(0);
     let heap = Refusing::new(rt.alloc(), 0);
+    let mut index = 0usize;
     for row in upper_rows() {
         heap.grant(99);
-        expect_upper(&heap, row, len_of_made(&heap, row, &taken), &taken)?;
+        let len = len_of_made(&heap, row, &taken);
+        in_row(index, expect_upper(&heap, row, len, &taken))?;
         heap.grant(99);
-        expect_upper(&heap, row, len_of_extended(&heap, row, &taken), &taken)?;
+        let len = len_of_extended(&heap, row, &taken);
+        in_row(index, expect_upper(&heap, row, len, &taken))?;
+        index = index.wrapping_add(1);
     }
     Ok(())
 }
@@ -243,7 +297,7 @@ fn are_refused(alloc: Global, text: &mut Wtf8Buf<Global>, taken: &Cell<u32>) -> 
 }
 
 #[test]
-fn no_item_is_taken_if_the_hint_is_too_large(rt: HostRuntime) -> Result<(), Wrong> {
+fn no_item_is_taken_if_the_hint_is_too_large(rt: HostRuntime) -> Result<(), Failed> {
     let alloc = rt.alloc();
     let taken = Cell::new(0);
     let mut text = Wtf8Buf::from_str(alloc, "a")?;

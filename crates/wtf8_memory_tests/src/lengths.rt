@@ -3,7 +3,7 @@
 use crate::samples::{Call, Sample, expect_refused, sample_with, succeeds};
 use refusing::{Lent, Refusing};
 use std::alloc::{AllocError, Allocator, Global};
-use wtf8_tests::wrong::Wrong;
+use wtf8_tests::wrong::{Failed, Wrong, in_row};
 
 /// Eight units that repeat in a string: of one kind alone, or mixed, without lone surrogates and with some.
 const KINDS: [[u16; 8]; 8] = [
@@ -227,10 +227,14 @@ fn is_within<A: Allocator>(sample: &Sample<A>, requests: u64, bytes: usize) -> b
 
 /// Fails unless the call succeeds if all is granted, with the expected number of requests and of bytes. Returns the
 /// number of requests.
-fn expect_granted<'a>(heap: Lent<'a>, call: Call, sample: &Sample<Lent<'a>>) -> Result<u64, Wrong> {
+fn expect_granted<'a>(
+    heap: Lent<'a>,
+    call: Call,
+    sample: &Sample<Lent<'a>>,
+) -> Result<u64, Failed> {
     heap.grant(u64::MAX);
     if !succeeds(heap, call, sample) {
-        return Err(Wrong::Outcome);
+        return Err(Failed::by(Wrong::Outcome));
     }
     let (requests, bytes) = (heap.requests(), heap.bytes());
     let is_as_needed = match room_after(call, sample) {
@@ -238,13 +242,13 @@ fn expect_granted<'a>(heap: Lent<'a>, call: Call, sample: &Sample<Lent<'a>>) -> 
         None => is_within(sample, requests, bytes),
     };
     if !is_as_needed {
-        return Err(Wrong::Requests);
+        return Err(Failed::by(Wrong::Requests));
     }
     Ok(requests)
 }
 
 /// Fails unless each call on a sample succeeds if all is granted, with the expected number of requests and of bytes.
-fn expect_calls<'a>(heap: Lent<'a>, sample: &Sample<Lent<'a>>) -> Result<(), Wrong> {
+fn expect_calls<'a>(heap: Lent<'a>, sample: &Sample<Lent<'a>>) -> Result<(), Failed> {
     for call in CALLS {
         expect_granted(heap, call, sample)?;
     }
@@ -252,40 +256,45 @@ fn expect_calls<'a>(heap: Lent<'a>, sample: &Sample<Lent<'a>>) -> Result<(), Wro
 }
 
 /// Fails unless each call succeeds on `length` units that repeat `kind`, with the expected requests and bytes.
-fn expect_done(alloc: Global, heap: Lent<'_>, kind: &[u16; 8], length: usize) -> Result<(), Wrong> {
+fn expect_done(
+    alloc: Global,
+    heap: Lent<'_>,
+    kind: &[u16; 8],
+    length: usize,
+) -> Result<(), Failed> {
     let sample = sample_of(alloc, heap, kind, length)?;
     expect_calls(heap, &sample)
 }
 
 #[test]
-fn each_call_is_done_at_each_length(rt: HostRuntime) -> Result<(), Wrong> {
+fn each_call_is_done_at_each_length(rt: HostRuntime) -> Result<(), Failed> {
     let alloc = rt.alloc();
     let heap = Refusing::new(alloc, 0);
     for kind in &KINDS {
         for length in 0..=300 {
-            expect_done(alloc, &heap, kind, length)?;
+            in_row(length, expect_done(alloc, &heap, kind, length))?;
         }
         for length in LONG {
-            expect_done(alloc, &heap, kind, length)?;
+            in_row(length, expect_done(alloc, &heap, kind, length))?;
         }
     }
     Ok(())
 }
 
 #[test]
-fn each_call_is_done_about_powers_of_two(rt: HostRuntime) -> Result<(), Wrong> {
+fn each_call_is_done_about_powers_of_two(rt: HostRuntime) -> Result<(), Failed> {
     let alloc = rt.alloc();
     let heap = Refusing::new(alloc, 0);
     for (unit, lengths) in ABOUT_POWERS {
         for length in lengths {
-            expect_done(alloc, &heap, &[unit; 8], *length)?;
+            in_row(*length, expect_done(alloc, &heap, &[unit; 8], *length))?;
         }
     }
     Ok(())
 }
 
 /// Fails unless each call on a sample fails at each request that is refused.
-fn expect_refusals<'a>(heap: Lent<'a>, sample: &Sample<Lent<'a>>) -> Result<(), Wrong> {
+fn expect_refusals<'a>(heap: Lent<'a>, sample: &Sample<Lent<'a>>) -> Result<(), Failed> {
     for call in CALLS {
         let requests = expect_granted(heap, call, sample)?;
         expect_refused(heap, call, sample, requests)?;
@@ -299,7 +308,7 @@ fn expect_failures(
     heap: Lent<'_>,
     kind: &[u16; 8],
     length: usize,
-) -> Result<(), Wrong> {
+) -> Result<(), Failed> {
     let sample = sample_of(alloc, heap, kind, length)?;
     expect_refusals(heap, &sample)
 }
@@ -308,12 +317,12 @@ fn expect_failures(
 const REFUSED: [usize; 15] = [0, 1, 2, 3, 8, 15, 16, 17, 31, 32, 33, 64, 100, 300, 1000];
 
 #[test]
-fn each_call_fails_at_each_refusal(rt: HostRuntime) -> Result<(), Wrong> {
+fn each_call_fails_at_each_refusal(rt: HostRuntime) -> Result<(), Failed> {
     let alloc = rt.alloc();
     let heap = Refusing::new(alloc, 0);
     for kind in &KINDS {
         for length in REFUSED {
-            expect_failures(alloc, &heap, kind, length)?;
+            in_row(length, expect_failures(alloc, &heap, kind, length))?;
         }
     }
     Ok(())

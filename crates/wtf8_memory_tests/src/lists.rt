@@ -4,7 +4,7 @@ use refusing::{Lent, REFUSALS, Refusal, Refusing};
 use std::alloc::{AllocError, Allocator, Global};
 use wtf8::{Build, CodePoint, Wtf8, Wtf8Buf};
 use wtf8_tests::examples::{expect_made, joined};
-use wtf8_tests::wrong::{Wrong, expect_bytes};
+use wtf8_tests::wrong::{Failed, Wrong, expect_bytes, in_row};
 
 /// The string that the calls build, each made by the method of its name.
 fn folded(alloc: Global, calls: &[Build<'_>]) -> Result<Wtf8Buf<Global>, AllocError> {
@@ -91,22 +91,27 @@ fn expect_stop(
     calls: &[Build<'_>],
     stop: Stop,
     refusal: Refusal,
-) -> Result<(), Wrong> {
+) -> Result<(), Failed> {
     heap.refuse_after(stop.granted, refusal);
     let mut text = Wtf8Buf::new(heap);
     if !stops_at(&mut text, calls, stop.done) || heap.requests() != stop.granted.wrapping_add(1) {
-        return Err(Wrong::Requests);
+        return Err(Failed::by(Wrong::Requests));
     }
     expect_bytes(alloc, text.as_wtf8(), stop.dump)
 }
 
 /// Fails unless the list stops at each of its requests, refused for good or once, with the bytes of the calls before.
-fn expect_stops(alloc: Global, heap: Lent<'_>, calls: &[Build<'_>]) -> Result<(), Wrong> {
+fn expect_stops(alloc: Global, heap: Lent<'_>, calls: &[Build<'_>]) -> Result<(), Failed> {
+    let mut row = 0usize;
     for stop in stops() {
-        expect_made(alloc, before(alloc, calls, stop), stop.dump)?;
+        in_row(
+            row,
+            expect_made(alloc, before(alloc, calls, stop), stop.dump),
+        )?;
         for refusal in REFUSALS {
-            expect_stop(alloc, heap, calls, stop, refusal)?;
+            in_row(row, expect_stop(alloc, heap, calls, stop, refusal))?;
         }
+        row = row.wrapping_add(1);
     }
     Ok(())
 }
@@ -126,11 +131,11 @@ fn expect_applied(
     heap: Lent<'_>,
     calls: &[Build<'_>],
     dump: &str,
-) -> Result<(), Wrong> {
+) -> Result<(), Failed> {
     heap.grant(9);
     let mut text = Wtf8Buf::new(heap);
     if !applies_all(&mut text, calls, 3) || heap.grants_left() != 5 {
-        return Err(Wrong::Requests);
+        return Err(Failed::by(Wrong::Requests));
     }
     expect_bytes(alloc, text.as_wtf8(), dump)
 }
@@ -155,7 +160,7 @@ fn every_call<'a>(joining: Wtf8<'a>, points: &'a [CodePoint]) -> [Build<'a>; 13]
 }
 
 /// Fails unless the list of `every_call` stops at each request that is refused, and is applied if all are granted.
-fn expect_every_call(alloc: Global, heap: Lent<'_>, joining: Wtf8<'_>) -> Result<(), Wrong> {
+fn expect_every_call(alloc: Global, heap: Lent<'_>, joining: Wtf8<'_>) -> Result<(), Failed> {
     let points = [CodePoint::from_unit(0x0800); 3];
     let calls = every_call(joining, &points);
     expect_stops(alloc, heap, &calls)?;
@@ -164,7 +169,7 @@ fn expect_every_call(alloc: Global, heap: Lent<'_>, joining: Wtf8<'_>) -> Result
 }
 
 #[test]
-fn a_list_of_every_call_stops_at_each_request(rt: HostRuntime) -> Result<(), Wrong> {
+fn a_list_of_every_call_stops_at_each_request(rt: HostRuntime) -> Result<(), Failed> {
     let alloc = rt.alloc();
     let heap = Refusing::new(alloc, 0);
     let joining = joined(alloc, &[0xDCA9, 0x62])?;
@@ -187,10 +192,10 @@ fn expect_push_refused(
     alloc: Global,
     heap: Lent<'_>,
     text: &mut Wtf8Buf<Lent<'_>>,
-) -> Result<(), Wrong> {
+) -> Result<(), Failed> {
     for refusal in REFUSALS {
         if !stops_at_push(heap, text, refusal) {
-            return Err(Wrong::Outcome);
+            return Err(Failed::by(Wrong::Outcome));
         }
         expect_bytes(alloc, text.as_wtf8(), FULL)?;
     }
@@ -198,42 +203,42 @@ fn expect_push_refused(
 }
 
 /// Fails unless a list stops at a refused push, on a string without spare capacity, and leaves that unchanged.
-fn expect_push_refused_where_full(alloc: Global, heap: Lent<'_>) -> Result<(), Wrong> {
+fn expect_push_refused_where_full(alloc: Global, heap: Lent<'_>) -> Result<(), Failed> {
     let mut text = full(heap)?;
     expect_push_refused(alloc, heap, &mut text)
 }
 
 #[test]
-fn a_list_stops_at_the_refused_push(rt: HostRuntime) -> Result<(), Wrong> {
+fn a_list_stops_at_the_refused_push(rt: HostRuntime) -> Result<(), Failed> {
     let alloc = rt.alloc();
     let heap = Refusing::new(alloc, 1);
     expect_push_refused_where_full(alloc, &heap)
 }
 
 /// Fails unless an extension that needs more than the capacity stops, with the code points appended that fit.
-fn expect_part<A: Allocator>(text: &mut Wtf8Buf<A>, points: &[CodePoint]) -> Result<(), Wrong> {
+fn expect_part<A: Allocator>(text: &mut Wtf8Buf<A>, points: &[CodePoint]) -> Result<(), Failed> {
     if !stops_at(text, &[Build::Extend(points)], 0) {
-        return Err(Wrong::Outcome);
+        return Err(Failed::by(Wrong::Outcome));
     }
     let view = text.as_wtf8();
     if view.len() != text.capacity() / 3 * 3 {
-        return Err(Wrong::Outcome);
+        return Err(Failed::by(Wrong::Outcome));
     }
     if view.to_ill_formed_utf16().next() != Some(0x0800) {
-        return Err(Wrong::Outcome);
+        return Err(Failed::by(Wrong::Outcome));
     }
     Ok(())
 }
 
 /// Fails unless an extension of a string of small capacity stops, with the code points appended that fit.
-fn expect_extension_stopped(alloc: Global, heap: Lent<'_>) -> Result<(), Wrong> {
+fn expect_extension_stopped(alloc: Global, heap: Lent<'_>) -> Result<(), Failed> {
     let mut text = Wtf8Buf::with_capacity(heap, 4)?;
     let points: Vec<CodePoint> = vec![in alloc; CodePoint::from_unit(0x0800); text.capacity()]?;
     expect_part(&mut text, &points)
 }
 
 #[test]
-fn a_stopped_extension_keeps_the_code_points_that_fit(rt: HostRuntime) -> Result<(), Wrong> {
+fn a_stopped_extension_keeps_the_code_points_that_fit(rt: HostRuntime) -> Result<(), Failed> {
     let alloc = rt.alloc();
     let heap = Refusing::new(alloc, 1);
     expect_extension_stopped(alloc, &heap)

@@ -6,51 +6,142 @@ use refusing::{Lent, Refusing};
 use std::alloc::{AllocError, Allocator, Global};
 use wtf8::Wtf8Buf;
 use wtf8_tests::examples::expect_units;
-use wtf8_tests::wrong::Wrong;
+use wtf8_tests::wrong::{Failed, Wrong, in_row};
 
-/// A call, its units (for `WithCapacity` their number is the capacity), and the number of its requests and bytes.
-type Row = (Call, &'static [u16], u64, usize);
+/// A call on a string, and what it requests.
+#[derive(Clone, Copy)]
+struct Row {
+    call: Call,
+    /// The string's units. For `WithCapacity` their number is the capacity.
+    units: &'static [u16],
+    requests: u64,
+    bytes: usize,
+}
 
 /// A growing string requests the greatest of eight bytes, twice its capacity and what is needed. A string made of units
 /// first reserves one byte for each unit.
 fn rows() -> [Row; 18] {
     [
-        (Call::WithCapacity, &[0x0061], 1, 1),
-        (Call::WithCapacity, &[0x0061; 1000], 1, 1000),
-        (Call::FromStr, &[0x0061], 1, 1),
-        (Call::FromUnits, &[0x0061, 0x0062], 1, 2),
-        (Call::FromUnits, &[0xE000, 0xE000], 2, 2 + 8),
-        (Call::FromUnits, &[0xD83D, 0xDCA9, 0x0061], 2, 3 + 8),
-        (Call::FromUnits, &[0xE000; 8], 2, 8 + 24),
-        (Call::FromUnits, &[0xE000; 9], 2, 9 + 27),
-        (Call::FromUnits, &[0xE000; 16], 2, 16 + 48),
-        (Call::FromUnits, &[0xE000; 17], 3, 17 + 48 + 96),
-        (Call::FromUnits, &[0x00E9; 8], 2, 8 + 16),
-        (Call::FromUnits, &[0x00E9; 16], 2, 16 + 32),
-        (
-            Call::FromUnits,
-            &[
+        Row {
+            call: Call::WithCapacity,
+            units: &[0x0061],
+            requests: 1,
+            bytes: 1,
+        },
+        Row {
+            call: Call::WithCapacity,
+            units: &[0x0061; 1000],
+            requests: 1,
+            bytes: 1000,
+        },
+        Row {
+            call: Call::FromStr,
+            units: &[0x0061],
+            requests: 1,
+            bytes: 1,
+        },
+        Row {
+            call: Call::FromUnits,
+            units: &[0x0061, 0x0062],
+            requests: 1,
+            bytes: 2,
+        },
+        Row {
+            call: Call::FromUnits,
+            units: &[0xE000, 0xE000],
+            requests: 2,
+            bytes: 2 + 8,
+        },
+        Row {
+            call: Call::FromUnits,
+            units: &[0xD83D, 0xDCA9, 0x0061],
+            requests: 2,
+            bytes: 3 + 8,
+        },
+        Row {
+            call: Call::FromUnits,
+            units: &[0xE000; 8],
+            requests: 2,
+            bytes: 8 + 24,
+        },
+        Row {
+            call: Call::FromUnits,
+            units: &[0xE000; 9],
+            requests: 2,
+            bytes: 9 + 27,
+        },
+        Row {
+            call: Call::FromUnits,
+            units: &[0xE000; 16],
+            requests: 2,
+            bytes: 16 + 48,
+        },
+        Row {
+            call: Call::FromUnits,
+            units: &[0xE000; 17],
+            requests: 3,
+            bytes: 17 + 48 + 96,
+        },
+        Row {
+            call: Call::FromUnits,
+            units: &[0x00E9; 8],
+            requests: 2,
+            bytes: 8 + 16,
+        },
+        Row {
+            call: Call::FromUnits,
+            units: &[0x00E9; 16],
+            requests: 2,
+            bytes: 16 + 32,
+        },
+        Row {
+            call: Call::FromUnits,
+            units: &[
                 0x0061, 0xE000, 0x0061, 0xE000, 0x0061, 0xE000, 0x0061, 0xE000, 0x0061, 0xE000,
                 0x0061, 0xE000, 0x0061, 0xE000, 0x0061, 0xE000,
             ],
-            2,
-            16 + 32,
-        ),
-        (Call::FromIter, &[0xE000, 0xE000], 1, 8),
-        (Call::FromIter, &[0xE000, 0xE000, 0xE000], 2, 8 + 16),
-        (Call::Clone, &[0x0061, 0xD83D], 1, 4),
-        (Call::ToStringLossy, &[0x0061, 0xD83D], 1, 4),
-        (Call::HexDump, &[0x0061, 0xD83D], 1, 12),
+            requests: 2,
+            bytes: 16 + 32,
+        },
+        Row {
+            call: Call::FromIter,
+            units: &[0xE000, 0xE000],
+            requests: 1,
+            bytes: 8,
+        },
+        Row {
+            call: Call::FromIter,
+            units: &[0xE000, 0xE000, 0xE000],
+            requests: 2,
+            bytes: 8 + 16,
+        },
+        Row {
+            call: Call::Clone,
+            units: &[0x0061, 0xD83D],
+            requests: 1,
+            bytes: 4,
+        },
+        Row {
+            call: Call::ToStringLossy,
+            units: &[0x0061, 0xD83D],
+            requests: 1,
+            bytes: 4,
+        },
+        Row {
+            call: Call::HexDump,
+            units: &[0x0061, 0xD83D],
+            requests: 1,
+            bytes: 12,
+        },
     ]
 }
 
 /// Fails unless the call succeeds if all is granted, with the requests and bytes of the row.
-fn expect_granted<'a>(heap: Lent<'a>, row: Row, sample: &Sample<Lent<'a>>) -> Result<(), Wrong> {
-    let (call, _, requests, bytes) = row;
+fn expect_granted<'a>(heap: Lent<'a>, row: Row, sample: &Sample<Lent<'a>>) -> Result<(), Failed> {
     heap.grant(9);
-    let is_done = succeeds(heap, call, sample);
-    if !is_done || heap.requests() != requests || heap.bytes() != bytes {
-        return Err(Wrong::Requests);
+    let is_done = succeeds(heap, row.call, sample);
+    if !is_done || heap.requests() != row.requests || heap.bytes() != row.bytes {
+        return Err(Failed::by(Wrong::Requests));
     }
     Ok(())
 }
@@ -61,10 +152,9 @@ fn expect_call<'a>(
     row: Row,
     sample: &Sample<Lent<'a>>,
     is_refused: bool,
-) -> Result<(), Wrong> {
-    let (call, _, requests, _) = row;
+) -> Result<(), Failed> {
     if is_refused {
-        return expect_refused(heap, call, sample, requests);
+        return expect_refused(heap, row.call, sample, row.requests);
     }
     expect_granted(heap, row, sample)
 }
@@ -80,29 +170,30 @@ fn sample_of<'a>(
 }
 
 /// Fails unless the row's call on a string of its units is as `expect_call` says, and leaves the string unchanged.
-fn expect_row(alloc: Global, heap: Lent<'_>, row: Row, is_refused: bool) -> Result<(), Wrong> {
-    let (_, units, _, _) = row;
-    let sample = sample_of(alloc, heap, units)?;
+fn expect_row(alloc: Global, heap: Lent<'_>, row: Row, is_refused: bool) -> Result<(), Failed> {
+    let sample = sample_of(alloc, heap, row.units)?;
     expect_call(heap, row, &sample, is_refused)?;
-    expect_units(alloc, sample.text.as_wtf8(), units)
+    expect_units(alloc, sample.text.as_wtf8(), row.units)
 }
 
 /// Fails unless each row's call is as `expect_row` says.
-fn expect_rows(alloc: Global, is_refused: bool) -> Result<(), Wrong> {
+fn expect_rows(alloc: Global, is_refused: bool) -> Result<(), Failed> {
     let heap = Refusing::new(alloc, 0);
+    let mut index = 0usize;
     for row in rows() {
-        expect_row(alloc, &heap, row, is_refused)?;
+        in_row(index, expect_row(alloc, &heap, row, is_refused))?;
+        index = index.wrapping_add(1);
     }
     Ok(())
 }
 
 #[test]
-fn a_making_call_makes_its_requests_and_no_other(rt: HostRuntime) -> Result<(), Wrong> {
+fn a_making_call_makes_its_requests_and_no_other(rt: HostRuntime) -> Result<(), Failed> {
     expect_rows(rt.alloc(), false)
 }
 
 #[test]
-fn a_making_call_fails_at_each_refusal(rt: HostRuntime) -> Result<(), Wrong> {
+fn a_making_call_fails_at_each_refusal(rt: HostRuntime) -> Result<(), Failed> {
     expect_rows(rt.alloc(), true)
 }
 
@@ -117,12 +208,12 @@ fn expect_clone<'a>(
     heap: Lent<'a>,
     sample: &Sample<Lent<'a>>,
     letters: usize,
-) -> Result<(), Wrong> {
+) -> Result<(), Failed> {
     heap.grant(9);
     let capacity = cloned_capacity(&sample.text);
     let requests = u64::from(0 < letters);
     if capacity != Ok(letters) || heap.requests() != requests || heap.bytes() != letters {
-        return Err(Wrong::Requests);
+        return Err(Failed::by(Wrong::Requests));
     }
     expect_refused(heap, Call::Clone, sample, requests)
 }
@@ -141,17 +232,17 @@ fn sample_of_letters<'a>(
 
 /// Fails unless a clone of a string of `letters` bytes, with a capacity of at least 200, makes one request for its
 /// bytes alone, or none if it is empty.
-fn expect_cloned(alloc: Global, heap: Lent<'_>, letters: usize) -> Result<(), Wrong> {
+fn expect_cloned(alloc: Global, heap: Lent<'_>, letters: usize) -> Result<(), Failed> {
     let sample = sample_of_letters(alloc, heap, letters)?;
     expect_clone(heap, &sample, letters)
 }
 
 #[test]
-fn a_clone_has_no_spare_capacity(rt: HostRuntime) -> Result<(), Wrong> {
+fn a_clone_has_no_spare_capacity(rt: HostRuntime) -> Result<(), Failed> {
     let alloc = rt.alloc();
     let heap = Refusing::new(alloc, 0);
     for letters in [0, 1, 31, 32, 33, 64, 100, 199, 200] {
-        expect_cloned(alloc, &heap, letters)?;
+        in_row(letters, expect_cloned(alloc, &heap, letters))?;
     }
     Ok(())
 }

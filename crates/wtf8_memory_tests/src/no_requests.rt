@@ -6,7 +6,7 @@ use std::alloc::{AllocError, Allocator, Global};
 use std::borrow::CowStr;
 use wtf8::{Build, CodePoint, Wtf8, Wtf8Buf};
 use wtf8_tests::examples::{TEXT, TEXT_DUMP, expect_made, expect_true, pushed};
-use wtf8_tests::wrong::{Wrong, expect_bytes};
+use wtf8_tests::wrong::{Failed, Wrong, expect_bytes, in_row};
 
 const LEAD: u16 = 0xD83D;
 
@@ -16,10 +16,10 @@ const TRAIL: u16 = 0xDCA9;
 const GRANTS: [u64; 2] = [0, 9];
 
 /// Fails if `outcome` did, or unless `grants` requests are still granted, so that none was made.
-fn expect_left(heap: Lent<'_>, grants: u64, outcome: Result<(), Wrong>) -> Result<(), Wrong> {
+fn expect_left(heap: Lent<'_>, grants: u64, outcome: Result<(), Failed>) -> Result<(), Failed> {
     outcome?;
     if heap.grants_left() != grants {
-        return Err(Wrong::Requests);
+        return Err(Failed::by(Wrong::Requests));
     }
     Ok(())
 }
@@ -58,7 +58,7 @@ fn has_no_texts<A: Allocator + Drop + Copy>(heap: A, view: Wtf8<'_>) -> Result<b
 }
 
 /// Fails unless an empty string to which nothing is appended is empty, and so are its hex dump and lossy text.
-fn expect_nothing<A: Allocator + Drop + Copy>(alloc: Global, heap: A) -> Result<(), Wrong> {
+fn expect_nothing<A: Allocator + Drop + Copy>(alloc: Global, heap: A) -> Result<(), Failed> {
     let mut text = Wtf8Buf::new(heap);
     append_nothing(&mut text)?;
     expect_bytes(alloc, text.as_wtf8(), "")?;
@@ -66,7 +66,10 @@ fn expect_nothing<A: Allocator + Drop + Copy>(alloc: Global, heap: A) -> Result<
 }
 
 /// Fails unless each call that makes a string of nothing makes an empty one.
-fn expect_made_of_nothing<A: Allocator + Drop + Copy>(alloc: Global, heap: A) -> Result<(), Wrong> {
+fn expect_made_of_nothing<A: Allocator + Drop + Copy>(
+    alloc: Global,
+    heap: A,
+) -> Result<(), Failed> {
     expect_made(alloc, Wtf8Buf::with_capacity(heap, 0), "")?;
     expect_made(alloc, Wtf8Buf::from_str(heap, ""), "")?;
     expect_made(alloc, Wtf8Buf::from_ill_formed_utf16(heap, &[]), "")?;
@@ -84,7 +87,7 @@ fn is_lossy_text_borrowed<A: Allocator + Drop>(
 }
 
 #[test]
-fn nothing_and_borrowed_texts_make_no_request(rt: HostRuntime) -> Result<(), Wrong> {
+fn nothing_and_borrowed_texts_make_no_request(rt: HostRuntime) -> Result<(), Failed> {
     let alloc = rt.alloc();
     let heap = Refusing::new(alloc, 0);
     for grants in GRANTS {
@@ -111,7 +114,7 @@ fn push_anew<A: Allocator>(text: &mut Wtf8Buf<A>) -> Result<(), AllocError> {
 }
 
 /// Fails unless two pushed surrogates become one code point, and it can be pushed again once the string is cleared.
-fn expect_pair<A: Allocator>(alloc: Global, text: &mut Wtf8Buf<A>) -> Result<(), Wrong> {
+fn expect_pair<A: Allocator>(alloc: Global, text: &mut Wtf8Buf<A>) -> Result<(), Failed> {
     push_pair(text)?;
     expect_bytes(alloc, text.as_wtf8(), "F0 9F 92 A9")?;
     push_anew(text)?;
@@ -119,13 +122,13 @@ fn expect_pair<A: Allocator>(alloc: Global, text: &mut Wtf8Buf<A>) -> Result<(),
 }
 
 /// Fails unless a surrogate pair, pushed in halves and then as a character, fits in a capacity of four bytes.
-fn expect_room_for_pair(alloc: Global, heap: Lent<'_>, grants: u64) -> Result<(), Wrong> {
+fn expect_room_for_pair(alloc: Global, heap: Lent<'_>, grants: u64) -> Result<(), Failed> {
     let mut text = with_room(heap, 4, grants)?;
     expect_pair(alloc, &mut text)
 }
 
 #[test]
-fn pushes_within_capacity_make_no_request(rt: HostRuntime) -> Result<(), Wrong> {
+fn pushes_within_capacity_make_no_request(rt: HostRuntime) -> Result<(), Failed> {
     let alloc = rt.alloc();
     let heap = Refusing::new(alloc, 0);
     for grants in GRANTS {
@@ -152,7 +155,7 @@ fn push_string_and_pair<A: Allocator>(
 }
 
 /// Makes each call that appends; `push_wtf8` appends a trail after a lead.
-fn push_each<A: Allocator>(alloc: Global, text: &mut Wtf8Buf<A>) -> Result<(), Wrong> {
+fn push_each<A: Allocator>(alloc: Global, text: &mut Wtf8Buf<A>) -> Result<(), Failed> {
     let trail = pushed(alloc, &[0xDCA9, 0x62])?;
     push_text_and_lead(text)?;
     push_string_and_pair(text, trail.as_wtf8())?;
@@ -160,7 +163,7 @@ fn push_each<A: Allocator>(alloc: Global, text: &mut Wtf8Buf<A>) -> Result<(), W
 }
 
 /// Fails unless each call that appends succeeds within the capacity of the string.
-fn expect_room_for_each(alloc: Global, heap: Lent<'_>) -> Result<(), Wrong> {
+fn expect_room_for_each(alloc: Global, heap: Lent<'_>) -> Result<(), Failed> {
     let mut text = with_room(heap, 20, 9)?;
     push_each(alloc, &mut text)?;
     expect_bytes(
@@ -171,7 +174,7 @@ fn expect_room_for_each(alloc: Global, heap: Lent<'_>) -> Result<(), Wrong> {
 }
 
 #[test]
-fn each_call_within_capacity_makes_no_request(rt: HostRuntime) -> Result<(), Wrong> {
+fn each_call_within_capacity_makes_no_request(rt: HostRuntime) -> Result<(), Failed> {
     let alloc = rt.alloc();
     let heap = Refusing::new(alloc, 0);
     expect_left(&heap, 9, expect_room_for_each(alloc, &heap))
@@ -191,16 +194,16 @@ fn is_pair_applied<A: Allocator>(text: &mut Wtf8Buf<A>) -> bool {
 }
 
 /// Fails unless a list that appends the two surrogates of a pair fits in a capacity of four bytes.
-fn expect_room_for_list(alloc: Global, heap: Lent<'_>, grants: u64) -> Result<(), Wrong> {
+fn expect_room_for_list(alloc: Global, heap: Lent<'_>, grants: u64) -> Result<(), Failed> {
     let mut text = with_room(heap, 4, grants)?;
     if !is_pair_applied(&mut text) {
-        return Err(Wrong::Outcome);
+        return Err(Failed::by(Wrong::Outcome));
     }
     expect_bytes(alloc, text.as_wtf8(), "F0 9F 92 A9")
 }
 
 #[test]
-fn a_list_within_capacity_makes_no_request(rt: HostRuntime) -> Result<(), Wrong> {
+fn a_list_within_capacity_makes_no_request(rt: HostRuntime) -> Result<(), Failed> {
     let alloc = rt.alloc();
     let heap = Refusing::new(alloc, 0);
     for grants in GRANTS {
@@ -234,28 +237,30 @@ fn expect_each_applied<A: Allocator>(
     alloc: Global,
     text: &mut Wtf8Buf<A>,
     piece: Wtf8<'_>,
-) -> Result<(), Wrong> {
+) -> Result<(), Failed> {
     let lead = [CodePoint::from_unit(LEAD)];
+    let mut index = 0usize;
     for row in applied_rows(&lead, piece) {
-        expect_step(alloc, text, row)?;
+        in_row(index, expect_step(alloc, text, row))?;
+        index = index.wrapping_add(1);
     }
     Ok(())
 }
 
 /// Fails unless the calls of `applied_rows` do what their rows say within a capacity of 20 bytes.
-fn expect_room_for_applied(alloc: Global, heap: Lent<'_>, piece: Wtf8<'_>) -> Result<(), Wrong> {
+fn expect_room_for_applied(alloc: Global, heap: Lent<'_>, piece: Wtf8<'_>) -> Result<(), Failed> {
     let mut text = with_room(heap, 20, 9)?;
     expect_each_applied(alloc, &mut text, piece)
 }
 
 /// Fails unless the calls of `applied_rows`, with a trail and "b" as the piece, fit in a capacity of 20 bytes.
-fn expect_trail_applied(alloc: Global, heap: Lent<'_>) -> Result<(), Wrong> {
+fn expect_trail_applied(alloc: Global, heap: Lent<'_>) -> Result<(), Failed> {
     let piece = pushed(alloc, &[0xDCA9, 0x62])?;
     expect_room_for_applied(alloc, heap, piece.as_wtf8())
 }
 
 #[test]
-fn applied_calls_within_capacity_make_no_request(rt: HostRuntime) -> Result<(), Wrong> {
+fn applied_calls_within_capacity_make_no_request(rt: HostRuntime) -> Result<(), Failed> {
     let alloc = rt.alloc();
     let heap = Refusing::new(alloc, 0);
     expect_left(&heap, 9, expect_trail_applied(alloc, &heap))
@@ -283,38 +288,38 @@ fn is_text_borrowed<A: Allocator + Drop>(heap: A, view: Wtf8<'_>) -> Result<bool
 }
 
 /// Fails unless `owned` is `TEXT`, also as a string made of it and as that string's lossy text.
-fn expect_again<A: Allocator + Drop>(alloc: Global, owned: String<A>) -> Result<(), Wrong> {
+fn expect_again<A: Allocator + Drop>(alloc: Global, owned: String<A>) -> Result<(), Failed> {
     if owned.as_str() != TEXT {
-        return Err(Wrong::Outcome);
+        return Err(Failed::by(Wrong::Outcome));
     }
     let again = Wtf8Buf::from_string(owned);
     expect_bytes(alloc, again.as_wtf8(), TEXT_DUMP)?;
     if again.into_string_lossy().as_str() != TEXT {
-        return Err(Wrong::Outcome);
+        return Err(Failed::by(Wrong::Outcome));
     }
     Ok(())
 }
 
 /// Fails unless `into_string` succeeds, and its text makes the string and the lossy text again.
-fn expect_owned<A: Allocator + Drop>(alloc: Global, text: Wtf8Buf<A>) -> Result<(), Wrong> {
+fn expect_owned<A: Allocator + Drop>(alloc: Global, text: Wtf8Buf<A>) -> Result<(), Failed> {
     match text.into_string() {
         Ok(owned) => expect_again(alloc, owned),
-        Err(_) => Err(Wrong::Outcome),
+        Err(_) => Err(Failed::by(Wrong::Outcome)),
     }
 }
 
 /// Fails unless the string of `TEXT` is borrowed as text, and converts to an owned text.
-fn expect_text(alloc: Global, heap: Lent<'_>, grants: u64) -> Result<(), Wrong> {
+fn expect_text(alloc: Global, heap: Lent<'_>, grants: u64) -> Result<(), Failed> {
     let text = text_of(heap, false, grants)?;
     expect_true(is_text_borrowed(heap, text.as_wtf8()))?;
     expect_owned(alloc, text)
 }
 
 /// Fails unless `back` is `TEXT` and a lead surrogate, which is U+FFFD in the lossy text.
-fn expect_lossy<A: Allocator + Drop>(alloc: Global, back: Wtf8Buf<A>) -> Result<(), Wrong> {
+fn expect_lossy<A: Allocator + Drop>(alloc: Global, back: Wtf8Buf<A>) -> Result<(), Failed> {
     expect_bytes(alloc, back.as_wtf8(), "61 C3 A9 20 F0 9F 92 A9 ED A0 80")?;
     if back.into_string_lossy().as_str() != "aé 💩\u{FFFD}" {
-        return Err(Wrong::Outcome);
+        return Err(Failed::by(Wrong::Outcome));
     }
     Ok(())
 }
@@ -323,19 +328,19 @@ fn expect_lossy<A: Allocator + Drop>(alloc: Global, back: Wtf8Buf<A>) -> Result<
 fn expect_no_text<A: Allocator + Drop>(
     alloc: Global,
     made: Result<Wtf8Buf<A>, AllocError>,
-) -> Result<(), Wrong> {
+) -> Result<(), Failed> {
     let text = made?;
     if text.as_wtf8().as_str().is_some() {
-        return Err(Wrong::Outcome);
+        return Err(Failed::by(Wrong::Outcome));
     }
     match text.into_string() {
-        Ok(_) => Err(Wrong::Outcome),
+        Ok(_) => Err(Failed::by(Wrong::Outcome)),
         Err(back) => expect_lossy(alloc, back),
     }
 }
 
 #[test]
-fn texts_of_a_string_make_no_request(rt: HostRuntime) -> Result<(), Wrong> {
+fn texts_of_a_string_make_no_request(rt: HostRuntime) -> Result<(), Failed> {
     let alloc = rt.alloc();
     let heap = Refusing::new(alloc, 0);
     for grants in GRANTS {

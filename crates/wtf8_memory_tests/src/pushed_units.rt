@@ -6,7 +6,7 @@ use std::alloc::{AllocError, Allocator, Global};
 use wtf8::{Wtf8, Wtf8Buf};
 use wtf8_tests::examples::{expect_units, joining};
 use wtf8_tests::unit_lists::{lists, long_list};
-use wtf8_tests::wrong::{Wrong, expect, expect_bytes};
+use wtf8_tests::wrong::{Failed, Wrong, expect, expect_bytes, in_row};
 
 /// A lead and its trail, by which a split between them joins.
 const PAIR: [u16; 2] = [0xD83D, 0xDCA9];
@@ -63,7 +63,7 @@ fn expect_pushed(
     units: &[u16],
     cut: usize,
     spare: usize,
-) -> Result<(), Wrong> {
+) -> Result<(), Failed> {
     let (front, back) = units.split_at(cut.min(units.len()));
     let mut text = with_spare(heap, front, spare)?;
     let growth = byte_len(units).wrapping_sub(byte_len(front));
@@ -81,7 +81,7 @@ fn expect_slice_pushed(
     (units, whole): (&[u16], Wtf8<'_>),
     cut: usize,
     spare: usize,
-) -> Result<(), Wrong> {
+) -> Result<(), Failed> {
     let front = &units[..cut.min(units.len())];
     let mut text = with_spare(heap, front, spare)?;
     let fits = byte_len(units).wrapping_sub(byte_len(front)) <= spare;
@@ -96,7 +96,7 @@ fn expect_slice_pushed(
 
 /// Fails unless pushes from each index on, at each spare capacity up to one byte more than they need, do what
 /// `expect_pushed` and `expect_slice_pushed` require.
-fn expect_each_push(alloc: Global, heap: Lent<'_>, units: &[u16]) -> Result<(), Wrong> {
+fn expect_each_push(alloc: Global, heap: Lent<'_>, units: &[u16]) -> Result<(), Failed> {
     let len = byte_len(units);
     let whole = Wtf8Buf::from_ill_formed_utf16(alloc, units)?;
     for cut in 0..=units.len() {
@@ -117,65 +117,101 @@ fn around_letters(alloc: Global, letters: usize) -> Result<Vec<u16>, AllocError>
 }
 
 /// Fails unless `expect_each_push` succeeds for `letters` times "a" among other units.
-fn expect_letters(alloc: Global, heap: Lent<'_>, letters: usize) -> Result<(), Wrong> {
+fn expect_letters(alloc: Global, heap: Lent<'_>, letters: usize) -> Result<(), Failed> {
     let units = around_letters(alloc, letters)?;
     expect_each_push(alloc, heap, &units)
 }
 
 /// Fails unless `expect_each_push` succeeds for each list of the tables.
-fn expect_tables(alloc: Global, heap: Lent<'_>) -> Result<(), Wrong> {
+fn expect_tables(alloc: Global, heap: Lent<'_>) -> Result<(), Failed> {
+    let mut row = 0usize;
     for (units, _, _) in joining() {
-        expect_each_push(alloc, heap, units)?;
+        in_row(row, expect_each_push(alloc, heap, units))?;
+        row = row.wrapping_add(1);
     }
     for units in lists() {
-        expect_each_push(alloc, heap, units)?;
+        in_row(row, expect_each_push(alloc, heap, units))?;
+        row = row.wrapping_add(1);
     }
-    expect_each_push(alloc, heap, &WIDE)
+    in_row(row, expect_each_push(alloc, heap, &WIDE))
 }
 
 #[test]
-fn units_are_pushed_without_a_request_just_if_they_fit(rt: HostRuntime) -> Result<(), Wrong> {
+fn units_are_pushed_without_a_request_just_if_they_fit(rt: HostRuntime) -> Result<(), Failed> {
     let alloc = rt.alloc();
     let heap = Refusing::new(alloc, 0);
     expect_tables(alloc, &heap)?;
     for letters in [7, 8, 9, 16, 17, 32, 33, 40] {
-        expect_letters(alloc, &heap, letters)?;
+        in_row(letters, expect_letters(alloc, &heap, letters))?;
     }
     Ok(())
 }
 
-/// Units pushed to "a" and D83D, whose four bytes fill the capacity; the bytes after the push, and the numbers of its
-/// requests and of the bytes in them. First a byte for each unit is reserved, then what a block of up to sixteen or one
-/// code point needs; each request is for the greatest of eight bytes, twice the capacity and what is needed.
-type Row = (&'static [u16], &'static str, u64, usize);
+/// A push of units to "a" and D83D, whose four bytes fill the capacity.
+#[derive(Clone, Copy)]
+struct Row {
+    units: &'static [u16],
+    /// The bytes after the push.
+    dump: &'static str,
+    requests: u64,
+    /// The number of bytes in the requests.
+    bytes: usize,
+}
 
+/// First a byte for each unit is reserved, then what a block of up to sixteen or one code point needs; each request is for the
+/// greatest of eight bytes, twice the capacity and what is needed.
 fn rows() -> [Row; 8] {
     [
-        (&[], FULL, 0, 0),
-        (&[0x0061], "61 ED A0 BD 61", 1, 8),
-        (&[0xDCA9], "61 F0 9F 92 A9", 1, 8),
-        (&[0xD83D], "61 ED A0 BD ED A0 BD", 1, 8),
-        (&[0xDCA9, 0xDCA9], "61 F0 9F 92 A9 ED B2 A9", 1, 8),
-        (
-            &[0xDCA9, 0xE000, 0xE000],
-            "61 F0 9F 92 A9 EE 80 80 EE 80 80",
-            2,
-            8 + 16,
-        ),
-        (
-            &[
+        Row {
+            units: &[],
+            dump: FULL,
+            requests: 0,
+            bytes: 0,
+        },
+        Row {
+            units: &[0x0061],
+            dump: "61 ED A0 BD 61",
+            requests: 1,
+            bytes: 8,
+        },
+        Row {
+            units: &[0xDCA9],
+            dump: "61 F0 9F 92 A9",
+            requests: 1,
+            bytes: 8,
+        },
+        Row {
+            units: &[0xD83D],
+            dump: "61 ED A0 BD ED A0 BD",
+            requests: 1,
+            bytes: 8,
+        },
+        Row {
+            units: &[0xDCA9, 0xDCA9],
+            dump: "61 F0 9F 92 A9 ED B2 A9",
+            requests: 1,
+            bytes: 8,
+        },
+        Row {
+            units: &[0xDCA9, 0xE000, 0xE000],
+            dump: "61 F0 9F 92 A9 EE 80 80 EE 80 80",
+            requests: 2,
+            bytes: 8 + 16,
+        },
+        Row {
+            units: &[
                 0xE000, 0xE000, 0xE000, 0xE000, 0xE000, 0xE000, 0xE000, 0xE000, 0xE000,
             ],
-            "61 ED A0 BD EE 80 80 EE 80 80 EE 80 80 EE 80 80 EE 80 80 EE 80 80 EE 80 80 EE 80 80 EE 80 80",
-            2,
-            13 + 31,
-        ),
-        (
-            &[0xE000; 17],
-            "61 ED A0 BD EE 80 80 EE 80 80 EE 80 80 EE 80 80 EE 80 80 EE 80 80 EE 80 80 EE 80 80 EE 80 80 EE 80 80 EE 80 80 EE 80 80 EE 80 80 EE 80 80 EE 80 80 EE 80 80 EE 80 80",
-            3,
-            21 + 52 + 104,
-        ),
+            dump: "61 ED A0 BD EE 80 80 EE 80 80 EE 80 80 EE 80 80 EE 80 80 EE 80 80 EE 80 80 EE 80 80 EE 80 80",
+            requests: 2,
+            bytes: 13 + 31,
+        },
+        Row {
+            units: &[0xE000; 17],
+            dump: "61 ED A0 BD EE 80 80 EE 80 80 EE 80 80 EE 80 80 EE 80 80 EE 80 80 EE 80 80 EE 80 80 EE 80 80 EE 80 80 EE 80 80 EE 80 80 EE 80 80 EE 80 80 EE 80 80 EE 80 80 EE 80 80",
+            requests: 3,
+            bytes: 21 + 52 + 104,
+        },
     ]
 }
 
@@ -188,14 +224,13 @@ fn pushes<A: Allocator>(text: &mut Wtf8Buf<A>, units: &[u16], is_single: bool) -
 }
 
 /// Fails unless the push, with all its requests granted, makes the requests of the row.
-fn expect_granted(alloc: Global, heap: Lent<'_>, row: Row, is_single: bool) -> Result<(), Wrong> {
-    let (units, dump, requests, bytes) = row;
+fn expect_granted(alloc: Global, heap: Lent<'_>, row: Row, is_single: bool) -> Result<(), Failed> {
     let mut text = full(heap)?;
     heap.grant(9);
-    let is_pushed = pushes(&mut text, units, is_single);
-    let is_asked = heap.requests() == requests && heap.bytes() == bytes;
+    let is_pushed = pushes(&mut text, row.units, is_single);
+    let is_asked = heap.requests() == row.requests && heap.bytes() == row.bytes;
     expect(is_pushed && is_asked, Wrong::Requests)?;
-    expect_bytes(alloc, text.as_wtf8(), dump)
+    expect_bytes(alloc, text.as_wtf8(), row.dump)
 }
 
 /// Grants `granted` requests and refuses the next one. Fails unless the push fails there and leaves the string as it
@@ -205,7 +240,7 @@ fn expect_refused(
     heap: Lent<'_>,
     (units, is_single): (&[u16], bool),
     (granted, refusal): (u64, Refusal),
-) -> Result<(), Wrong> {
+) -> Result<(), Failed> {
     let mut text = full(heap)?;
     heap.refuse_after(granted, refusal);
     let is_pushed = pushes(&mut text, units, is_single);
@@ -215,24 +250,27 @@ fn expect_refused(
 }
 
 /// Fails unless the row's push makes its requests, and fails at each of them that is refused.
-fn expect_row(alloc: Global, heap: Lent<'_>, row: Row, is_single: bool) -> Result<(), Wrong> {
-    let (units, _, requests, _) = row;
+fn expect_row(alloc: Global, heap: Lent<'_>, row: Row, is_single: bool) -> Result<(), Failed> {
     expect_granted(alloc, heap, row, is_single)?;
     for refusal in REFUSALS {
-        for granted in 0..requests {
-            expect_refused(alloc, heap, (units, is_single), (granted, refusal))?;
+        for granted in 0..row.requests {
+            expect_refused(alloc, heap, (row.units, is_single), (granted, refusal))?;
         }
     }
     Ok(())
 }
 
 #[test]
-fn a_push_of_units_fails_at_each_refusal_and_changes_nothing(rt: HostRuntime) -> Result<(), Wrong> {
+fn a_push_of_units_fails_at_each_refusal_and_changes_nothing(
+    rt: HostRuntime,
+) -> Result<(), Failed> {
     let alloc = rt.alloc();
     let heap = Refusing::new(alloc, 0);
+    let mut index = 0usize;
     for row in rows() {
-        expect_row(alloc, &heap, row, true)?;
-        expect_row(alloc, &heap, row, false)?;
+        in_row(index, expect_row(alloc, &heap, row, true))?;
+        in_row(index, expect_row(alloc, &heap, row, false))?;
+        index = index.wrapping_add(1);
     }
     Ok(())
 }

@@ -3,7 +3,7 @@ use refusing::{Lent, REFUSALS};
 use std::alloc::{AllocError, Allocator, Global};
 use wtf8::{Build, CodePoint, Wtf8, Wtf8Buf};
 use wtf8_tests::examples::points_of_units;
-use wtf8_tests::wrong::Wrong;
+use wtf8_tests::wrong::{Failed, Wrong};
 
 /// A string with spare capacity, and the units and the code points that it is made of.
 #[derive(Drop)]
@@ -151,13 +151,13 @@ pub fn expect_refused<'a>(
     call: Call,
     sample: &Sample<Lent<'a>>,
     requests: u64,
-) -> Result<(), Wrong> {
+) -> Result<(), Failed> {
     for refusal in REFUSALS {
         for granted in 0..requests {
             heap.refuse_after(granted, refusal);
             let is_done = succeeds(heap, call, sample);
             if is_done || heap.requests() != granted.wrapping_add(1) {
-                return Err(Wrong::Requests);
+                return Err(Failed::by(Wrong::Requests));
             }
         }
     }

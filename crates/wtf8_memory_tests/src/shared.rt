@@ -3,7 +3,7 @@ use refusing::Lent;
 use std::alloc::{AllocError, Allocator, Global};
 use wtf8::{Build, CodePoint, Wtf8Buf};
 use wtf8_tests::way::Way;
-use wtf8_tests::wrong::{Wrong, expect_bytes};
+use wtf8_tests::wrong::{Failed, Wrong, expect_bytes};
 
 /// The bytes of "a" and D83D.
 pub const FULL: &str = "61 ED A0 BD";
@@ -85,10 +85,10 @@ pub fn expect_step<A: Allocator>(
     alloc: Global,
     text: &mut Wtf8Buf<A>,
     row: Step<'_>,
-) -> Result<(), Wrong> {
+) -> Result<(), Failed> {
     let (call, is_done, dump) = row;
     if text.apply(call) != Ok(is_done) {
-        return Err(Wrong::Outcome);
+        return Err(Failed::by(Wrong::Outcome));
     }
     expect_bytes(alloc, text.as_wtf8(), dump)
 }

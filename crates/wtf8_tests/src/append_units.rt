@@ -1,6 +1,6 @@
 // `append_units` appends all code units of a string after a vector's own, and `write_units` writes them to the front of
 // a slice, wherever a block of one kind ends.
-use crate::wrong::Wrong;
+use crate::wrong::{Failed, Wrong, in_row};
 use refusing::{Lent, Refusing};
 use std::alloc::{AllocError, Global};
 use wtf8::{Wtf8, Wtf8Buf};
@@ -98,10 +98,10 @@ fn are_units_back(alloc: Global, units: &[u16]) -> Result<bool, AllocError> {
 }
 
 /// Fails unless the units come back by `append_units` and `write_units`.
-fn expect_units_back(alloc: Global, units: Result<Vec<u16>, AllocError>) -> Result<(), Wrong> {
+fn expect_units_back(alloc: Global, units: Result<Vec<u16>, AllocError>) -> Result<(), Failed> {
     let units = units?;
     if !are_units_back(alloc, &units)? {
-        return Err(Wrong::Outcome);
+        return Err(Failed::by(Wrong::Outcome));
     }
     Ok(())
 }
@@ -122,7 +122,7 @@ fn overwritten(
 }
 
 /// Fails unless lists of `length` times `unit`, overwritten from each index on by each of `others`, come back.
-fn expect_overwritten_back(alloc: Global, unit: u16, length: usize) -> Result<(), Wrong> {
+fn expect_overwritten_back(alloc: Global, unit: u16, length: usize) -> Result<(), Failed> {
     for at in 0..length {
         for other in others() {
             expect_units_back(alloc, overwritten(alloc, unit, length, other, at))?;
@@ -132,13 +132,13 @@ fn expect_overwritten_back(alloc: Global, unit: u16, length: usize) -> Result<()
 }
 
 #[test]
-fn all_units_are_appended_and_written(rt: HostRuntime) -> Result<(), Wrong> {
+fn all_units_are_appended_and_written(rt: HostRuntime) -> Result<(), Failed> {
     let alloc = rt.alloc();
     for length in 0..=50 {
         for unit in [
             0x0061, 0x0080, 0x07FF, 0x0800, 0xFFFF, 0xD7FF, 0xD800, 0xDFFF,
         ] {
-            expect_overwritten_back(alloc, unit, length)?;
+            in_row(length, expect_overwritten_back(alloc, unit, length))?;
         }
     }
     Ok(())
@@ -146,7 +146,7 @@ fn all_units_are_appended_and_written(rt: HostRuntime) -> Result<(), Wrong> {
 
 /// Fails unless lists of `length` times `unit` come back with each of `others` written over them: about 64, 96 or 192
 /// units before the end, where `write_units` begins to count the units of a long string of each encoded length.
-fn expect_long_back(alloc: Global, unit: u16, length: usize) -> Result<(), Wrong> {
+fn expect_long_back(alloc: Global, unit: u16, length: usize) -> Result<(), Failed> {
     for distance in [62, 63, 64, 65, 95, 96, 97, 191, 192, 193] {
         let at = length.saturating_sub(distance);
         for other in others() {
@@ -157,11 +157,11 @@ fn expect_long_back(alloc: Global, unit: u16, length: usize) -> Result<(), Wrong
 }
 
 #[test]
-fn units_of_long_strings_are_appended_and_written(rt: HostRuntime) -> Result<(), Wrong> {
+fn units_of_long_strings_are_appended_and_written(rt: HostRuntime) -> Result<(), Failed> {
     let alloc = rt.alloc();
     for unit in [0x0061, 0x0080, 0x0800, 0xD7FF, 0xD800, 0xDFFF] {
         for length in [127, 128, 400] {
-            expect_long_back(alloc, unit, length)?;
+            in_row(length, expect_long_back(alloc, unit, length))?;
         }
     }
     Ok(())

@@ -1,6 +1,6 @@
 // Each call of a string on one example. Scripts compare the calls with the original crate on many strings.
 use crate::examples::{TEXT, TEXT_DUMP, expect_units, has_numbers, joining};
-use crate::wrong::{Wrong, expect, expect_bytes, made};
+use crate::wrong::{Failed, Wrong, expect, expect_bytes, in_row, made};
 use std::alloc::{AllocError, Global};
 use std::borrow::CowStr;
 use wtf8::{Build, CodePoint, Wtf8, Wtf8Buf};
@@ -30,14 +30,14 @@ fn appended(alloc: Global) -> Result<Wtf8Buf<Global>, AllocError> {
 }
 
 /// Fails unless the string is that of `UNITS`.
-fn expect_string(alloc: Global, string: &Wtf8Buf<Global>) -> Result<(), Wrong> {
+fn expect_string(alloc: Global, string: &Wtf8Buf<Global>) -> Result<(), Failed> {
     expect_bytes(alloc, string.as_wtf8(), DUMP)?;
     expect_units(alloc, string.as_wtf8(), &UNITS)?;
     expect(has_numbers(string.as_wtf8(), &NUMBERS), Wrong::Outcome)
 }
 
 #[test]
-fn each_call_that_appends_keeps_the_units_before(rt: HostRuntime) -> Result<(), Wrong> {
+fn each_call_that_appends_keeps_the_units_before(rt: HostRuntime) -> Result<(), Failed> {
     let alloc = rt.alloc();
     let text = appended(alloc)?;
     expect_string(alloc, &text)?;
@@ -74,7 +74,7 @@ fn writes_units(text: Wtf8<'_>) -> bool {
 }
 
 #[test]
-fn units_are_pushed_and_written(rt: HostRuntime) -> Result<(), Wrong> {
+fn units_are_pushed_and_written(rt: HostRuntime) -> Result<(), Failed> {
     let alloc = rt.alloc();
     let text = pushed_as_units(alloc)?;
     expect_string(alloc, &text)?;
@@ -91,7 +91,7 @@ fn collected(alloc: Global) -> Result<Wtf8Buf<Global>, AllocError> {
 }
 
 #[test]
-fn code_points_of_a_string_give_it_again(rt: HostRuntime) -> Result<(), Wrong> {
+fn code_points_of_a_string_give_it_again(rt: HostRuntime) -> Result<(), Failed> {
     let alloc = rt.alloc();
     expect_string(alloc, &collected(alloc)?)
 }
@@ -141,7 +141,7 @@ fn is_copied_text(alloc: Global, view: Wtf8<'_>, text: &str) -> Result<bool, All
 }
 
 #[test]
-fn a_string_without_surrogates_is_a_text(rt: HostRuntime) -> Result<(), Wrong> {
+fn a_string_without_surrogates_is_a_text(rt: HostRuntime) -> Result<(), Failed> {
     let text = made(String::from_str(rt.alloc(), TEXT))?;
     expect(is_text(Wtf8Buf::from_string(text)), Wrong::Bytes)?;
     let is_text = made(is_borrowed_text(rt.alloc(), Wtf8::from_str(TEXT), TEXT))?;
@@ -149,7 +149,7 @@ fn a_string_without_surrogates_is_a_text(rt: HostRuntime) -> Result<(), Wrong> {
 }
 
 #[test]
-fn a_lossy_text_has_replacements(rt: HostRuntime) -> Result<(), Wrong> {
+fn a_lossy_text_has_replacements(rt: HostRuntime) -> Result<(), Failed> {
     let text = made(appended(rt.alloc()))?;
     let lossy = "aé 💩\u{FFFD}";
     let is_text = made(is_copied_text(rt.alloc(), text.as_wtf8(), lossy))?;
@@ -158,9 +158,9 @@ fn a_lossy_text_has_replacements(rt: HostRuntime) -> Result<(), Wrong> {
 }
 
 /// Fails unless the parts of `TEXT` at a boundary have their bytes, and inside a code point there is none.
-fn expect_parts(alloc: Global, text: Wtf8<'_>) -> Result<(), Wrong> {
+fn expect_parts(alloc: Global, text: Wtf8<'_>) -> Result<(), Failed> {
     if text.is_code_point_boundary(5) || !text.is_code_point_boundary(4) {
-        return Err(Wrong::Row);
+        return Err(Failed::by(Wrong::Row));
     }
     expect_bytes(alloc, text.slice_to(4), "61 C3 A9 20")?;
     expect_bytes(alloc, text.slice_from(4), "F0 9F 92 A9")?;
@@ -168,14 +168,14 @@ fn expect_parts(alloc: Global, text: Wtf8<'_>) -> Result<(), Wrong> {
 }
 
 #[test]
-fn parts_have_the_bytes_between_their_positions(rt: HostRuntime) -> Result<(), Wrong> {
+fn parts_have_the_bytes_between_their_positions(rt: HostRuntime) -> Result<(), Failed> {
     expect_parts(rt.alloc(), Wtf8::from_str(TEXT))
 }
 
 /// Truncates `TEXT` to its first four units. Fails unless it then ends with a lead that a trail joins.
-fn expect_truncated(alloc: Global, text: &mut Wtf8Buf<Global>) -> Result<(), Wrong> {
+fn expect_truncated(alloc: Global, text: &mut Wtf8Buf<Global>) -> Result<(), Failed> {
     if text.as_wtf8().unit_len() != 5 {
-        return Err(Wrong::Outcome);
+        return Err(Failed::by(Wrong::Outcome));
     }
     text.truncate_units(4);
     expect_bytes(alloc, text.as_wtf8(), "61 C3 A9 20 ED A0 BD")?;
@@ -184,7 +184,7 @@ fn expect_truncated(alloc: Global, text: &mut Wtf8Buf<Global>) -> Result<(), Wro
 }
 
 #[test]
-fn a_string_is_truncated_inside_a_pair(rt: HostRuntime) -> Result<(), Wrong> {
+fn a_string_is_truncated_inside_a_pair(rt: HostRuntime) -> Result<(), Failed> {
     let mut text = Wtf8Buf::from_str(rt.alloc(), TEXT)?;
     expect_truncated(rt.alloc(), &mut text)
 }
@@ -197,7 +197,7 @@ fn clears(text: &mut Wtf8Buf<Global>) -> bool {
 }
 
 #[test]
-fn a_cleared_string_is_empty_and_begins_anew(rt: HostRuntime) -> Result<(), Wrong> {
+fn a_cleared_string_is_empty_and_begins_anew(rt: HostRuntime) -> Result<(), Failed> {
     let mut text = appended(rt.alloc())?;
     assert!(rt; !text.is_empty() && !text.as_wtf8().is_empty());
     assert!(rt; clears(&mut text));
@@ -240,7 +240,7 @@ fn yields_back(text: Wtf8<'_>) -> bool {
 }
 
 #[test]
-fn an_iterator_outlives_its_view(rt: HostRuntime) -> Result<(), Wrong> {
+fn an_iterator_outlives_its_view(rt: HostRuntime) -> Result<(), Failed> {
     let text = made(Wtf8Buf::from_ill_formed_utf16(rt.alloc(), &[0xD83D, 0x62]))?;
     expect(yields_back(text.as_wtf8()), Wrong::Units)
 }
@@ -258,7 +258,7 @@ fn keeps_back(text: Wtf8<'_>) -> bool {
 }
 
 #[test]
-fn a_slice_outlives_its_view(rt: HostRuntime) -> Result<(), Wrong> {
+fn a_slice_outlives_its_view(rt: HostRuntime) -> Result<(), Failed> {
     let units = [0x61, 0xD83D, 0x62];
     let text = made(Wtf8Buf::from_ill_formed_utf16(rt.alloc(), &units))?;
     expect(keeps_back(text.as_wtf8()), Wrong::Bytes)
@@ -270,13 +270,16 @@ fn ends_before_max(text: Wtf8<'_>) -> bool {
 }
 
 #[test]
-fn usize_max_is_no_boundary(rt: HostRuntime) -> Result<(), Wrong> {
+fn usize_max_is_no_boundary(rt: HostRuntime) -> Result<(), Failed> {
     for text in ["", TEXT] {
         expect(ends_before_max(Wtf8::from_str(text)), Wrong::Outcome)?;
     }
+    let mut row = 0usize;
     for (units, _, _) in joining() {
         let text = made(Wtf8Buf::from_ill_formed_utf16(rt.alloc(), units))?;
-        expect(ends_before_max(text.as_wtf8()), Wrong::Outcome)?;
+        let is_right = ends_before_max(text.as_wtf8());
+        in_row(row, expect(is_right, Wrong::Outcome))?;
+        row = row.wrapping_add(1);
     }
     Ok(())
 }
@@ -289,7 +292,7 @@ fn extends_twice(text: &mut Wtf8Buf<Global>) -> bool {
 }
 
 #[test]
-fn two_extensions_join(rt: HostRuntime) -> Result<(), Wrong> {
+fn two_extensions_join(rt: HostRuntime) -> Result<(), Failed> {
     let mut text = Wtf8Buf::new(rt.alloc());
     expect(extends_twice(&mut text), Wrong::Outcome)?;
     expect_bytes(rt.alloc(), text.as_wtf8(), "F0 9F 92 A9 61")

@@ -1,7 +1,7 @@
 // Strings built from what the standard library makes of code points: arrays and options. Scripts compare
 // strings built from slices with the original crate.
 use crate::examples::{expect_made, joined};
-use crate::wrong::Wrong;
+use crate::wrong::Failed;
 use std::alloc::{AllocError, Allocator, Global};
 use wtf8::{CodePoint, Wtf8Buf};
 
@@ -17,7 +17,7 @@ fn of_arrays(
 }
 
 #[test]
-fn arrays_are_taken(rt: HostRuntime) -> Result<(), Wrong> {
+fn arrays_are_taken(rt: HostRuntime) -> Result<(), Failed> {
     let alloc = rt.alloc();
     let [a, b] = ['a', 'b'].map(CodePoint::from_char);
     let pair = [CodePoint::from_unit(0xD83D), CodePoint::from_unit(0xDCA9)];
@@ -42,7 +42,7 @@ fn of_options(alloc: Global) -> Result<Wtf8Buf<Global>, AllocError> {
 }
 
 #[test]
-fn an_option_is_taken(rt: HostRuntime) -> Result<(), Wrong> {
+fn an_option_is_taken(rt: HostRuntime) -> Result<(), Failed> {
     let alloc = rt.alloc();
     expect_made(alloc, of_options(alloc), "F0 9F 92 A9")
 }

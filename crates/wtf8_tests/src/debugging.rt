@@ -2,7 +2,7 @@
 use crate::examples::{point_of_number, pushed};
 use crate::long_texts::long_text;
 use crate::sinks::Sink;
-use crate::wrong::Wrong;
+use crate::wrong::{Failed, in_row};
 use std::alloc::{AllocError, Global};
 use std::fmt::{Debug, Write};
 
@@ -49,7 +49,7 @@ fn writes_of<T: Debug>(
     is_styled: bool,
     refused: u32,
     expected: &str,
-) -> Result<u32, Wrong> {
+) -> Result<u32, Failed> {
     let mut sink = Sink::new(alloc, refused);
     let is_ok = if is_styled {
         write!(sink, "{value:<+#03000.3?}").is_ok()
@@ -60,7 +60,7 @@ fn writes_of<T: Debug>(
 }
 
 /// Refuses each write of the debug output in turn. Fails unless the output ends there.
-fn expect_ends<T: Debug>(alloc: Global, value: &T, expected: &str) -> Result<(), Wrong> {
+fn expect_ends<T: Debug>(alloc: Global, value: &T, expected: &str) -> Result<(), Failed> {
     for is_styled in [false, true] {
         let writes = writes_of(alloc, value, is_styled, u32::MAX, expected)?;
         for refused in 1..=writes {
@@ -71,7 +71,7 @@ fn expect_ends<T: Debug>(alloc: Global, value: &T, expected: &str) -> Result<(),
 }
 
 /// Fails unless the debug output of the string of these code points, and of its view, ends at each refused write.
-fn expect_string_ends(alloc: Global, numbers: &[u32], expected: &str) -> Result<(), Wrong> {
+fn expect_string_ends(alloc: Global, numbers: &[u32], expected: &str) -> Result<(), Failed> {
     let text = pushed(alloc, numbers)?;
     expect_ends(alloc, &text, expected)?;
     expect_ends(alloc, &text.as_wtf8(), expected)
@@ -80,13 +80,17 @@ fn expect_string_ends(alloc: Global, numbers: &[u32], expected: &str) -> Result<
 #[test]
 fn a_debug_text_shows_surrogates_by_number_and_ends_at_a_refused_write(
     rt: HostRuntime,
-) -> Result<(), Wrong> {
+) -> Result<(), Failed> {
     let alloc = rt.alloc();
+    let mut row = 0usize;
     for (numbers, expected) in strings() {
-        expect_string_ends(alloc, numbers, expected)?;
+        in_row(row, expect_string_ends(alloc, numbers, expected))?;
+        row = row.wrapping_add(1);
     }
     for (number, expected) in points() {
-        expect_ends(alloc, &point_of_number(number)?, expected)?;
+        let point = point_of_number(number)?;
+        in_row(row, expect_ends(alloc, &point, expected))?;
+        row = row.wrapping_add(1);
     }
     Ok(())
 }
@@ -101,13 +105,13 @@ fn quoted(alloc: Global, text: &str) -> Result<String, AllocError> {
 
 /// Fails unless the debug output of a long string with the code point `number`, shown as `shown`, ends at each refused
 /// write.
-fn expect_long_ends(alloc: Global, number: u32, shown: &str) -> Result<(), Wrong> {
+fn expect_long_ends(alloc: Global, number: u32, shown: &str) -> Result<(), Failed> {
     let (numbers, text) = long_text(alloc, 160, number, shown)?;
     expect_string_ends(alloc, &numbers, &quoted(alloc, &text)?)
 }
 
 #[test]
-fn a_long_debug_text_ends_at_a_refused_write(rt: HostRuntime) -> Result<(), Wrong> {
+fn a_long_debug_text_ends_at_a_refused_write(rt: HostRuntime) -> Result<(), Failed> {
     let alloc = rt.alloc();
     expect_long_ends(alloc, 0xDEAD, "\\u{DEAD}")?;
     expect_long_ends(alloc, 0x07, "\u{7}")

@@ -2,7 +2,7 @@
 use crate::examples::{expect_true, pushed};
 use crate::long_texts::long_text;
 use crate::sinks::Sink;
-use crate::wrong::Wrong;
+use crate::wrong::{Failed, in_row};
 use std::alloc::{AllocError, Global};
 use std::fmt;
 use std::fmt::{Display, Write};
@@ -99,11 +99,13 @@ fn parts_rows() -> [(&'static [u32], &'static [&'static str]); 5] {
 }
 
 #[test]
-fn a_lossy_text_is_written_in_parts(rt: HostRuntime) -> Result<(), Wrong> {
+fn a_lossy_text_is_written_in_parts(rt: HostRuntime) -> Result<(), Failed> {
     let alloc = rt.alloc();
+    let mut row = 0usize;
     for (numbers, parts) in parts_rows() {
         let text = pushed(alloc, numbers)?;
-        expect_true(writes_in_parts(alloc, &text, parts))?;
+        in_row(row, expect_true(writes_in_parts(alloc, &text, parts)))?;
+        row = row.wrapping_add(1);
     }
     Ok(())
 }
@@ -116,7 +118,7 @@ fn writes_of<T: Display>(
     style: usize,
     refused: u32,
     expected: &str,
-) -> Result<u32, Wrong> {
+) -> Result<u32, Failed> {
     let mut sink = Sink::new(alloc, refused);
     let is_ok = match style {
         0 => write!(sink, "{value}").is_ok(),
@@ -129,7 +131,7 @@ fn writes_of<T: Display>(
 }
 
 /// Refuses each write in each format in turn. Fails unless the output ends there.
-fn expect_ends<T: Display>(alloc: Global, value: &T, expected: [&str; 5]) -> Result<(), Wrong> {
+fn expect_ends<T: Display>(alloc: Global, value: &T, expected: [&str; 5]) -> Result<(), Failed> {
     for (style, expected) in expected.iter().enumerate() {
         let writes = writes_of(alloc, value, style, u32::MAX, expected)?;
         for refused in 1..=writes {
@@ -140,7 +142,7 @@ fn expect_ends<T: Display>(alloc: Global, value: &T, expected: [&str; 5]) -> Res
 }
 
 /// Fails unless the output of the string of these code points, and of its view, ends at each refused write.
-fn expect_string_ends(alloc: Global, numbers: &[u32], expected: [&str; 5]) -> Result<(), Wrong> {
+fn expect_string_ends(alloc: Global, numbers: &[u32], expected: [&str; 5]) -> Result<(), Failed> {
     let text = pushed(alloc, numbers)?;
     expect_ends(alloc, &text, expected)?;
     expect_ends(alloc, &text.as_wtf8(), expected)
@@ -149,15 +151,17 @@ fn expect_string_ends(alloc: Global, numbers: &[u32], expected: [&str; 5]) -> Re
 #[test]
 fn a_text_is_filled_a_lossy_text_is_not_and_both_end_at_a_refused_write(
     rt: HostRuntime,
-) -> Result<(), Wrong> {
+) -> Result<(), Failed> {
+    let mut row = 0usize;
     for (numbers, expected) in styled() {
-        expect_string_ends(rt.alloc(), numbers, expected)?;
+        in_row(row, expect_string_ends(rt.alloc(), numbers, expected))?;
+        row = row.wrapping_add(1);
     }
     Ok(())
 }
 
 #[test]
-fn a_long_text_ends_at_a_refused_write(rt: HostRuntime) -> Result<(), Wrong> {
+fn a_long_text_ends_at_a_refused_write(rt: HostRuntime) -> Result<(), Failed> {
     let alloc = rt.alloc();
     let (numbers, text) = long_text(alloc, 160, 0x1F4A9, "💩")?;
     let whole = text.as_str();
@@ -166,7 +170,7 @@ fn a_long_text_ends_at_a_refused_write(rt: HostRuntime) -> Result<(), Wrong> {
 }
 
 #[test]
-fn a_long_lossy_text_ends_at_a_refused_write(rt: HostRuntime) -> Result<(), Wrong> {
+fn a_long_lossy_text_ends_at_a_refused_write(rt: HostRuntime) -> Result<(), Failed> {
     let alloc = rt.alloc();
     let (numbers, text) = long_text(alloc, 160, 0xDEAD, "\u{FFFD}")?;
     let whole = text.as_str();
@@ -190,7 +194,7 @@ fn around_a_surrogate(alloc: Global, length: usize) -> Result<(Vec<u32>, String)
 }
 
 /// Fails unless the string of these code points, and its view, are displayed as `expected`.
-fn expect_displayed(alloc: Global, numbers: &[u32], expected: &str) -> Result<(), Wrong> {
+fn expect_displayed(alloc: Global, numbers: &[u32], expected: &str) -> Result<(), Failed> {
     let text = pushed(alloc, numbers)?;
     writes_of(alloc, &text, 0, u32::MAX, expected)?;
     writes_of(alloc, &text.as_wtf8(), 0, u32::MAX, expected)?;
@@ -198,10 +202,10 @@ fn expect_displayed(alloc: Global, numbers: &[u32], expected: &str) -> Result<()
 }
 
 #[test]
-fn texts_of_each_length_around_a_surrogate_are_written(rt: HostRuntime) -> Result<(), Wrong> {
+fn texts_of_each_length_around_a_surrogate_are_written(rt: HostRuntime) -> Result<(), Failed> {
     for length in 0..=LETTERS {
         let (numbers, text) = around_a_surrogate(rt.alloc(), length)?;
-        expect_displayed(rt.alloc(), &numbers, &text)?;
+        in_row(length, expect_displayed(rt.alloc(), &numbers, &text))?;
     }
     Ok(())
 }

@@ -1,6 +1,6 @@
 // Hex dumps of texts of each length up to 65 bytes, as blocks are written at once, and dumps appended to a vector.
 use crate::examples::expect_true;
-use crate::wrong::Wrong;
+use crate::wrong::{Failed, Wrong, in_row};
 use std::alloc::{AllocError, Global};
 use wtf8::Wtf8;
 
@@ -17,13 +17,13 @@ fn is_prefix(alloc: Global, text: &str) -> Result<bool, AllocError> {
 }
 
 #[test]
-fn dumps_of_all_prefixes_are_prefixes(rt: HostRuntime) -> Result<(), Wrong> {
+fn dumps_of_all_prefixes_are_prefixes(rt: HostRuntime) -> Result<(), Failed> {
     let alloc = rt.alloc();
     for n in 0..66 {
         let Ok(text) = str::from_utf8(&TEXT.as_bytes()[..n]) else {
-            return Err(Wrong::Row);
+            return in_row(n, Err(Failed::by(Wrong::Row)));
         };
-        expect_true(is_prefix(alloc, text))?;
+        in_row(n, expect_true(is_prefix(alloc, text)))?;
     }
     Ok(())
 }
@@ -36,8 +36,9 @@ fn appends_dump(alloc: Global, text: &str, expected: &str) -> Result<bool, Alloc
 }
 
 #[test]
-fn a_dump_is_appended_after_a_text(rt: HostRuntime) -> Result<(), Wrong> {
+fn a_dump_is_appended_after_a_text(rt: HostRuntime) -> Result<(), Failed> {
     let alloc = rt.alloc();
+    let mut row = 0usize;
     for (text, expected) in [
         ("", "before:"),
         ("\u{0}\u{7F}", "before:00 7F"),
@@ -46,7 +47,8 @@ fn a_dump_is_appended_after_a_text(rt: HostRuntime) -> Result<(), Wrong> {
             "before:C3 A9 E6 BC A2 F0 9F 92 A9 C3 A9 E6 BC A2 F0 9F 92 A9",
         ),
     ] {
-        expect_true(appends_dump(alloc, text, expected))?;
+        in_row(row, expect_true(appends_dump(alloc, text, expected)))?;
+        row = row.wrapping_add(1);
     }
     Ok(())
 }

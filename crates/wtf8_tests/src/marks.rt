@@ -1,6 +1,6 @@
 // Marks by positions and by units, and what iterators have left.
 use crate::examples::TEXT;
-use crate::wrong::{Wrong, expect, expect_bytes};
+use crate::wrong::{Failed, Wrong, expect, expect_bytes, in_row};
 use std::alloc::Global;
 use wtf8::{CodePoint, Wtf8};
 
@@ -32,16 +32,17 @@ fn is_marked(text: Wtf8<'_>, position: usize, row: (usize, usize)) -> bool {
 }
 
 /// Fails unless each position of `TEXT` has the mark of its row.
-fn expect_marks(text: Wtf8<'_>) -> Result<(), Wrong> {
+fn expect_marks(text: Wtf8<'_>) -> Result<(), Failed> {
     for (position, row) in marks().iter().enumerate() {
-        expect(is_marked(text, position, *row), Wrong::Outcome)?;
+        let is_right = is_marked(text, position, *row);
+        in_row(position, expect(is_right, Wrong::Outcome))?;
     }
     Ok(())
 }
 
 #[test]
-fn each_position_is_at_or_after_a_mark(rt: HostRuntime) {
-    assert!(rt; expect_marks(Wtf8::from_str(TEXT)).is_ok());
+fn each_position_is_at_or_after_a_mark() -> Result<(), Failed> {
+    expect_marks(Wtf8::from_str(TEXT))
 }
 
 /// For each number of units of `TEXT` the mark for it. Four split the pair, so theirs is before it.
@@ -50,40 +51,43 @@ fn marks_of_units() -> [(usize, usize); 6] {
 }
 
 /// Fails unless each mark for at most the units before `position` is found back from the mark there.
-fn expect_found_back(text: Wtf8<'_>, position: usize) -> Result<(), Wrong> {
+fn expect_found_back(text: Wtf8<'_>, position: usize) -> Result<(), Failed> {
     let from = text.mark_before(text.start_mark(), position.min(text.len()));
     for (units, row) in marks_of_units().iter().enumerate() {
         if units <= from.units {
             let mark = text.mark_back(from, units);
-            expect((mark.position, mark.units) == *row, Wrong::Outcome)?;
+            let is_right = (mark.position, mark.units) == *row;
+            in_row(units, expect(is_right, Wrong::Outcome))?;
         }
     }
     Ok(())
 }
 
 #[test]
-fn marks_are_found_back_from_later_ones(rt: HostRuntime) {
+fn marks_are_found_back_from_later_ones() -> Result<(), Failed> {
     for position in 0..9 {
-        assert!(rt; expect_found_back(Wtf8::from_str(TEXT), position).is_ok());
+        expect_found_back(Wtf8::from_str(TEXT), position)?;
     }
+    Ok(())
 }
 
 /// Fails unless the view of an iterator has the bytes of `dump`, or there is none where `dump` is `None`.
-fn expect_left(alloc: Global, left: Option<Wtf8<'_>>, dump: Option<&str>) -> Result<(), Wrong> {
+fn expect_left(alloc: Global, left: Option<Wtf8<'_>>, dump: Option<&str>) -> Result<(), Failed> {
     match (left, dump) {
         (None, None) => Ok(()),
         (Some(left), Some(dump)) => expect_bytes(alloc, left, dump),
-        _ => Err(Wrong::Outcome),
+        _ => Err(Failed::by(Wrong::Outcome)),
     }
 }
 
 /// Fails unless both iterators have left what is after the code points, or the units, that they returned.
-fn expect_all_left(alloc: Global, text: Wtf8<'_>) -> Result<(), Wrong> {
+fn expect_all_left(alloc: Global, text: Wtf8<'_>) -> Result<(), Failed> {
     let mut points = text.code_points();
     points.next();
     points.next();
     expect_bytes(alloc, points.as_wtf8(), "20 F0 9F 92 A9")?;
     let mut units = text.to_ill_formed_utf16();
+    let mut row = 0usize;
     for dump in [
         Some("61 C3 A9 20 F0 9F 92 A9"),
         Some("C3 A9 20 F0 9F 92 A9"),
@@ -92,14 +96,15 @@ fn expect_all_left(alloc: Global, text: Wtf8<'_>) -> Result<(), Wrong> {
         None,
         Some(""),
     ] {
-        expect_left(alloc, units.as_wtf8(), dump)?;
+        in_row(row, expect_left(alloc, units.as_wtf8(), dump))?;
+        row = row.wrapping_add(1);
         units.next();
     }
     Ok(())
 }
 
 #[test]
-fn iterators_show_what_they_have_left(rt: HostRuntime) -> Result<(), Wrong> {
+fn iterators_show_what_they_have_left(rt: HostRuntime) -> Result<(), Failed> {
     expect_all_left(rt.alloc(), Wtf8::from_str(TEXT))
 }
 

@@ -1,6 +1,6 @@
 // The library's sort, and an ordered map, of strings. Scripts compare the order of many strings with the original crate.
 use crate::examples::{expect_true, joined};
-use crate::wrong::Wrong;
+use crate::wrong::{Failed, Wrong, expect, in_row};
 use std::alloc::{AllocError, Global};
 use std::collections::BTreeMap;
 use wtf8::Wtf8Buf;
@@ -47,21 +47,21 @@ fn is_string(alloc: Global, string: &Wtf8Buf<Global>, units: &[u16]) -> Result<b
     Ok(joined(alloc, units)? == *string)
 }
 
-/// Whether the strings of the shuffled table, sorted, are in the order of the table.
-fn are_sorted(alloc: Global) -> Result<bool, AllocError> {
-    let mut strings = shuffled(alloc)?;
-    strings.sort()?;
+/// Fails unless the strings are those of the table, in its order.
+fn expect_table(alloc: Global, strings: &[Wtf8Buf<Global>]) -> Result<(), Failed> {
+    let mut row = 0usize;
     for (string, units) in strings.iter().zip(table()) {
-        if !is_string(alloc, string, units)? {
-            return Ok(false);
-        }
+        in_row(row, expect_true(is_string(alloc, string, units)))?;
+        row = row.wrapping_add(1);
     }
-    Ok(strings.len() == ROWS)
+    expect(strings.len() == ROWS, Wrong::Outcome)
 }
 
 #[test]
-fn strings_are_sorted(rt: HostRuntime) -> Result<(), Wrong> {
-    expect_true(are_sorted(rt.alloc()))
+fn strings_are_sorted(rt: HostRuntime) -> Result<(), Failed> {
+    let mut strings = shuffled(rt.alloc())?;
+    strings.sort()?;
+    expect_table(rt.alloc(), &strings)
 }
 
 type Ordered = BTreeMap<Wtf8Buf<Global>, usize>;
@@ -81,22 +81,17 @@ fn index_of(alloc: Global, map: &Ordered, units: &[u16]) -> Result<Option<usize>
     Ok(map.get(&string).copied())
 }
 
-/// Whether an ordered map has the index of each shuffled string, and none for another string.
-fn has_indexes(alloc: Global, map: &Ordered) -> Result<bool, AllocError> {
+/// Fails unless an ordered map has the index of each shuffled string, and none for another string.
+fn expect_indexes(alloc: Global, map: &Ordered) -> Result<(), Failed> {
     for index in 0..ROWS {
-        if index_of(alloc, map, row(index))? != Some(index) {
-            return Ok(false);
-        }
+        let found = index_of(alloc, map, row(index))?;
+        in_row(index, expect(found == Some(index), Wrong::Outcome))?;
     }
-    Ok(index_of(alloc, map, &[0xDCA9, 0xD83D])?.is_none())
-}
-
-/// Whether an ordered map of the shuffled strings finds each.
-fn are_found(alloc: Global) -> Result<bool, AllocError> {
-    has_indexes(alloc, &ordered(alloc)?)
+    let found = index_of(alloc, map, &[0xDCA9, 0xD83D])?;
+    expect(found.is_none(), Wrong::Outcome)
 }
 
 #[test]
-fn strings_are_found_in_an_ordered_map(rt: HostRuntime) -> Result<(), Wrong> {
-    expect_true(are_found(rt.alloc()))
+fn strings_are_found_in_an_ordered_map(rt: HostRuntime) -> Result<(), Failed> {
+    expect_indexes(rt.alloc(), &ordered(rt.alloc())?)
 }

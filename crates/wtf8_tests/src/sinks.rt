@@ -1,5 +1,5 @@
 //! A sink that refuses one write.
-use crate::wrong::Wrong;
+use crate::wrong::{Failed, Wrong};
 use std::alloc::Global;
 use std::fmt;
 use std::fmt::Write;
@@ -28,13 +28,13 @@ impl Sink {
 
     /// Fails unless the call that writes `expected` failed at the refused write and ended there, or wrote all if none
     /// was refused; `is_ok` is whether it succeeded. Returns the number of writes.
-    pub fn expect_end(&self, is_ok: bool, expected: &str) -> Result<u32, Wrong> {
+    pub fn expect_end(&self, is_ok: bool, expected: &str) -> Result<u32, Failed> {
         let (taken, writes) = (self.taken.as_str(), self.writes);
         if is_ok != (writes < self.refused) || (is_ok && taken != expected) {
-            return Err(Wrong::Outcome);
+            return Err(Failed::by(Wrong::Outcome));
         }
         if !expected.starts_with(taken) || (!is_ok && writes != self.refused) {
-            return Err(Wrong::Outcome);
+            return Err(Failed::by(Wrong::Outcome));
         }
         Ok(writes)
     }

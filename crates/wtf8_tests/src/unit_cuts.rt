@@ -1,7 +1,7 @@
 // Truncation to every number of code units.
 use crate::examples::{expect_made, expect_units, joining};
 use crate::unit_lists::{lists, long_list};
-use crate::wrong::Wrong;
+use crate::wrong::{Failed, Wrong, in_row};
 use refusing::{Lent, REFUSALS, Refusal, Refusing};
 use std::alloc::{Allocator, Global};
 use wtf8::{Build, Wtf8Buf};
@@ -64,17 +64,17 @@ fn expect_cut(
     n: usize,
     cut: Cut,
     refusal: Refusal,
-) -> Result<(), Wrong> {
+) -> Result<(), Failed> {
     heap.grant(1_000);
     let mut text = Wtf8Buf::from_ill_formed_utf16(heap, units)?;
     if !cuts_without_memory(heap, &mut text, units, n, cut, refusal) {
-        return Err(Wrong::Outcome);
+        return Err(Failed::by(Wrong::Outcome));
     }
     expect_units(alloc, text.as_wtf8(), &units[..n.min(units.len())])
 }
 
 /// Fails unless truncation to `n` units is right.
-fn expect_cut_at(alloc: Global, heap: Lent<'_>, units: &[u16], n: usize) -> Result<(), Wrong> {
+fn expect_cut_at(alloc: Global, heap: Lent<'_>, units: &[u16], n: usize) -> Result<(), Failed> {
     for refusal in REFUSALS {
         for cut in [Cut::Apply, Cut::TruncateUnits, Cut::TruncateUnitsAt] {
             expect_cut(alloc, heap, units, n, cut, refusal)?;
@@ -84,7 +84,7 @@ fn expect_cut_at(alloc: Global, heap: Lent<'_>, units: &[u16], n: usize) -> Resu
 }
 
 /// Fails unless truncation to each number of units, up to two past the end, is right.
-fn expect_each_cut(alloc: Global, units: &[u16]) -> Result<(), Wrong> {
+fn expect_each_cut(alloc: Global, units: &[u16]) -> Result<(), Failed> {
     let heap = Refusing::new(alloc, 0);
     for n in 0..units.len().saturating_add(3) {
         expect_cut_at(alloc, &heap, units, n)?;
@@ -93,29 +93,34 @@ fn expect_each_cut(alloc: Global, units: &[u16]) -> Result<(), Wrong> {
 }
 
 #[test]
-fn truncate_units_keeps_the_first_units_without_memory(rt: HostRuntime) -> Result<(), Wrong> {
+fn truncate_units_keeps_the_first_units_without_memory(rt: HostRuntime) -> Result<(), Failed> {
     let alloc = rt.alloc();
+    let mut row = 0usize;
     for (units, _, dump) in joining() {
-        expect_made(alloc, Wtf8Buf::from_ill_formed_utf16(alloc, units), dump)?;
-        expect_each_cut(alloc, units)?;
+        let made = Wtf8Buf::from_ill_formed_utf16(alloc, units);
+        in_row(row, expect_made(alloc, made, dump))?;
+        in_row(row, expect_each_cut(alloc, units))?;
+        row = row.wrapping_add(1);
     }
     for units in lists() {
-        expect_each_cut(alloc, units)?;
+        in_row(row, expect_each_cut(alloc, units))?;
+        row = row.wrapping_add(1);
     }
     Ok(())
 }
 
 #[test]
-fn truncate_units_is_right_near_block_edges(rt: HostRuntime) -> Result<(), Wrong> {
+fn truncate_units_is_right_near_block_edges(rt: HostRuntime) -> Result<(), Failed> {
     let alloc = rt.alloc();
     for letters in 20..36 {
-        expect_each_cut(alloc, &long_list(alloc, letters)?)?;
+        let units = long_list(alloc, letters)?;
+        in_row(letters, expect_each_cut(alloc, &units))?;
     }
     Ok(())
 }
 
 #[test]
-fn refused_truncations_are_counted(rt: HostRuntime) -> Result<(), Wrong> {
+fn refused_truncations_are_counted(rt: HostRuntime) -> Result<(), Failed> {
     let alloc = rt.alloc();
     let mut text = Wtf8Buf::from_str(alloc, "a💩")?;
     let calls = [

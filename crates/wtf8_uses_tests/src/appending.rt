@@ -2,11 +2,11 @@
 use crate::shared::{LEAD, TRAIL, expect_made, string_of};
 use std::alloc::Global;
 use wtf8::{Build, Stopped, Wtf8, Wtf8Buf};
-use wtf8_tests::wrong::{Wrong, expect_bytes, made};
+use wtf8_tests::wrong::{Failed, Wrong, expect_bytes, made};
 use wtf8_uses::{appending, joining, refusals};
 
 /// Appends the two surrogates of the pair, and then nothing.
-fn append_halves(alloc: Global, text: &mut Wtf8Buf<Global>) -> Result<(), Wrong> {
+fn append_halves(alloc: Global, text: &mut Wtf8Buf<Global>) -> Result<(), Failed> {
     let lead = string_of(alloc, &[LEAD])?;
     let trail = string_of(alloc, &[TRAIL])?;
     made(refusals::push_both(text, lead.as_wtf8(), trail.as_wtf8()))?;
@@ -14,16 +14,16 @@ fn append_halves(alloc: Global, text: &mut Wtf8Buf<Global>) -> Result<(), Wrong>
 }
 
 /// Fails unless the text, cut at position 1 and joined, has the bytes of `dump`.
-fn expect_cut(alloc: Global, text: Wtf8<'_>, dump: &str) -> Result<(), Wrong> {
+fn expect_cut(alloc: Global, text: Wtf8<'_>, dump: &str) -> Result<(), Failed> {
     if !text.is_code_point_boundary(1) {
-        return Err(Wrong::Row);
+        return Err(Failed::by(Wrong::Row));
     }
     let whole = joining::cut_at_boundary_and_joined(alloc, text, 1);
     expect_made(alloc, whole, dump)
 }
 
 #[test]
-fn a_pair_is_appended_by_its_halves(rt: HostRuntime) -> Result<(), Wrong> {
+fn a_pair_is_appended_by_its_halves(rt: HostRuntime) -> Result<(), Failed> {
     let mut text = made(Wtf8Buf::from_str(rt.alloc(), "a"))?;
     append_halves(rt.alloc(), &mut text)?;
     expect_bytes(rt.alloc(), text.as_wtf8(), "61 F0 9F 92 A9")?;
@@ -36,20 +36,20 @@ fn expect_appended(
     string: &mut Wtf8Buf<Global>,
     other: &Wtf8Buf<Global>,
     dump: &str,
-) -> Result<(), Wrong> {
+) -> Result<(), Failed> {
     made(appending::append_string(string, other))?;
     expect_bytes(alloc, string.as_wtf8(), dump)
 }
 
 /// Appends a trail and "a" twice. Fails unless the bytes are right each time.
-fn expect_appended_twice(alloc: Global, string: &mut Wtf8Buf<Global>) -> Result<(), Wrong> {
+fn expect_appended_twice(alloc: Global, string: &mut Wtf8Buf<Global>) -> Result<(), Failed> {
     let other = string_of(alloc, &[TRAIL, 0x0061])?;
     expect_appended(alloc, string, &other, "F0 9F 92 A9 61")?;
     expect_appended(alloc, string, &other, "F0 9F 92 A9 61 ED B2 A9 61")
 }
 
 #[test]
-fn a_string_is_appended_to_another(rt: HostRuntime) -> Result<(), Wrong> {
+fn a_string_is_appended_to_another(rt: HostRuntime) -> Result<(), Failed> {
     let mut string = string_of(rt.alloc(), &[LEAD])?;
     expect_appended_twice(rt.alloc(), &mut string)
 }

@@ -3,14 +3,14 @@ use crate::shared::{LEAD, TRAIL, string_of};
 use refusing::Refusing;
 use std::alloc::{AllocError, Allocator, Global};
 use wtf8::Wtf8;
-use wtf8_tests::wrong::{Wrong, expect, made};
+use wtf8_tests::wrong::{Failed, Wrong, expect, in_row, made};
 use wtf8_uses::ascii_case::eq_ignore_ascii_case;
 use wtf8_uses::environment::{Variable, environment_block};
 use wtf8_uses::json::{append_json_bytes, append_json_text, json_text};
 use wtf8_uses::{round_trips, units, well_formed};
 
 /// Fails unless `units_round_trip` returns the units of `list`.
-fn expect_units_again(alloc: Global, list: &[u16]) -> Result<(), Wrong> {
+fn expect_units_again(alloc: Global, list: &[u16]) -> Result<(), Failed> {
     let again = made(round_trips::units_round_trip(alloc, list))?;
     expect(again.as_slice() == list, Wrong::Units)
 }
@@ -24,20 +24,20 @@ fn comes_back(owned: String, text: &str) -> bool {
 }
 
 /// Fails unless `text_round_trip` and `string_round_trip` return `text`.
-fn expect_text_again(alloc: Global, text: &str) -> Result<(), Wrong> {
+fn expect_text_again(alloc: Global, text: &str) -> Result<(), Failed> {
     let owned = made(String::from_str(alloc, text))?;
     let is_same = round_trips::text_round_trip(text) == Some(text);
     expect(comes_back(owned, text) && is_same, Wrong::Bytes)
 }
 
 /// Fails unless `lossy_twice` of the string of `list` is `text`.
-fn expect_lossy(alloc: Global, list: &[u16], text: &str) -> Result<(), Wrong> {
+fn expect_lossy(alloc: Global, list: &[u16], text: &str) -> Result<(), Failed> {
     let lossy = round_trips::lossy_twice(string_of(alloc, list)?);
     expect(lossy.as_str() == text, Wrong::Bytes)
 }
 
 #[test]
-fn round_trips_return_their_input(rt: HostRuntime) -> Result<(), Wrong> {
+fn round_trips_return_their_input(rt: HostRuntime) -> Result<(), Failed> {
     expect_units_again(rt.alloc(), &[TRAIL, LEAD, TRAIL, 0x0041, LEAD])?;
     expect_text_again(rt.alloc(), "aé 💩")?;
     expect_lossy(rt.alloc(), &[0x0041, LEAD], "A\u{FFFD}")
@@ -54,7 +54,7 @@ fn units_are_counted(rt: HostRuntime) {
 }
 
 #[test]
-fn lone_surrogates_are_mended(rt: HostRuntime) -> Result<(), Wrong> {
+fn lone_surrogates_are_mended(rt: HostRuntime) -> Result<(), Failed> {
     let broken = string_of(rt.alloc(), &[0x0061, TRAIL, LEAD, TRAIL])?;
     let mended = made(well_formed::well_formed_text(rt.alloc(), broken.as_wtf8()))?;
     expect(mended.as_str() == "a\u{FFFD}💩", Wrong::Bytes)
@@ -88,7 +88,7 @@ fn json_rows() -> [(&'static [u16], &'static str); 6] {
 }
 
 /// Fails unless the JSON text of the string is `text`.
-fn expect_json(alloc: Global, string: Wtf8<'_>, text: &str) -> Result<(), Wrong> {
+fn expect_json(alloc: Global, string: Wtf8<'_>, text: &str) -> Result<(), Failed> {
     let mut json = made(json_text(alloc, string))?;
     expect(json.as_str() == text, Wrong::Bytes)?;
     made(append_json_text(&mut json, Wtf8::from_str("a\t")))?;
@@ -107,7 +107,7 @@ fn is_appended(alloc: Global, string: Wtf8<'_>, text: &str) -> Result<bool, Allo
 }
 
 #[test]
-fn json_bytes_follow_others(rt: HostRuntime) -> Result<(), Wrong> {
+fn json_bytes_follow_others(rt: HostRuntime) -> Result<(), Failed> {
     let string = string_of(rt.alloc(), &[0x0061, LEAD, 0x00E9])?;
     let is_there = made(is_appended(rt.alloc(), string.as_wtf8(), "\"a\\ud83dé\""))?;
     expect(is_there, Wrong::Bytes)
@@ -120,7 +120,7 @@ fn is_kept_in_bytes<A: Allocator, B: Allocator>(alloc: A, out: &mut Vec<u8, B>) 
 }
 
 #[test]
-fn refused_json_bytes_are_left_out(rt: HostRuntime) -> Result<(), Wrong> {
+fn refused_json_bytes_are_left_out(rt: HostRuntime) -> Result<(), Failed> {
     let heap = Refusing::new(rt.alloc(), 1);
     let mut out = made(Vec::from_slice(&heap, &[0x2C]))?;
     for grants in 0..REQUESTS {
@@ -140,7 +140,7 @@ fn is_kept<A: Allocator>(json: &mut String<A>, string: Wtf8<'_>) -> bool {
 }
 
 #[test]
-fn refused_json_text_is_cut_off(rt: HostRuntime) -> Result<(), Wrong> {
+fn refused_json_text_is_cut_off(rt: HostRuntime) -> Result<(), Failed> {
     let string = string_of(rt.alloc(), &[0x001F; 40])?;
     let heap = Refusing::new(rt.alloc(), 1);
     let mut json = made(String::from_str(&heap, "ab"))?;
@@ -152,22 +152,24 @@ fn refused_json_text_is_cut_off(rt: HostRuntime) -> Result<(), Wrong> {
 }
 
 #[test]
-fn json_texts_are_those_of_an_engine(rt: HostRuntime) -> Result<(), Wrong> {
+fn json_texts_are_those_of_an_engine(rt: HostRuntime) -> Result<(), Failed> {
+    let mut row = 0usize;
     for (units, text) in json_rows() {
         let string = string_of(rt.alloc(), units)?;
-        expect_json(rt.alloc(), string.as_wtf8(), text)?;
+        in_row(row, expect_json(rt.alloc(), string.as_wtf8(), text))?;
+        row = row.wrapping_add(1);
     }
     Ok(())
 }
 
 /// Fails unless the block of the variables has `units`.
-fn expect_block(alloc: Global, variables: &[Variable<'_>], units: &[u16]) -> Result<(), Wrong> {
+fn expect_block(alloc: Global, variables: &[Variable<'_>], units: &[u16]) -> Result<(), Failed> {
     let block = made(environment_block(alloc, variables))?;
     expect(block.as_slice() == units, Wrong::Units)
 }
 
 #[test]
-fn an_environment_is_one_block(rt: HostRuntime) -> Result<(), Wrong> {
+fn an_environment_is_one_block(rt: HostRuntime) -> Result<(), Failed> {
     let value = string_of(rt.alloc(), &[LEAD, 0x003D])?;
     let variables = [
         Variable {
@@ -198,14 +200,14 @@ fn cases() -> [(&'static str, &'static str, bool); 5] {
 }
 
 /// Fails unless `is_equal` says whether `text` equals the string of `units` if the case of ASCII letters is ignored.
-fn expect_case(alloc: Global, text: Wtf8<'_>, units: &[u16], is_equal: bool) -> Result<(), Wrong> {
+fn expect_case(alloc: Global, text: Wtf8<'_>, units: &[u16], is_equal: bool) -> Result<(), Failed> {
     let other = string_of(alloc, units)?;
     let is_found = eq_ignore_ascii_case(text, other.as_wtf8());
     expect(is_found == is_equal, Wrong::Outcome)
 }
 
 #[test]
-fn ascii_letters_are_equal_in_both_cases(rt: HostRuntime) -> Result<(), Wrong> {
+fn ascii_letters_are_equal_in_both_cases(rt: HostRuntime) -> Result<(), Failed> {
     for (text, other, is_equal) in cases() {
         let found = eq_ignore_ascii_case(Wtf8::from_str(text), Wtf8::from_str(other));
         assert!(rt; found == is_equal, "{text} and {other}");

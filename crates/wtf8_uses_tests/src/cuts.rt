@@ -3,7 +3,7 @@ use crate::shared::has_units;
 use std::alloc::Global;
 use unit_text::UnitText;
 use wtf8_tests::examples::joining;
-use wtf8_tests::wrong::{Wrong, expect_bytes, made};
+use wtf8_tests::wrong::{Failed, Wrong, expect_bytes, in_row, made};
 use wtf8_uses::cuts::{cut_and_joined, is_equal_after_cut};
 
 /// Fails unless `cut_and_joined` returns the text of `units` and the bytes of `dump`.
@@ -13,27 +13,27 @@ fn expect_joined(
     units: &[u16],
     dump: &str,
     index: usize,
-) -> Result<(), Wrong> {
+) -> Result<(), Failed> {
     if index > text.unit_len() {
-        return Err(Wrong::Row);
+        return Err(Failed::by(Wrong::Row));
     }
     let whole = made(cut_and_joined(alloc, alloc, text, index))?;
     if !has_units(whole.as_wtf8(), units) {
-        return Err(Wrong::Units);
+        return Err(Failed::by(Wrong::Units));
     }
     expect_bytes(alloc, whole.as_wtf8(), dump)
 }
 
 /// Fails unless `is_equal_after_cut` is true at unit index `index`.
-fn expect_whole(alloc: Global, text: &UnitText<Global>, index: usize) -> Result<(), Wrong> {
+fn expect_whole(alloc: Global, text: &UnitText<Global>, index: usize) -> Result<(), Failed> {
     if index <= text.unit_len() && made(is_equal_after_cut(alloc, alloc, text, index))? {
         return Ok(());
     }
-    Err(Wrong::Outcome)
+    Err(Failed::by(Wrong::Outcome))
 }
 
 /// Fails unless the text of `units`, cut at each unit index and joined by both callers, is whole again.
-fn expect_whole_anywhere(alloc: Global, units: &[u16], dump: &str) -> Result<(), Wrong> {
+fn expect_whole_anywhere(alloc: Global, units: &[u16], dump: &str) -> Result<(), Failed> {
     let text = made(UnitText::from_units(alloc, units))?;
     for index in 0..=units.len() {
         expect_whole(alloc, &text, index)?;
@@ -43,9 +43,11 @@ fn expect_whole_anywhere(alloc: Global, units: &[u16], dump: &str) -> Result<(),
 }
 
 #[test]
-fn cut_and_joined_texts_are_equal_to_the_whole(rt: HostRuntime) -> Result<(), Wrong> {
+fn cut_and_joined_texts_are_equal_to_the_whole(rt: HostRuntime) -> Result<(), Failed> {
+    let mut row = 0usize;
     for (units, _, dump) in joining() {
-        expect_whole_anywhere(rt.alloc(), units, dump)?;
+        in_row(row, expect_whole_anywhere(rt.alloc(), units, dump))?;
+        row = row.wrapping_add(1);
     }
     Ok(())
 }

@@ -2,7 +2,7 @@
 use crate::shared::{LEAD, TRAIL, expect_made, string_of};
 use std::alloc::{AllocError, Global};
 use wtf8::{Wtf8, Wtf8Buf};
-use wtf8_tests::wrong::{Wrong, expect, expect_bytes, made};
+use wtf8_tests::wrong::{Failed, Wrong, expect, expect_bytes, in_row, made};
 use wtf8_uses::file_names;
 
 /// The path `C:\a/b<lone trail>.tar.gz`.
@@ -14,25 +14,25 @@ const PATH: [u16; 14] = [
 const JOINED: &str = "43 3A 5C 61 5C 62 ED B2 A9 2E 74 61 72 2E 67 7A";
 
 /// Fails unless a folder and a name have the bytes that `PATH` has there, the name has no folder, and both join to `JOINED`.
-fn expect_parts(alloc: Global, folder: Wtf8<'_>, name: Wtf8<'_>) -> Result<(), Wrong> {
+fn expect_parts(alloc: Global, folder: Wtf8<'_>, name: Wtf8<'_>) -> Result<(), Failed> {
     expect_bytes(alloc, folder, "43 3A 5C 61")?;
     expect_bytes(alloc, name, "62 ED B2 A9 2E 74 61 72 2E 67 7A")?;
     if file_names::folder_and_name(name).is_some() {
-        return Err(Wrong::Outcome);
+        return Err(Failed::by(Wrong::Outcome));
     }
     expect_made(alloc, file_names::join(alloc, folder, name), JOINED)
 }
 
 /// Fails unless the path has the folder and the name of `PATH`.
-fn expect_folder_and_name(alloc: Global, path: Wtf8<'_>) -> Result<(), Wrong> {
+fn expect_folder_and_name(alloc: Global, path: Wtf8<'_>) -> Result<(), Failed> {
     match file_names::folder_and_name(path) {
         Some((folder, name)) => expect_parts(alloc, folder, name),
-        None => Err(Wrong::Outcome),
+        None => Err(Failed::by(Wrong::Outcome)),
     }
 }
 
 #[test]
-fn a_path_has_a_folder_and_a_name(rt: HostRuntime) -> Result<(), Wrong> {
+fn a_path_has_a_folder_and_a_name(rt: HostRuntime) -> Result<(), Failed> {
     let path = string_of(rt.alloc(), &PATH)?;
     expect_folder_and_name(rt.alloc(), path.as_wtf8())
 }
@@ -50,7 +50,7 @@ fn expect_path_of(
     path: Wtf8<'_>,
     folder: Wtf8<'_>,
     name: Wtf8<'_>,
-) -> Result<(), Wrong> {
+) -> Result<(), Failed> {
     let same = made(file_names::join_bytes(alloc, folder, name))?;
     let is_right = path == same.as_wtf8() && is_path_of(path, folder, name);
     expect(is_right, Wrong::Outcome)
@@ -62,7 +62,7 @@ fn expect_pushed(
     folder: &Wtf8Buf<Global>,
     name: Wtf8<'_>,
     dump: &str,
-) -> Result<(), Wrong> {
+) -> Result<(), Failed> {
     let mut path = made(folder.clone())?;
     made(file_names::push_name(&mut path, name))?;
     expect_bytes(alloc, path.as_wtf8(), dump)?;
@@ -70,7 +70,7 @@ fn expect_pushed(
 }
 
 #[test]
-fn a_name_is_pushed_and_found_in_its_folder(rt: HostRuntime) -> Result<(), Wrong> {
+fn a_name_is_pushed_and_found_in_its_folder(rt: HostRuntime) -> Result<(), Failed> {
     let lead = string_of(rt.alloc(), &[LEAD])?;
     let trail = string_of(rt.alloc(), &[TRAIL])?;
     expect_pushed(rt.alloc(), &lead, trail.as_wtf8(), "ED A0 BD 5C ED B2 A9")
@@ -82,7 +82,7 @@ fn expect_named(
     name: Wtf8<'_>,
     stem: Wtf8<'_>,
     extension: Wtf8<'_>,
-) -> Result<(), Wrong> {
+) -> Result<(), Failed> {
     expect_bytes(alloc, stem, "62 ED B2 A9 2E 74 61 72")?;
     expect_bytes(alloc, extension, "67 7A")?;
     let again = made(file_names::with_extension(alloc, stem, extension))?;
@@ -91,15 +91,15 @@ fn expect_named(
 }
 
 /// Fails unless a name has the expected stem and extension, which give the name again.
-fn expect_stem(alloc: Global, name: Wtf8<'_>) -> Result<(), Wrong> {
+fn expect_stem(alloc: Global, name: Wtf8<'_>) -> Result<(), Failed> {
     match file_names::stem_and_extension(name) {
         Some((stem, extension)) => expect_named(alloc, name, stem, extension),
-        None => Err(Wrong::Outcome),
+        None => Err(Failed::by(Wrong::Outcome)),
     }
 }
 
 #[test]
-fn a_name_has_a_stem_and_an_extension(rt: HostRuntime) -> Result<(), Wrong> {
+fn a_name_has_a_stem_and_an_extension(rt: HostRuntime) -> Result<(), Failed> {
     let name = string_of(rt.alloc(), &PATH[5..])?;
     expect_stem(rt.alloc(), name.as_wtf8())?;
     let shown = made(file_names::shown(rt.alloc(), name.as_wtf8()))?;
@@ -107,27 +107,29 @@ fn a_name_has_a_stem_and_an_extension(rt: HostRuntime) -> Result<(), Wrong> {
 }
 
 /// Fails unless `parts` are the components of `PATH`.
-fn expect_components(alloc: Global, parts: &[Wtf8<'_>]) -> Result<(), Wrong> {
+fn expect_components(alloc: Global, parts: &[Wtf8<'_>]) -> Result<(), Failed> {
     let dumps = ["43 3A", "61", "62 ED B2 A9 2E 74 61 72 2E 67 7A"];
     if parts.len() != dumps.len() {
-        return Err(Wrong::Outcome);
+        return Err(Failed::by(Wrong::Outcome));
     }
+    let mut row = 0usize;
     for (part, dump) in parts.iter().zip(dumps) {
-        expect_bytes(alloc, *part, dump)?;
+        in_row(row, expect_bytes(alloc, *part, dump))?;
+        row = row.wrapping_add(1);
     }
     Ok(())
 }
 
 /// Fails unless the folder of a path is that of `PATH`.
-fn expect_parent(alloc: Global, path: Wtf8<'_>) -> Result<(), Wrong> {
+fn expect_parent(alloc: Global, path: Wtf8<'_>) -> Result<(), Failed> {
     match file_names::parent(path) {
         Some(folder) => expect_bytes(alloc, folder, "43 3A 5C 61"),
-        None => Err(Wrong::Outcome),
+        None => Err(Failed::by(Wrong::Outcome)),
     }
 }
 
 #[test]
-fn a_path_has_components(rt: HostRuntime) -> Result<(), Wrong> {
+fn a_path_has_components(rt: HostRuntime) -> Result<(), Failed> {
     let path = string_of(rt.alloc(), &PATH)?;
     let parts = made(file_names::components(rt.alloc(), path.as_wtf8()))?;
     expect_components(rt.alloc(), &parts)?;
@@ -135,7 +137,7 @@ fn a_path_has_components(rt: HostRuntime) -> Result<(), Wrong> {
 }
 
 #[test]
-fn a_path_has_one_component_more_than_separators(rt: HostRuntime) -> Result<(), Wrong> {
+fn a_path_has_one_component_more_than_separators(rt: HostRuntime) -> Result<(), Failed> {
     for (path, count) in [("/", 2), ("", 1)] {
         let parts = made(file_names::components(rt.alloc(), Wtf8::from_str(path)))?;
         expect(parts.len() == count, Wrong::Outcome)?;
@@ -143,50 +145,102 @@ fn a_path_has_one_component_more_than_separators(rt: HostRuntime) -> Result<(), 
     Ok(())
 }
 
-/// A folder, a name, the path of both, its suffix without the dot, another path, and whether the first one is relative
-/// to it: the results of `/`, `suffix` and `is_relative_to` of CPython's `PureWindowsPath`.
-type WindowsPath = (
-    &'static str,
-    &'static str,
-    &'static str,
-    Option<&'static str>,
-    &'static str,
-    bool,
-);
+/// The results of `/`, `suffix` and `is_relative_to` of CPython's `PureWindowsPath`.
+#[derive(Clone, Copy)]
+struct WindowsPath {
+    folder: &'static str,
+    name: &'static str,
+    /// The path of both.
+    whole: &'static str,
+    /// Its suffix without the dot.
+    extension: Option<&'static str>,
+    /// Another path, and whether the first one is relative to it.
+    front: &'static str,
+    is_relative: bool,
+}
 
 fn windows_paths() -> [WindowsPath; 10] {
     [
-        (
-            "C:\\a",
-            "b.tar.gz",
-            "C:\\a\\b.tar.gz",
-            Some("gz"),
-            "C:/a",
-            true,
-        ),
-        ("C:\\", "b", "C:\\b", None, "C:\\c", false),
-        ("a\\", "b.c d", "a\\b.c d", Some("c d"), "a", true),
-        ("a", "bc", "a\\bc", None, "a/b", false),
-        (
-            "\\\\server\\share",
-            "..a",
-            "\\\\server\\share\\..a",
-            Some("a"),
-            "\\\\server\\share\\..a",
-            true,
-        ),
-        ("💩", "é.💩", "💩\\é.💩", Some("💩"), "💩/é", false),
-        ("a\\b", "c", "a\\b\\c", None, "a\\b\\c\\d", false),
-        ("a\\b", "c", "a\\b\\c", None, "b", false),
-        ("a\\b\\", "c.d", "a\\b\\c.d", Some("d"), "a/b/c.d", true),
-        (
-            "C:\\Program Files",
-            "x",
-            "C:\\Program Files\\x",
-            None,
-            "C:/Program Files",
-            true,
-        ),
+        WindowsPath {
+            folder: "C:\\a",
+            name: "b.tar.gz",
+            whole: "C:\\a\\b.tar.gz",
+            extension: Some("gz"),
+            front: "C:/a",
+            is_relative: true,
+        },
+        WindowsPath {
+            folder: "C:\\",
+            name: "b",
+            whole: "C:\\b",
+            extension: None,
+            front: "C:\\c",
+            is_relative: false,
+        },
+        WindowsPath {
+            folder: "a\\",
+            name: "b.c d",
+            whole: "a\\b.c d",
+            extension: Some("c d"),
+            front: "a",
+            is_relative: true,
+        },
+        WindowsPath {
+            folder: "a",
+            name: "bc",
+            whole: "a\\bc",
+            extension: None,
+            front: "a/b",
+            is_relative: false,
+        },
+        WindowsPath {
+            folder: "\\\\server\\share",
+            name: "..a",
+            whole: "\\\\server\\share\\..a",
+            extension: Some("a"),
+            front: "\\\\server\\share\\..a",
+            is_relative: true,
+        },
+        WindowsPath {
+            folder: "💩",
+            name: "é.💩",
+            whole: "💩\\é.💩",
+            extension: Some("💩"),
+            front: "💩/é",
+            is_relative: false,
+        },
+        WindowsPath {
+            folder: "a\\b",
+            name: "c",
+            whole: "a\\b\\c",
+            extension: None,
+            front: "a\\b\\c\\d",
+            is_relative: false,
+        },
+        WindowsPath {
+            folder: "a\\b",
+            name: "c",
+            whole: "a\\b\\c",
+            extension: None,
+            front: "b",
+            is_relative: false,
+        },
+        WindowsPath {
+            folder: "a\\b\\",
+            name: "c.d",
+            whole: "a\\b\\c.d",
+            extension: Some("d"),
+            front: "a/b/c.d",
+            is_relative: true,
+        },
+        WindowsPath {
+            folder: "C:\\Program Files",
+            name: "x",
+            whole: "C:\\Program Files\\x",
+            extension: None,
+            front: "C:/Program Files",
+            is_relative: true,
+        },
     ]
 }
 
@@ -198,7 +252,14 @@ fn is_extension(name: &str, extension: Option<&str>) -> bool {
 
 /// Whether the path of a row's folder and name, its extension and its relation to the other path are as the row tells.
 fn is_windows_path(alloc: Global, row: WindowsPath) -> Result<bool, AllocError> {
-    let (folder, name, whole, extension, front, is_relative) = row;
+    let WindowsPath {
+        folder,
+        name,
+        whole,
+        extension,
+        front,
+        is_relative,
+    } = row;
     let path = file_names::join_once(alloc, Wtf8::from_str(folder), Wtf8::from_str(name))?;
     let is_front = file_names::begins_with(path.as_wtf8(), Wtf8::from_str(front));
     let is_whole = path.as_wtf8().as_str() == Some(whole);
@@ -206,10 +267,12 @@ fn is_windows_path(alloc: Global, row: WindowsPath) -> Result<bool, AllocError> 
 }
 
 #[test]
-fn paths_are_those_of_windows(rt: HostRuntime) -> Result<(), Wrong> {
+fn paths_are_those_of_windows(rt: HostRuntime) -> Result<(), Failed> {
+    let mut index = 0usize;
     for row in windows_paths() {
         let is_right = made(is_windows_path(rt.alloc(), row))?;
-        expect(is_right, Wrong::Outcome)?;
+        in_row(index, expect(is_right, Wrong::Outcome))?;
+        index = index.wrapping_add(1);
     }
     Ok(())
 }
@@ -225,10 +288,12 @@ fn ended_rows() -> [(&'static [u16], &'static str); 4] {
 }
 
 #[test]
-fn a_name_ends_at_a_zero(rt: HostRuntime) -> Result<(), Wrong> {
+fn a_name_ends_at_a_zero(rt: HostRuntime) -> Result<(), Failed> {
+    let mut row = 0usize;
     for (units, dump) in ended_rows() {
         let name = file_names::before_zero(rt.alloc(), units);
-        expect_made(rt.alloc(), name, dump)?;
+        in_row(row, expect_made(rt.alloc(), name, dump))?;
+        row = row.wrapping_add(1);
     }
     Ok(())
 }

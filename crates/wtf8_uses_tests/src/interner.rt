@@ -2,11 +2,11 @@
 use crate::shared::{LEAD, string_of};
 use std::alloc::Global;
 use wtf8::Wtf8;
-use wtf8_tests::wrong::{Wrong, expect, expect_bytes, made};
+use wtf8_tests::wrong::{Failed, Wrong, expect, expect_bytes, in_row, made};
 use wtf8_uses::interner::Interner;
 
 /// Fails unless the interner returns `number` for `string`.
-fn expect_number(interner: &mut Interner, string: Wtf8<'_>, number: usize) -> Result<(), Wrong> {
+fn expect_number(interner: &mut Interner, string: Wtf8<'_>, number: usize) -> Result<(), Failed> {
     let found = made(interner.number(string))?;
     expect(found == number, Wrong::Outcome)
 }
@@ -17,28 +17,29 @@ fn expect_string(
     interner: &Interner,
     number: usize,
     dump: Option<&str>,
-) -> Result<(), Wrong> {
+) -> Result<(), Failed> {
     match (interner.string(number), dump) {
         (Some(string), Some(dump)) => expect_bytes(alloc, string, dump),
         (None, None) => Ok(()),
-        _ => Err(Wrong::Outcome),
+        _ => Err(Failed::by(Wrong::Outcome)),
     }
 }
 
 /// Fails unless the interner returns 0 for `first`, the next number for each other string, and these numbers again.
 /// "Aa" and "BB" have the same hash.
-fn expect_numbers(interner: &mut Interner, first: Wtf8<'_>) -> Result<(), Wrong> {
+fn expect_numbers(interner: &mut Interner, first: Wtf8<'_>) -> Result<(), Failed> {
     for _ in 0..2 {
         expect_number(interner, first, 0)?;
         for (text, number) in [("", 1), ("Aa", 2), ("BB", 3)] {
-            expect_number(interner, Wtf8::from_str(text), number)?;
+            let outcome = expect_number(interner, Wtf8::from_str(text), number);
+            in_row(number, outcome)?;
         }
     }
     expect(interner.len() == 4, Wrong::Outcome)
 }
 
 #[test]
-fn a_string_keeps_its_number(rt: HostRuntime) -> Result<(), Wrong> {
+fn a_string_keeps_its_number(rt: HostRuntime) -> Result<(), Failed> {
     let mut interner = Interner::new(rt.alloc());
     let first = string_of(rt.alloc(), &[LEAD])?;
     expect_numbers(&mut interner, first.as_wtf8())?;
@@ -50,7 +51,7 @@ fn a_string_keeps_its_number(rt: HostRuntime) -> Result<(), Wrong> {
         None,
     ];
     for (number, dump) in dumps.into_iter().enumerate() {
-        expect_string(rt.alloc(), &interner, number, dump)?;
+        in_row(number, expect_string(rt.alloc(), &interner, number, dump))?;
     }
     Ok(())
 }

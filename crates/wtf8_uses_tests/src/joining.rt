@@ -2,11 +2,11 @@
 use crate::shared::{LEAD, PAIR_DUMP, TRAIL, expect_made};
 use std::alloc::Global;
 use wtf8::Wtf8;
-use wtf8_tests::wrong::{Wrong, expect, expect_bytes, made};
+use wtf8_tests::wrong::{Failed, Wrong, expect, expect_bytes, in_row, made};
 use wtf8_uses::{joining, paths};
 
 #[test]
-fn lists_are_joined(rt: HostRuntime) -> Result<(), Wrong> {
+fn lists_are_joined(rt: HostRuntime) -> Result<(), Failed> {
     let alloc = rt.alloc();
     expect_made(alloc, joining::joined(alloc, &[LEAD], &[TRAIL]), PAIR_DUMP)?;
     expect_made(
@@ -22,30 +22,32 @@ fn lists_are_joined(rt: HostRuntime) -> Result<(), Wrong> {
 }
 
 #[test]
-fn a_part_has_its_length_in_bytes(rt: HostRuntime) -> Result<(), Wrong> {
+fn a_part_has_its_length_in_bytes(rt: HostRuntime) -> Result<(), Failed> {
     let text = Wtf8::from_str("é/💩");
     if !text.is_code_point_boundary(2) || !text.is_code_point_boundary(3) {
-        return Err(Wrong::Row);
+        return Err(Failed::by(Wrong::Row));
     }
     expect_bytes(rt.alloc(), joining::part_of_len(text, 2, 1), "2F")
 }
 
 #[test]
-fn the_part_after_an_ascii_byte_is_whole(rt: HostRuntime) -> Result<(), Wrong> {
+fn the_part_after_an_ascii_byte_is_whole(rt: HostRuntime) -> Result<(), Failed> {
     let part = joining::after_ascii_byte(Wtf8::from_str("é/💩"), 2);
     expect_bytes(rt.alloc(), part, PAIR_DUMP)
 }
 
 /// Fails unless the path, cut at its first slash and joined, is unchanged.
-fn expect_kept(alloc: Global, path: Wtf8<'_>) -> Result<(), Wrong> {
+fn expect_kept(alloc: Global, path: Wtf8<'_>) -> Result<(), Failed> {
     let whole = made(joining::cut_at_slash_and_joined(alloc, path))?;
     expect(whole.as_wtf8() == path, Wrong::Outcome)
 }
 
 #[test]
-fn a_path_is_cut_and_joined(rt: HostRuntime) -> Result<(), Wrong> {
+fn a_path_is_cut_and_joined(rt: HostRuntime) -> Result<(), Failed> {
+    let mut row = 0usize;
     for path in ["a/b/c", "/", "", "no slash", "é/💩"] {
-        expect_kept(rt.alloc(), Wtf8::from_str(path))?;
+        in_row(row, expect_kept(rt.alloc(), Wtf8::from_str(path)))?;
+        row = row.wrapping_add(1);
     }
     Ok(())
 }

@@ -4,7 +4,7 @@ use crate::shared::{LEAD, TRAIL, has_units, string_of};
 use refusing::Refusing;
 use std::alloc::{Allocator, Global};
 use wtf8::Wtf8;
-use wtf8_tests::wrong::{Wrong, expect};
+use wtf8_tests::wrong::{Failed, Wrong, expect};
 use wtf8_uses::json_reader::{JsonCause, JsonError, read_json_string};
 
 /// A text, the units of the JSON string at its front, and the text after it.
@@ -96,7 +96,7 @@ fn is_refused(alloc: Global, text: &str, position: usize, cause: JsonCause) -> b
 }
 
 #[test]
-fn strings_are_read_as_an_engine_does(rt: HostRuntime) -> Result<(), Wrong> {
+fn strings_are_read_as_an_engine_does(rt: HostRuntime) -> Result<(), Failed> {
     for (text, units, rest) in strings() {
         assert!(rt;
             is_read(rt.alloc(), Wtf8::from_str(text), units, rest),

@@ -2,16 +2,16 @@
 use crate::shared::{LEAD, TRAIL, expect_made, string_of};
 use std::alloc::Global;
 use wtf8::{Wtf8, Wtf8Buf};
-use wtf8_tests::wrong::{Wrong, expect_bytes, made};
+use wtf8_tests::wrong::{Failed, Wrong, expect_bytes, made};
 use wtf8_uses::points;
 
 const WHOLE: &str = "ED B2 A9 F0 9F 92 A9 41 ED A0 BD";
 
 /// Fails unless a text has four code points, one of them supplementary.
-fn expect_counts(text: Wtf8<'_>) -> Result<(), Wrong> {
+fn expect_counts(text: Wtf8<'_>) -> Result<(), Failed> {
     match (points::point_count(text), points::supplementary_count(text)) {
         (4, 1) => Ok(()),
-        _ => Err(Wrong::Outcome),
+        _ => Err(Failed::by(Wrong::Outcome)),
     }
 }
 
@@ -21,43 +21,43 @@ fn expect_common(
     text: Wtf8<'_>,
     front: &mut Wtf8Buf<Global>,
     back: Wtf8<'_>,
-) -> Result<(), Wrong> {
+) -> Result<(), Failed> {
     let with_front = points::common_points(text, front.as_wtf8());
     let with_back = points::common_points(text, back);
     made(points::push_points(front, back))?;
     let with_both = points::common_points(front.as_wtf8(), text);
     match (with_front, with_back, with_both) {
         (2, 0, 4) => expect_bytes(alloc, front.as_wtf8(), WHOLE),
-        _ => Err(Wrong::Outcome),
+        _ => Err(Failed::by(Wrong::Outcome)),
     }
 }
 
 /// Fails unless the points of a text after its first two are the expected ones, none is supplementary, and both parts
 /// join to the text again.
-fn expect_back(alloc: Global, text: Wtf8<'_>, front: &mut Wtf8Buf<Global>) -> Result<(), Wrong> {
+fn expect_back(alloc: Global, text: Wtf8<'_>, front: &mut Wtf8Buf<Global>) -> Result<(), Failed> {
     let back = made(points::points_after(alloc, text, 2))?;
     expect_bytes(alloc, back.as_wtf8(), "41 ED A0 BD")?;
     if points::supplementary_count(back.as_wtf8()) != 0 {
-        return Err(Wrong::Outcome);
+        return Err(Failed::by(Wrong::Outcome));
     }
     expect_common(alloc, text, front, back.as_wtf8())
 }
 
 /// Fails unless a text splits into its first two code points and the rest, and these join to the text again.
-fn expect_halves(alloc: Global, text: Wtf8<'_>) -> Result<(), Wrong> {
+fn expect_halves(alloc: Global, text: Wtf8<'_>) -> Result<(), Failed> {
     let mut front = made(points::first_points(alloc, text, 2))?;
     expect_bytes(alloc, front.as_wtf8(), "ED B2 A9 F0 9F 92 A9")?;
     expect_back(alloc, text, &mut front)
 }
 
 /// Fails unless both copies of a text by its code points have the bytes of `WHOLE`.
-fn expect_copies(alloc: Global, text: Wtf8<'_>) -> Result<(), Wrong> {
+fn expect_copies(alloc: Global, text: Wtf8<'_>) -> Result<(), Failed> {
     expect_made(alloc, points::copy_by_points(alloc, text), WHOLE)?;
     expect_made(alloc, points::collect_points(alloc, text), WHOLE)
 }
 
 #[test]
-fn a_string_is_copied_by_its_code_points(rt: HostRuntime) -> Result<(), Wrong> {
+fn a_string_is_copied_by_its_code_points(rt: HostRuntime) -> Result<(), Failed> {
     let text = string_of(rt.alloc(), &[TRAIL, LEAD, TRAIL, 0x0041, LEAD])?;
     expect_copies(rt.alloc(), text.as_wtf8())?;
     expect_counts(text.as_wtf8())?;

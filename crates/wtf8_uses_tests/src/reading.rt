@@ -3,7 +3,7 @@ use std::alloc::{Allocator, Global};
 use std::io;
 use std::io::{ErrorKind, Read};
 use wtf8::Wtf8Buf;
-use wtf8_tests::wrong::{Wrong, expect, expect_bytes};
+use wtf8_tests::wrong::{Failed, Wrong, expect, expect_bytes, in_row};
 use wtf8_uses::reading::{ReadError, read_utf16};
 
 /// Returns at most `most` bytes a read. Fails once, when at most `failing` bytes are left; later reads succeed.
@@ -47,7 +47,7 @@ fn expect_told<A: Allocator>(
     alloc: Global,
     returned: Result<Wtf8Buf<A>, ReadError>,
     expected: &str,
-) -> Result<(), Wrong> {
+) -> Result<(), Failed> {
     match returned {
         Ok(string) => expect_bytes(alloc, string.as_wtf8(), expected),
         Err(error) => expect(name_of(error) == expected, Wrong::Outcome),
@@ -73,7 +73,7 @@ fn expect_read(
     most: usize,
     calls: usize,
     expected: &str,
-) -> Result<(), Wrong> {
+) -> Result<(), Failed> {
     let mut reader = Pieces {
         rest: bytes,
         most,
@@ -86,13 +86,15 @@ fn expect_read(
 }
 
 #[test]
-fn pieces_of_any_size_are_one_input(rt: HostRuntime) -> Result<(), Wrong> {
+fn pieces_of_any_size_are_one_input(rt: HostRuntime) -> Result<(), Failed> {
+    let mut row = 0usize;
     for (bytes, expected) in rows() {
         for most in 1..8 {
             // One call for each piece, one for the interruption and one for the end.
             let calls = bytes.len().div_ceil(most).wrapping_add(2);
-            expect_read(rt.alloc(), bytes, most, calls, expected)?;
+            in_row(row, expect_read(rt.alloc(), bytes, most, calls, expected))?;
         }
+        row = row.wrapping_add(1);
     }
     Ok(())
 }
@@ -128,7 +130,7 @@ fn expect_handed_on(
     error: io::Error,
     number: Option<i32>,
     row: (usize, u32, &str),
-) -> Result<(), Wrong> {
+) -> Result<(), Failed> {
     let (failing, calls, left) = row;
     let mut reader = Pieces {
         rest: b"\x61\x00\x62\x00\x63\x00",
@@ -140,21 +142,27 @@ fn expect_handed_on(
     let is_handed_on = is_handed_on(alloc, &mut reader, error, number);
     // The reader was not called after the error, and the bytes that were not read are still there.
     if !is_handed_on || reader.calls != calls {
-        return Err(Wrong::Outcome);
+        return Err(Failed::by(Wrong::Outcome));
     }
     expect_told(alloc, read_utf16(alloc, &mut reader), left)
 }
 
 /// Fails unless the error is returned in each of `failing_rows`.
-fn expect_all_handed_on(alloc: Global, error: io::Error, number: Option<i32>) -> Result<(), Wrong> {
+fn expect_all_handed_on(
+    alloc: Global,
+    error: io::Error,
+    number: Option<i32>,
+) -> Result<(), Failed> {
+    let mut index = 0usize;
     for row in failing_rows() {
-        expect_handed_on(alloc, error, number, row)?;
+        in_row(index, expect_handed_on(alloc, error, number, row))?;
+        index = index.wrapping_add(1);
     }
     Ok(())
 }
 
 #[test]
-fn an_error_is_handed_on(rt: HostRuntime) -> Result<(), Wrong> {
+fn an_error_is_handed_on(rt: HostRuntime) -> Result<(), Failed> {
     for kind in [
         ErrorKind::BrokenPipe,
         ErrorKind::WouldBlock,

@@ -1,7 +1,7 @@
 // Strings and checks that several test modules use.
 use std::alloc::{AllocError, Global};
 use wtf8::{Wtf8, Wtf8Buf};
-use wtf8_tests::wrong::{Wrong, expect_bytes, made};
+use wtf8_tests::wrong::{Failed, expect_bytes, made};
 
 /// The code units of U+1F4A9; `PAIR_DUMP` is its bytes.
 pub const LEAD: u16 = 0xD83D;
@@ -11,7 +11,7 @@ pub const TRAIL: u16 = 0xDCA9;
 pub const PAIR_DUMP: &str = "F0 9F 92 A9";
 
 /// The string of these units.
-pub fn string_of(alloc: Global, units: &[u16]) -> Result<Wtf8Buf<Global>, Wrong> {
+pub fn string_of(alloc: Global, units: &[u16]) -> Result<Wtf8Buf<Global>, Failed> {
     made(Wtf8Buf::from_ill_formed_utf16(alloc, units))
 }
 
@@ -20,7 +20,7 @@ pub fn expect_made(
     alloc: Global,
     returned: Result<Wtf8Buf<Global>, AllocError>,
     dump: &str,
-) -> Result<(), Wrong> {
+) -> Result<(), Failed> {
     let string = made(returned)?;
     expect_bytes(alloc, string.as_wtf8(), dump)
 }

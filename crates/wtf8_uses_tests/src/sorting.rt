@@ -7,7 +7,7 @@ use std::alloc::{AllocError, Global};
 use std::collections::HashMap;
 use std::hash::{BuildHasherDefault, FoldHasher};
 use wtf8::{Wtf8, Wtf8Buf};
-use wtf8_tests::wrong::{Wrong, expect, expect_bytes, made};
+use wtf8_tests::wrong::{Failed, Wrong, expect, expect_bytes, in_row, made};
 use wtf8_uses::{joining, maps, sorting, table};
 
 /// The bytes of U+E000 and U+10000, in code point order. By code units the order is the other way round.
@@ -27,16 +27,18 @@ fn sorted_views<'a>(
 }
 
 /// Fails unless the two views, sorted, have the bytes of `IN_ORDER`.
-fn expect_sorted(alloc: Global, first: Wtf8<'_>, second: Wtf8<'_>) -> Result<(), Wrong> {
+fn expect_sorted(alloc: Global, first: Wtf8<'_>, second: Wtf8<'_>) -> Result<(), Failed> {
     let views = made(sorted_views(alloc, first, second))?;
+    let mut row = 0usize;
     for (view, dump) in views.iter().zip(IN_ORDER) {
-        expect_bytes(alloc, *view, dump)?;
+        in_row(row, expect_bytes(alloc, *view, dump))?;
+        row = row.wrapping_add(1);
     }
     Ok(())
 }
 
 #[test]
-fn views_are_sorted(rt: HostRuntime) -> Result<(), Wrong> {
+fn views_are_sorted(rt: HostRuntime) -> Result<(), Failed> {
     let first = string_of(rt.alloc(), &[0xD800, 0xDC00])?;
     let second = string_of(rt.alloc(), &[0xE000])?;
     expect_sorted(rt.alloc(), first.as_wtf8(), second.as_wtf8())
@@ -64,9 +66,11 @@ fn sorted(alloc: Global) -> Result<Vec<Wtf8Buf<Global>>, AllocError>
 }
 
 /// Fails unless the strings have the bytes of `IN_ORDER`.
-fn expect_strings(alloc: Global, strings: &[Wtf8Buf<Global>]) -> Result<(), Wrong> {
+fn expect_strings(alloc: Global, strings: &[Wtf8Buf<Global>]) -> Result<(), Failed> {
+    let mut row = 0usize;
     for (string, dump) in strings.iter().zip(IN_ORDER) {
-        expect_bytes(alloc, string.as_wtf8(), dump)?;
+        in_row(row, expect_bytes(alloc, string.as_wtf8(), dump))?;
+        row = row.wrapping_add(1);
     }
     Ok(())
 }
@@ -77,7 +81,7 @@ fn expect_index(
     table: &[Wtf8Buf<Global>],
     units: &[u16],
     index: Result<usize, usize>,
-) -> Result<(), Wrong>
+) -> Result<(), Failed>
     requires { AreInPointOrder table.now }
 {
     let string = string_of(alloc, units)?;
@@ -87,7 +91,7 @@ fn expect_index(
 }
 
 /// Fails unless the strings of U+10000, U+F000 and U+0061 are found in the sorted table, or the index to insert them at.
-fn expect_found(alloc: Global, table: &[Wtf8Buf<Global>]) -> Result<(), Wrong>
+fn expect_found(alloc: Global, table: &[Wtf8Buf<Global>]) -> Result<(), Failed>
     requires { AreInPointOrder table.now }
 {
     expect_index(alloc, table, &[0xD800, 0xDC00], Ok(1))?;
@@ -97,10 +101,10 @@ fn expect_found(alloc: Global, table: &[Wtf8Buf<Global>]) -> Result<(), Wrong>
 }
 
 #[test]
-fn strings_are_sorted_and_found(rt: HostRuntime) -> Result<(), Wrong> {
+fn strings_are_sorted_and_found(rt: HostRuntime) -> Result<(), Failed> {
     match sorted(rt.alloc()) {
         Ok(strings) => expect_found(rt.alloc(), strings.as_slice()),
-        Err(_) => Err(Wrong::Memory),
+        Err(_) => Err(Failed::by(Wrong::Memory)),
     }
 }
 
@@ -124,7 +128,7 @@ fn are_texts(strings: &[Wtf8Buf<Global>], texts: &[&str]) -> bool {
 }
 
 #[test]
-fn repeated_strings_are_dropped(rt: HostRuntime) -> Result<(), Wrong> {
+fn repeated_strings_are_dropped(rt: HostRuntime) -> Result<(), Failed> {
     let mut strings = made(strings_of(rt.alloc(), &["b", "b", "a", "", "", "", "b"]))?;
     sorting::drop_repeated(&mut strings);
     expect(are_texts(&strings, &["b", "a", "", "b"]), Wrong::Bytes)
@@ -139,7 +143,7 @@ fn is_found(alloc: Global, same: &Wtf8Buf<Global>) -> Result<bool, AllocError> {
 }
 
 #[test]
-fn a_map_finds_equal_strings(rt: HostRuntime) -> Result<(), Wrong> {
+fn a_map_finds_equal_strings(rt: HostRuntime) -> Result<(), Failed> {
     let same = made(Wtf8Buf::from_str(rt.alloc(), "💩"))?;
     let hashers: BuildHasherDefault<FoldHasher> = BuildHasherDefault::new();
     let is_alike = maps::hashes_agree(&hashers, &same, Wtf8::from_str("💩"));

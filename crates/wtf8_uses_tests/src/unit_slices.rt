@@ -4,20 +4,20 @@ use std::alloc::Global;
 use wtf8::Wtf8;
 use wtf8_tests::examples::joining;
 use wtf8_tests::unit_lists::lists;
-use wtf8_tests::wrong::{Wrong, expect, made};
+use wtf8_tests::wrong::{Failed, Wrong, expect, in_row, made};
 use wtf8_uses::unit_slices::cut_at_units_and_joined;
 
 /// Fails unless the text, truncated to `n` units and joined with the rest, is whole again.
-fn expect_whole(alloc: Global, text: Wtf8<'_>, n: usize) -> Result<(), Wrong> {
+fn expect_whole(alloc: Global, text: Wtf8<'_>, n: usize) -> Result<(), Failed> {
     if n > text.unit_len() {
-        return Err(Wrong::Row);
+        return Err(Failed::by(Wrong::Row));
     }
     let whole = made(cut_at_units_and_joined(alloc, text, n))?;
     expect(whole.as_wtf8() == text, Wrong::Outcome)
 }
 
 /// Fails unless the string of `units`, cut at each number of units and joined, is whole again.
-fn cut_everywhere(alloc: Global, units: &[u16]) -> Result<(), Wrong> {
+fn cut_everywhere(alloc: Global, units: &[u16]) -> Result<(), Failed> {
     let text = string_of(alloc, units)?;
     for n in 0..=units.len() {
         expect_whole(alloc, text.as_wtf8(), n)?;
@@ -26,12 +26,15 @@ fn cut_everywhere(alloc: Global, units: &[u16]) -> Result<(), Wrong> {
 }
 
 #[test]
-fn a_string_cut_at_any_index_and_joined_is_equal(rt: HostRuntime) -> Result<(), Wrong> {
+fn a_string_cut_at_any_index_and_joined_is_equal(rt: HostRuntime) -> Result<(), Failed> {
+    let mut row = 0usize;
     for (units, _, _) in joining() {
-        cut_everywhere(rt.alloc(), units)?;
+        in_row(row, cut_everywhere(rt.alloc(), units))?;
+        row = row.wrapping_add(1);
     }
     for units in lists() {
-        cut_everywhere(rt.alloc(), units)?;
+        in_row(row, cut_everywhere(rt.alloc(), units))?;
+        row = row.wrapping_add(1);
     }
     Ok(())
 }

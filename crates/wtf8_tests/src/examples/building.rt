@@ -1,13 +1,13 @@
 // Strings built by single pushes.
-use crate::wrong::Wrong;
+use crate::wrong::{Failed, Wrong};
 use std::alloc::{AllocError, Allocator, Global};
 use wtf8::{CodePoint, Wtf8Buf};
 
 /// The code point with the value `number`, if there is one.
-pub fn point_of_number(number: u32) -> Result<CodePoint, Wrong> {
+pub fn point_of_number(number: u32) -> Result<CodePoint, Failed> {
     match CodePoint::from_u32(number) {
         Some(point) => Ok(point),
-        None => Err(Wrong::Row),
+        None => Err(Failed::by(Wrong::Row)),
     }
 }
 
@@ -30,7 +30,7 @@ pub fn joined<A: Allocator>(alloc: A, units: &[u16]) -> Result<Wtf8Buf<A>, Alloc
 }
 
 /// The string that pushing the code points `numbers` one by one builds.
-pub fn pushed<A: Allocator>(alloc: A, numbers: &[u32]) -> Result<Wtf8Buf<A>, Wrong> {
+pub fn pushed<A: Allocator>(alloc: A, numbers: &[u32]) -> Result<Wtf8Buf<A>, Failed> {
     let mut text = Wtf8Buf::new(alloc);
     for number in numbers {
         text.push(point_of_number(*number)?)?;

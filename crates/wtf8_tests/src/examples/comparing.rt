@@ -1,10 +1,10 @@
 // Checks of strings that were made, and of their code units or code points.
-use crate::wrong::{Wrong, expect, expect_bytes};
+use crate::wrong::{Failed, Wrong, expect, expect_bytes};
 use std::alloc::{AllocError, Allocator, Global};
 use wtf8::{Wtf8, Wtf8Buf};
 
 /// Fails unless the string has the code units `expected`.
-pub fn expect_units(alloc: Global, text: Wtf8<'_>, expected: &[u16]) -> Result<(), Wrong> {
+pub fn expect_units(alloc: Global, text: Wtf8<'_>, expected: &[u16]) -> Result<(), Failed> {
     let found: Vec<u16> = text.to_ill_formed_utf16().collect(alloc)?;
     expect(found.as_slice() == expected, Wrong::Units)
 }
@@ -24,7 +24,7 @@ pub fn has_numbers(text: Wtf8<'_>, expected: &[u32]) -> bool {
 }
 
 /// Fails unless `found` is true.
-pub fn expect_true(found: Result<bool, AllocError>) -> Result<(), Wrong> {
+pub fn expect_true(found: Result<bool, AllocError>) -> Result<(), Failed> {
     expect(found?, Wrong::Outcome)
 }
 
@@ -33,6 +33,6 @@ pub fn expect_made<A: Allocator + Drop>(
     alloc: Global,
     made: Result<Wtf8Buf<A>, AllocError>,
     dump: &str,
-) -> Result<(), Wrong> {
+) -> Result<(), Failed> {
     expect_bytes(alloc, made?.as_wtf8(), dump)
 }

@@ -1,6 +1,6 @@
 use Rattle.std.proofs.Common.{◌-◌, ◌^◌, vec_len}
 use Rattle.std.specs.Io.KnownBytes.{Consumes}
-use Rattle.dump_lines.proofs.session.read_input.Given as goal
+use Rattle.dump_lines.proofs.session.read_pieces.Given as goal
 
 -- `input` is what was read so far
 abbrev pub invariant-loop-count : goal.invariant-loop-count
