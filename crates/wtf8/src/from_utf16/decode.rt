@@ -14,8 +14,8 @@ use std::iter::Ahead;
 
 /// Decodes the units that an iterator yields: each item is `Ok` of a `char` or `Err` of a lone surrogate.
 ///
-/// A lead and the trail directly after it are one `char`, and so is a unit that is not a surrogate. For the last units of
-/// a list, fewer than a block takes.
+/// A lead and the trail directly after it are one `char`, and so is a unit that is not a surrogate. For the last units
+/// of a list, fewer than a block takes.
 pub(crate) fn decode_utf16<I: Iterator<Item = u16>>(iter: I) -> DecodeUtf16<I>
     ensures source { peekable_source result.units ≡ iter }
     ensures peeked { peekable_peeked result.units ≡ None }
