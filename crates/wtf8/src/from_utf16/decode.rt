@@ -15,7 +15,8 @@ use std::iter::Ahead;
 
 /// Decodes the units that an iterator yields: each item is `Ok` of a `char` or `Err` of a lone surrogate.
 ///
-/// A lead and the trail directly after it are one `char`, and so is a unit that is not a surrogate.
+/// A lead and the trail directly after it are one `char`, and so is a unit that is not a surrogate. For the last units
+/// of a list, fewer than a block takes.
 pub(crate) fn decode_utf16<I: Iterator<Item = u16>>(iter: I) -> DecodeUtf16<I>
     ensures source { peekable_source result.units ≡ iter }
     ensures peeked { peekable_peeked result.units ≡ None }
@@ -88,7 +89,8 @@ impl<I: Iterator<Item = u16>> Iterator for DecodeUtf16<I> {
     }
 }
 
-/// The code point that begins at index `at`, the index after it, and whether it is a scalar value.
+/// The code point that begins at index `at`, the index after it, and whether it is a scalar value. For one code point
+/// between runs and blocks.
 #[inline(always)]
 pub(crate) fn read_point(v: &[u16], at: usize) -> (CodePoint, usize, bool)
     requires { at < length v.now }

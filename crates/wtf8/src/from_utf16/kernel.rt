@@ -10,10 +10,10 @@
 //
 //     f0 s0 l0 t0  f1 s1 l1 t1  f2 s2 l2 t2  f3 s3 l3 t3
 //
-// The last byte of a unit is 0x80 or more if the unit takes more than one byte. So the mask of the high bits of `lasts`,
-// with lane 0 as its lowest bit, has two bits for each unit: whether it takes more than one byte, and whether it takes
-// three. It is the index in `SHUFFLES` for units 0-3, plus 256 times that for units 4-7, and so on. A row is a shuffle
-// that packs the bytes to be written: 4, and one more for each set bit of its index.
+// The last byte of a unit is 0x80 or more if the unit takes more than one byte. So the mask of the high bits of
+// `lasts`, with lane 0 as its lowest bit, has two bits for each unit: whether it takes more than one byte, and whether
+// it takes three. It is the index in `SHUFFLES` for units 0-3, plus 256 times that for units 4-7, and so on. A row is a
+// shuffle that packs the bytes to be written: 4, and one more for each set bit of its index.
 #![tactic(auto)]
 
 ghost use Rattle.std.specs.Prelude.{◌≡◌, ◌⊎◌, ℕ, List, Bool, ◌&&◌, ◌+◌, ◌-◌, ◌*◌, ◌%◌, ◌/◌, ◌^◌, ◌<◌, ◌≤◌, ◌++◌, length, map, take, drop, replicate, slice_index_or, vec_capacity, IfOk, IsOk, IsTrue};
@@ -39,8 +39,8 @@ const QUARTER_BLOCK: usize = BLOCK_UNITS / 4;
 /// The least number of the last units, fewer than a block, that are encoded as one.
 pub(crate) const LAST_UNITS: usize = QUARTER_BLOCK;
 
-/// The bytes that must be left in the scratch buffer for a block: at most 12 for each of three quarters, then a store of
-/// 16.
+/// The bytes that must be left in the scratch buffer for a block: at most 12 for each of three quarters, then a store
+/// of 16.
 pub(crate) const MIN_SPARE: usize = 52;
 
 /// The most bytes of a block.
@@ -153,9 +153,9 @@ fn scalar_unit_bytes(units: u16x16) -> UnitBytes
 }
 
 /// The bytes of any block. The second and last bytes of a pair's lead are the first two of the pair's four bytes, those
-/// of its trail the other two, the first with bits of the lead too; their first ones, ED, are not used. All other units,
-/// lone surrogates too, have the bytes of scalar values. A lead in the last lane counts as a pair's: the next block
-/// encodes it.
+/// of its trail the other two, the first with bits of the lead too; their first ones, ED, are not used. All other
+/// units, lone surrogates too, have the bytes of scalar values. A lead in the last lane counts as a pair's: the next
+/// block encodes it.
 #[inline(always)]
 fn unit_bytes(units: u16x16) -> UnitBytes
     ensures bytes { AreUnitBytes (tagged_block units) result.heads result.lasts }
@@ -222,8 +222,8 @@ fn pack_block(units: u16x16, from: UnitBytes, scratch: &mut [u8], len: usize) ->
 }
 
 /// Encodes a block at index `len` of a scratch buffer, without its last unit if that is a lead. Units without a
-/// surrogate take the cheaper path. A third path, for lone surrogates without a pair, made letters dearer by 6% and pairs
-/// by 8%: all paths share registers and constants.
+/// surrogate take the cheaper path. A third path, for lone surrogates without a pair, made letters dearer by 6% and
+/// pairs by 8%: all paths share registers and constants.
 #[inline(always)]
 fn write_block(units: u16x16, scratch: &mut [u8], len: usize) -> Written
     requires room { len + MIN_SPARE ≤ length scratch.old }
@@ -287,9 +287,15 @@ fn padded(units: &[u16]) -> u16x16
     u16x16::from_array(block)
 }
 
+<<<<<<< HEAD
 /// Encodes units, fewer than a block, at index `len` of a scratch buffer: as a block with zeros after them. A lead before
 /// these is lone, and each of them takes one byte, a zero, which is left out. Returns the index after their bytes, and
 /// whether no unit is a lone surrogate.
+=======
+/// Encodes units, fewer than a block, at index `len` of a scratch buffer: as a block with zeros after them. A lead
+/// before these is lone, and each of them takes one byte, a zero, which is left out. Returns the index after their
+/// bytes, and whether no unit is a lone surrogate.
+>>>>>>> 04377bb3c7a9cee60b2d6528ca5b3af37a02e308
 #[inline(always)]
 fn write_last_block(units: &[u16], scratch: &mut [u8], len: usize) -> (usize, bool)
     requires least { LAST_UNITS ≤ length units.now }
@@ -304,8 +310,8 @@ fn write_last_block(units: &[u16], scratch: &mut [u8], len: usize) -> (usize, bo
 }
 
 /// Encodes units from index `at` on into a scratch buffer: the number of blocks that has units and room whatever the
-/// units are, so that no turn compares either, then `LAST_UNITS` or more that are left at the end. Returns the number of
-/// bytes, and how far units are encoded.
+/// units are, so that no turn compares either, then `LAST_UNITS` or more that are left at the end. Returns the number
+/// of bytes, and how far units are encoded.
 #[inline(always)]
 fn write_blocks(v: &[u16], at: usize, scratch: &mut [u8]) -> (usize, Progress)
     requires units { at + LAST_UNITS ≤ length v.now }

@@ -1,5 +1,6 @@
-// Encodes code units in steps, by what the next units are: an ASCII run of up to 32, 16, 8 or 4 units and the code point
-// after it, blocks of `kernel`, or one code point. `decode_utf16` decodes the last units, fewer than `LAST_UNITS`.
+// Encodes code units in steps, by what the next units are: an ASCII run of up to 32, 16, 8 or 4 units and the code
+// point after it, blocks of `kernel`, or one code point. `decode_utf16` decodes the last units, fewer than
+// `LAST_UNITS`.
 ghost use Rattle.std.specs.Prelude.{◌≡◌, ℕ, List, ◌++◌, ◌+◌, ◌^◌, ◌<◌, ◌≤◌, length, take, map, min, vec_capacity, IfOk, IsOk};
 ghost use Rattle.wtf8.specs.private.Prefixes.{IsKnownForm, IsReadTo, ReadsOn, HasRoomFrom};
 
@@ -32,8 +33,8 @@ const LONG_LIST: usize = 128;
 /// The size in bytes of the kernel's scratch buffer while `LONG_LIST` or more units are left: room for ten blocks.
 const LONG_SCRATCH_BYTES: usize = 512;
 
-/// The size in bytes of the kernel's scratch buffer while `LONG_RUN` or more units are left, and fewer than `LONG_LIST`:
-/// room for five blocks. No more are zeroed without a call of `memset`.
+/// The size in bytes of the kernel's scratch buffer while `LONG_RUN` or more units are left, and fewer than
+/// `LONG_LIST`: room for five blocks. No more are zeroed without a call of `memset`.
 const SCRATCH_BYTES: usize = 256;
 
 /// The size in bytes of the kernel's scratch buffer if fewer than `LONG_RUN` units are left: room for these. It is no
@@ -117,8 +118,8 @@ fn append_ascii_run<const N: usize, A: Allocator>(
     append_point(bytes, v, to)
 }
 
-/// Appends the bytes of the next units, `LONG_RUN` or more: an ASCII run of up to `LONG_RUN` and the code point after it,
-/// blocks through a scratch buffer of `SCRATCH` bytes, or one code point. Returns how far units are encoded.
+/// Appends the bytes of the next units, `LONG_RUN` or more: an ASCII run of up to `LONG_RUN` and the code point after
+/// it, blocks through a scratch buffer of `SCRATCH` bytes, or one code point. Returns how far units are encoded.
 #[inline(always)]
 fn append_next<const SCRATCH: usize, A: Allocator>(
     bytes: &mut Vec<u8, A>,
@@ -174,8 +175,8 @@ fn append_last<A: Allocator>(
     append_ascii_run::<MEDIUM_RUN, A>(bytes, v, from)
 }
 
-/// Appends the bytes of units from index `from.at` on, until fewer than `LAST_UNITS` are left. Returns how far units are
-/// encoded. With these loops in `append_utf16` itself, 40 units whose ends join take 1.4% more instructions.
+/// Appends the bytes of units from index `from.at` on, until fewer than `LAST_UNITS` are left. Returns how far units
+/// are encoded. With these loops in `append_utf16` itself, 40 units whose ends join take 1.4% more instructions.
 #[inline(always)]
 fn append_steps<A: Allocator>(
     bytes: &mut Vec<u8, A>,
