@@ -287,15 +287,9 @@ fn padded(units: &[u16]) -> u16x16
     u16x16::from_array(block)
 }
 
-<<<<<<< HEAD
-/// Encodes units, fewer than a block, at index `len` of a scratch buffer: as a block with zeros after them. A lead before
-/// these is lone, and each of them takes one byte, a zero, which is left out. Returns the index after their bytes, and
-/// whether no unit is a lone surrogate.
-=======
 /// Encodes units, fewer than a block, at index `len` of a scratch buffer: as a block with zeros after them. A lead
 /// before these is lone, and each of them takes one byte, a zero, which is left out. Returns the index after their
 /// bytes, and whether no unit is a lone surrogate.
->>>>>>> 04377bb3c7a9cee60b2d6528ca5b3af37a02e308
 #[inline(always)]
 fn write_last_block(units: &[u16], scratch: &mut [u8], len: usize) -> (usize, bool)
     requires least { LAST_UNITS ≤ length units.now }
