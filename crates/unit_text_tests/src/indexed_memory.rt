@@ -556,13 +556,15 @@ enum Make {
 }
 
 /// Calls that make a buffer, and the number of their requests. A buffer of six units of three bytes first has room for
-/// six bytes, and twice doubles that.
-fn makes() -> [(Make, u64); 5] {
+/// six bytes, then for the 18 of their block. One of 17 such units first has room for 17 bytes, then for the 48 of a
+/// block of sixteen, then for twice as many.
+fn makes() -> [(Make, u64); 6] {
     [
         (Make::Capacity(0), 0),
         (Make::Capacity(8), 1),
         (Make::Units(&[]), 0),
-        (Make::Units(&[0xE000; 6]), 3),
+        (Make::Units(&[0xE000; 6]), 2),
+        (Make::Units(&[0xE000; 17]), 3),
         (Make::Clone, 1),
     ]
 }

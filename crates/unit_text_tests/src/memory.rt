@@ -209,25 +209,32 @@ fn a_slice_asks_for_what_it_needs(rt: HostRuntime) -> Result<(), Failed> {
     Ok(())
 }
 
-/// Whether the text of `WIDE` can be made.
-fn is_made<A: Allocator>(alloc: A) -> bool {
-    UnitText::from_units(alloc, &WIDE).is_ok()
+fn is_made<A: Allocator>(alloc: A, units: &[u16]) -> bool {
+    UnitText::from_units(alloc, units).is_ok()
 }
 
-#[test]
-fn a_text_of_units_asks_for_what_it_needs(rt: HostRuntime) -> Result<(), Failed> {
-    let heap = Refusing::new(rt.alloc(), 9);
-    expect(is_made(&heap), Wrong::Outcome)?;
-    let is_asked = heap.requests() == 3 && heap.bytes() == 6 + 12 + 24;
+/// Fails unless a text of the units makes these requests, and is not made if one of them is refused.
+fn expect_made(heap: Lent<'_>, units: &[u16], requests: u64, bytes: usize) -> Result<(), Failed> {
+    heap.grant(9);
+    expect(is_made(heap, units), Wrong::Outcome)?;
+    let is_asked = heap.requests() == requests && heap.bytes() == bytes;
     expect(is_asked, Wrong::Requests)?;
     for refusal in REFUSALS {
-        for granted in 0..3 {
+        for granted in 0..requests {
             heap.refuse_after(granted, refusal);
-            expect(!is_made(&heap), Wrong::Outcome)?;
+            expect(!is_made(heap, units), Wrong::Outcome)?;
             expect(heap.requests() == granted.wrapping_add(1), Wrong::Requests)?;
         }
     }
     Ok(())
+}
+
+/// A byte for each unit is requested first, then what a block of up to sixteen needs, at least twice the capacity.
+#[test]
+fn a_text_of_units_asks_for_what_it_needs(rt: HostRuntime) -> Result<(), Failed> {
+    let heap = Refusing::new(rt.alloc(), 9);
+    expect_made(&heap, &WIDE, 2, 6 + 18)?;
+    expect_made(&heap, &[0xE000; 17], 3, 17 + 48 + 96)
 }
 
 fn hundred_trails() -> [u16; 100] {
