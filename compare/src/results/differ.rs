@@ -1,5 +1,5 @@
 //! Runs scripts on both sides and compares the transcripts: the lists of `lists.rs`, then random scripts of up to
-//! twenty calls, also at positions off boundaries and past the end; as many of the indexed string, mostly of some
+//! twenty calls, also at positions off boundaries and past the end; likewise of the indexed string, mostly of some
 //! hundred units, with marks and without, at indexes about multiples of 128 and the end; and random lists of up to 24
 //! building calls through `apply_all`, with memory refused from a random request on, against `model.rs`.
 
