@@ -137,7 +137,7 @@ pub fn law_fronts()
     ensures mark { BoundariesAreMarks }
 {}
 
-/// What `law_fronts` says of a code point boundary of this view, which is at most at its end. `within` needs no citation.
+/// What `law_fronts` says of a code point boundary of this view, which is at most its end. `within` needs no citation.
 pub fn law_boundary(view: Wtf8<'_>, position: usize)
     requires { IsBoundary (view_units view) position }
     ensures within { position ≤ length view.entry.bytes.now }
@@ -165,7 +165,7 @@ pub fn law_marks()
 /// The position of a mark of this view is a code point boundary: exactly the units that the mark counts are before it,
 /// and the others after it. A cut there divides no pair. Another mark of this view with the same number of units, as
 /// `mark_at` finds it for that number, is at the same position. `boundary`, `before`, `after` and `no_pair` need no
-/// citation; `front` and `back` are cited with their list of units, and `same`, `order` and `found` with the other mark.
+/// citation; `front` and `back` are cited with their units, and `same`, `order` and `found` with the other mark.
 pub fn law_mark(view: Wtf8<'_>, mark: UnitMark)
     requires { IsMarkOf view mark }
     ensures boundary { IsBoundary (view_units view.entry) mark.position }

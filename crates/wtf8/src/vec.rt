@@ -34,7 +34,6 @@ pub(crate) fn reserve_if_short<A: Allocator>(
     bytes.reserve(count)
 }
 
-/// Copies a slice to a new vector. An empty slice requests no memory.
 #[inline(always)]
 pub(crate) fn to_vec_in<A: Allocator>(alloc: A, bytes: &[u8]) -> Result<Vec<u8, A>, AllocError>
     ensures items { IfOk result (λ v. v.items ≡ bytes.now) }
@@ -71,8 +70,7 @@ fn push_short<A: Allocator>(bytes: &mut Vec<u8, A>, other: &[u8])
     }
 }
 
-/// Appends `N` to `2 * N` bytes within the spare capacity: the first `N` and the last `N`, which may overlap. If
-/// nothing else refers to the vector, these compile to two stores.
+/// Appends the first `N` and the last `N` bytes, which may overlap: two stores if nothing else refers to the vector.
 #[inline(always)]
 fn push_overlapping<const N: usize, A: Allocator>(bytes: &mut Vec<u8, A>, other: &[u8])
     requires lanes { N ≤ u64.BITS }

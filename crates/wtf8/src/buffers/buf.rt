@@ -239,7 +239,6 @@ impl<A: Allocator> Wtf8Buf<A> {
         ensures ok { OnOk result (AppendsUnits self.old (units_of (number code_point)) self.new) }
         ensures kept { OnErr result (KeepsContents self.old self.new) }
 
-        // A code point below U+10000 is one unit.
         ensures one_unit { number code_point < 0x10000 → OnOk result (AppendsUnits self.old (number code_point ∷ []) self.new) }
 
         // A push whose bytes fit is never refused, and the capacity never shrinks.
@@ -260,7 +259,6 @@ impl<A: Allocator> Wtf8Buf<A> {
         ensures ok { OnOk result (AppendsUnits self.old (units_of c) self.new) }
         ensures kept { OnErr result (KeepsContents self.old self.new) }
 
-        // A character below U+10000 is one unit.
         ensures one_unit { c < 0x10000 → OnOk result (AppendsUnits self.old (c ∷ []) self.new) }
 
         ensures room { HasRoomFor self.old (units_of c) → IsOk result }
@@ -270,7 +268,6 @@ impl<A: Allocator> Wtf8Buf<A> {
         ensures at_most { OnOk result (length self.new.bytes ≤ length self.old.bytes + length (encoding c)) }
         ensures room_left { length self.old.bytes + length (encoding c) ≤ self.old.capacity → IsOk result }
 
-        // An ASCII character is one byte.
         ensures ascii_length { c < 0x80 → OnOk result (length self.new.bytes ≡ length self.old.bytes + 1) }
         ensures ascii_room { c < 0x80 → length self.old.bytes + 1 ≤ self.old.capacity → IsOk result }
     {
@@ -316,7 +313,6 @@ impl<A: Allocator> Wtf8Buf<A> {
         ensures ok { OnOk result (AppendsUnits self.old (view_units other.entry) self.new) }
         ensures kept { OnErr result (KeepsContents self.old self.new) }
 
-        // The length grows by the other's length, minus 2 if a lead meets a trail.
         ensures length { OnOk result (AddsLength self.old other.entry self.new) }
 
         ensures room { HasRoomFor self.old (view_units other.entry) → IsOk result }
@@ -384,8 +380,7 @@ impl<A: Allocator> Wtf8Buf<A> {
         pushed
     }
 
-    /// Appends the parts of a slice, one by one. If memory is refused, the parts before may have been
-    /// appended.
+    /// Appends the parts of a slice, one by one. If memory is refused, the parts before may have been appended.
     fn push_parts(&mut self, slice: UnitSlice<'_>) -> Result<(), AllocError>
         ensures ok { OnOk result (AppendsUnits self.old (units_of_slice slice.entry) self.new) }
         ensures some { (v : List ℕ) × AppendsUnits self.old v self.new }
@@ -409,8 +404,7 @@ impl<A: Allocator> Wtf8Buf<A> {
         }
     }
 
-    /// Shortens the string to `new_len` bytes, which must be a code point boundary (`is_code_point_boundary` of the
-    /// view).
+    /// Shortens the string to `new_len` bytes, which must be a code point boundary (`Wtf8::is_code_point_boundary`).
     pub fn truncate(&mut self, new_len: usize)
         requires { IsBoundary self.old.units new_len }
         ensures units { IsFront self.old.units new_len self.new.units }
@@ -466,7 +460,6 @@ impl<A: Allocator> Wtf8Buf<A> {
         encoding::keep_lead(&mut self.bytes, mark.position, lead);
     }
 
-    /// Truncates to `position` bytes if that is a code point boundary, and returns whether it is.
     pub(crate) fn try_truncate(&mut self, position: usize) -> bool
         ensures { Truncates self.old.units position self.new.units (if result then 0 else 1) }
     {
@@ -477,7 +470,6 @@ impl<A: Allocator> Wtf8Buf<A> {
         true
     }
 
-    /// Keeps the first `n` code units and returns true, or changes nothing and returns false if there are fewer.
     pub(crate) fn try_truncate_units(&mut self, n: usize) -> bool
         ensures units { TruncatesUnits self.old.units n self.new.units (if result then 0 else 1) }
         ensures capacity { self.new.capacity ≡ self.old.capacity }
@@ -529,7 +521,6 @@ impl<A: Allocator> Wtf8Buf<A> {
         self.bytes.len() <= self.utf8_prefix.len
     }
 
-    /// Searches after the UTF-8 prefix, and not at all if the whole string is known to hold no surrogate.
     fn first_surrogate(&self) -> Option<usize>
         ensures { IsFirst (SurrogateAt self.now.bytes) 0 result }
     {

@@ -42,8 +42,8 @@ impl<A: Allocator> Wtf8Buf<A> {
 
     /// Applies one call. `Ok(false)` means that a truncation was refused, because its position is no code point
     /// boundary or the string has fewer code units; it changes nothing. If memory is refused, the string is unchanged,
-    /// except that the first code points of an `Extend` may be appended. A truncation needs no memory. Takes the time of
-    /// the method that it calls.
+    /// except that the first code points of an `Extend` may be appended. A truncation needs no memory. Takes the time
+    /// of the method that it calls.
     pub fn apply(&mut self, call: Build<'_>) -> Result<bool, AllocError>
         ensures step { IfOk result (λ kept. Step self.old.units call.entry self.new.units (if kept then 0 else 1)) }
         ensures refused { OnErr result (LeavesRefused self.old.units call.entry self.new.units) }

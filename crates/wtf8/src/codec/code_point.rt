@@ -96,6 +96,7 @@ impl CodePoint {
     }
 }
 
+// Bounds of surrogates are `u16`, to be compared with code units; code points are `u32`.
 pub(crate) const FIRST_LEAD: u16 = 0xD800;
 
 pub(crate) const LAST_LEAD: u16 = 0xDBFF;

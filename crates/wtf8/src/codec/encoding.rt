@@ -53,7 +53,6 @@ pub(crate) fn four_bytes(value: u32) -> [u8; 4]
     ]
 }
 
-/// Appends a code point's encoding, without joining a trail to a lead before it. A refusal leaves `bytes` unchanged.
 #[inline(always)]
 pub(crate) fn append<A: Allocator>(
     bytes: &mut Vec<u8, A>,
@@ -111,7 +110,6 @@ pub(crate) fn keep_lead<A: Allocator>(bytes: &mut Vec<u8, A>, at: usize, lead: u
     bytes[at..at + 3].copy_from_slice(&three_bytes(u32::from(lead)));
 }
 
-/// Whether a byte begins an encoding: it is not a continuation byte, which is from 0x80 to 0xBF.
 pub(crate) fn begins_code_point(byte: u8) -> bool
     ensures { IsTrue result ↔ ((byte < 0x80) ⊎ (0xC0 ≤ byte)) }
 {

@@ -18,8 +18,7 @@ use std::alloc::Allocator;
 use std::cmp::Ordering;
 use std::hash::{Hash, Hasher};
 
-/// Strings are equal if their bytes are equal, which is so if and only if their code units are. Linear in the equal
-/// front, and constant if the lengths differ.
+/// Equal if the bytes, and so the code units, are equal. Linear in the equal front, and constant if the lengths differ.
 impl<'a> PartialEq for Wtf8<'a> {
     ghost eq = { on (λ view. view.bytes.now) (pointwise nat_eq) };
 

@@ -12,7 +12,6 @@ use crate::lanes::memcmp::{byte_at, mismatch};
 use crate::strings::view::Wtf8;
 use std::cmp::Ordering;
 
-/// Whether a code point of two units, whose lead byte is at least 0xF0, begins at index `at`, which may be the end.
 fn supplementary_begins(bytes: &[u8], at: usize) -> bool
     ensures { IsTrue result ↔ SupplementaryBegins bytes.now at }
 {
@@ -28,7 +27,7 @@ fn cmp_unitwise(own: Wtf8<'_>, others: Wtf8<'_>) -> Ordering
 }
 
 /// The order of two strings by code units: that of the bytes at the first mismatch, unless a code point of two units
-/// begins there in one string alone. A lead surrogate is less than the units E000 to FFFF, although its byte is greater.
+/// begins there in one string alone. A lead surrogate is less than E000 to FFFF, although its byte is greater.
 #[inline(always)]
 fn cmp_units_at_mismatch(own: Wtf8<'_>, others: Wtf8<'_>) -> Ordering
     ensures { result ≡ slice_cmp nat_cmp (view_units own.entry) (view_units others.entry) }

@@ -22,7 +22,6 @@ fn write_hex_digit<W: fmt::Write>(value: u32, f: &mut fmt::Formatter<W>) -> fmt:
     f.write_char(hex_dump::upper_digit(value as u8))
 }
 
-/// Writes the last four hexadecimal digits of a number, zeros included.
 fn write_last_four_digits<W: fmt::Write>(value: u32, f: &mut fmt::Formatter<W>) -> fmt::Result
     ensures { WritesStyledOnOk W.write_str_gives f.old result (last_four_digits value) f.new }
 {
@@ -32,7 +31,6 @@ fn write_last_four_digits<W: fmt::Write>(value: u32, f: &mut fmt::Formatter<W>) 
     write_hex_digit(value % 16, f)
 }
 
-/// Writes the number of a code point in upper-case hexadecimal, with at least four digits.
 fn write_upper_hex<W: fmt::Write>(value: u32, f: &mut fmt::Formatter<W>) -> fmt::Result
     requires { IsCodePoint value }
     ensures { WritesStyledOnOk W.write_str_gives f.old result (upper_hex value) f.new }
@@ -60,7 +58,6 @@ impl fmt::Debug for CodePoint {
     }
 }
 
-/// Writes a code point as in the debug text of a string: a surrogate's number between `\u{` and `}`, others as is.
 fn write_point<W: fmt::Write>(code_point: CodePoint, f: &mut fmt::Formatter<W>) -> fmt::Result
     ensures { WritesStyledOnOk W.write_str_gives f.old result (escape_surrogate (number code_point)) f.new }
 {

@@ -11,7 +11,6 @@ use crate::strings::view::Wtf8;
 use std::alloc::Allocator;
 use std::fmt;
 
-/// Writes U+FFFD for each surrogate and all other text as it is. The formatter's width and flags are ignored.
 fn write_lossy<W: fmt::Write>(view: Wtf8<'_>, f: &mut fmt::Formatter<W>) -> fmt::Result
     ensures { WritesStyledOnOk W.write_str_gives f.old result (bytes (lossy_points (view_points view.entry))) f.new }
 {

@@ -13,29 +13,23 @@ use std::simd::prelude::*;
 /// The length of the text of one vector: a space and two digits for each byte.
 const SPACED_LEN: usize = 3 * VECTOR;
 
-/// The upper-case digits, each at the index of its value.
 const DIGITS: [u8; VECTOR] = *b"0123456789ABCDEF";
 
-/// Interleaves lanes 0 to 7 of the high digits and of the low digits.
+/// Shuffle indices: lanes 0 to 7 of the high digits and of the low ones, interleaved; below, lanes 4 to 11 and 8 to 15.
 const INTERLEAVE_FRONT: [usize; VECTOR] = [0, 16, 1, 17, 2, 18, 3, 19, 4, 20, 5, 21, 6, 22, 7, 23];
 
-/// Interleaves lanes 4 to 11 of the high digits and of the low digits.
 const INTERLEAVE_MID: [usize; VECTOR] = [4, 20, 5, 21, 6, 22, 7, 23, 8, 24, 9, 25, 10, 26, 11, 27];
 
-/// Interleaves lanes 8 to 15 of the high digits and of the low digits.
 const INTERLEAVE_BACK: [usize; VECTOR] = [
     8, 24, 9, 25, 10, 26, 11, 27, 12, 28, 13, 29, 14, 30, 15, 31,
 ];
 
-/// Bytes 0 to 15 of the spaced text, from the digits that `INTERLEAVE_FRONT` interleaves; 16 is a space.
+/// Shuffle indices: bytes 0 to 15 of the spaced text, from the front digits; below, bytes 16 to 31 and 32 to 47, from
+/// the middle and back ones, whose lane 0 is the high digit of byte 4 and of byte 8. Index 16 is a space.
 const SPACED_FRONT: [usize; VECTOR] = [16, 0, 1, 16, 2, 3, 16, 4, 5, 16, 6, 7, 16, 8, 9, 16];
 
-/// Bytes 16 to 31 of the spaced text, from the digits that `INTERLEAVE_MID` interleaves, of which 0 is the high digit
-/// of byte 4; 16 is a space.
 const SPACED_MID: [usize; VECTOR] = [2, 3, 16, 4, 5, 16, 6, 7, 16, 8, 9, 16, 10, 11, 16, 12];
 
-/// Bytes 32 to 47 of the spaced text, from the digits that `INTERLEAVE_BACK` interleaves, of which 0 is the high digit
-/// of byte 8; 16 is a space.
 const SPACED_BACK: [usize; VECTOR] = [5, 16, 6, 7, 16, 8, 9, 16, 10, 11, 16, 12, 13, 16, 14, 15];
 
 #[inline(always)]

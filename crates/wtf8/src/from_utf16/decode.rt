@@ -13,15 +13,11 @@ use crate::codec::code_point::{
 };
 use std::iter::Ahead;
 
-/// Decodes the units that an iterator yields: each item is `Ok` of a `char` or `Err` of a lone surrogate.
-///
-/// A lead and the trail directly after it are one `char`, and so is a unit that is not a surrogate. For the last units
-/// of a list, fewer than a block takes.
+/// Yields `Ok` of a `char` or `Err` of a lone surrogate. For the last units of a list, fewer than a block takes.
 pub(crate) fn decode_utf16<I: Iterator<Item = u16>>(iter: I) -> DecodeUtf16<I>
     ensures source { peekable_source result.units ≡ iter }
     ensures peeked { peekable_peeked result.units ≡ None }
 
-    // The items up to the end are a reading of the units, whatever units the iterator yields.
     ensures reads { (items : List (Result ℕ ℕ)) → Drains (decode_steps I.next_gives) result items → ReadsAll I.next_gives iter items }
 {
     DecodeUtf16 {
@@ -29,9 +25,7 @@ pub(crate) fn decode_utf16<I: Iterator<Item = u16>>(iter: I) -> DecodeUtf16<I>
     }
 }
 
-/// An iterator that decodes the units of another iterator, made by `decode_utf16`.
-///
-/// After a lone lead it keeps the next unit, which is already read, until the next call.
+/// Keeps the unit after a lone lead, which is already read, until the next call.
 #[derive(Drop)]
 pub(crate) struct DecodeUtf16<I> {
     units: Ahead<I, u16>,
@@ -89,8 +83,7 @@ impl<I: Iterator<Item = u16>> Iterator for DecodeUtf16<I> {
     }
 }
 
-/// The code point that begins at index `at`, the index after it, and whether it is a scalar value. For one code point
-/// between runs and blocks.
+/// The code point at index `at`, the index after it, and whether it is a scalar value. For one between runs and blocks.
 #[inline(always)]
 pub(crate) fn read_point(v: &[u16], at: usize) -> (CodePoint, usize, bool)
     requires { at < length v.now }

@@ -1,19 +1,14 @@
 // Kernel that encodes sixteen code units at a time, of any kinds. Unit k has three candidate bytes, fk, sk and lk, and
 // takes the last one, two or three of them: two if it is a lead or a trail of a pair, half of the pair's four bytes. A
-// lone surrogate takes three, by the same formulas as any other unit from 0800 on. Unit k's lanes of 16 bits, where tk
-// is 0x80 if it takes three bytes, else 0:
-//
-//     heads    fk + 256 * sk
-//     lasts    lk + 256 * tk
-//
-// Both are interleaved, four units at a time. The lanes of 8 bits of units 0 to 3, by FIRST_QUARTER:
+// lone surrogate takes three, by the same formulas as any other unit from 0800 on. With tk 0x80 if unit k takes three
+// bytes, else 0, its lanes of 16 bits are fk + 256 * sk in `heads` and lk + 256 * tk in `lasts`. Both are interleaved,
+// four units at a time. The lanes of 8 bits of units 0 to 3, by FIRST_QUARTER:
 //
 //     f0 s0 l0 t0  f1 s1 l1 t1  f2 s2 l2 t2  f3 s3 l3 t3
 //
-// The last byte of a unit is 0x80 or more if the unit takes more than one byte. So the mask of the high bits of
-// `lasts`, with lane 0 as its lowest bit, has two bits for each unit: whether it takes more than one byte, and whether
-// it takes three. It is the index in `SHUFFLES` for units 0-3, plus 256 times that for units 4-7, and so on. A row is a
-// shuffle that packs the bytes to be written: 4, and one more for each set bit of its index.
+// A unit's last byte is 0x80 or more if it takes more than one. So the mask of the high bits of `lasts`, lane 0 lowest,
+// has two bits for each unit: whether it takes more than one byte, and whether it takes three. It is the index in
+// `SHUFFLES` for units 0-3, plus 256 times that for units 4-7, and so on.
 #![tactic(auto)]
 
 ghost use Rattle.std.specs.Prelude.{◌≡◌, ◌⊎◌, ℕ, List, Bool, ◌&&◌, ◌+◌, ◌-◌, ◌*◌, ◌%◌, ◌/◌, ◌^◌, ◌<◌, ◌≤◌, ◌++◌, length, map, take, drop, replicate, slice_index_or, vec_capacity, IfOk, IsOk, IsTrue};
@@ -30,38 +25,30 @@ use std::simd::prelude::*;
 /// The number of units that are encoded together: the 16-bit lanes of a vector of 32 bytes, or of two of 16.
 pub(crate) const BLOCK_UNITS: usize = 16;
 
-/// Half of a block's units.
 const HALF_BLOCK: usize = BLOCK_UNITS / 2;
 
-/// A quarter of a block's units.
 const QUARTER_BLOCK: usize = BLOCK_UNITS / 4;
 
 /// The least number of the last units, fewer than a block, that are encoded as one.
 pub(crate) const LAST_UNITS: usize = QUARTER_BLOCK;
 
-/// The bytes that must be left in the scratch buffer for a block: at most 12 for each of three quarters, then a store
-/// of 16.
+/// The bytes that a block needs in the scratch buffer: at most 12 for each of three quarters, then a store of 16.
 pub(crate) const MIN_SPARE: usize = 52;
 
-/// The most bytes of a block.
 const MAX_BLOCK_BYTES: usize = 3 * BLOCK_UNITS;
 
-/// A lead divided by `SURROGATES_PER_HALF`: its high six bits, which are those of leads alone.
+/// The high six bits of leads, and of leads alone; below, of trails.
 const LEAD_KIND: u16 = FIRST_LEAD / SURROGATES_PER_HALF;
 
-/// A trail divided by `SURROGATES_PER_HALF`: its high six bits, which are those of trails alone.
 const TRAIL_KIND: u16 = FIRST_TRAIL / SURROGATES_PER_HALF;
 
-/// Lanes 0 to 3 of two vectors, interleaved.
+/// Shuffle indices: lanes 0 to 3 of two vectors, interleaved; below, lanes 4 to 7, 8 to 11 and 12 to 15.
 const FIRST_QUARTER: [usize; 8] = [0, 16, 1, 17, 2, 18, 3, 19];
 
-/// Lanes 4 to 7 of two vectors, interleaved.
 const SECOND_QUARTER: [usize; 8] = [4, 20, 5, 21, 6, 22, 7, 23];
 
-/// Lanes 8 to 11 of two vectors, interleaved.
 const THIRD_QUARTER: [usize; 8] = [8, 24, 9, 25, 10, 26, 11, 27];
 
-/// Lanes 12 to 15 of two vectors, interleaved.
 const FOURTH_QUARTER: [usize; 8] = [12, 28, 13, 29, 14, 30, 15, 31];
 
 /// Lane 0 of another vector, then lanes 0 to 14: each lane has what was in the lane before it.
@@ -85,8 +72,7 @@ struct UnitBytes {
     is_utf8: bool,
 }
 
-/// What was written of a block: the number of its units that are encoded, the index after their bytes, and whether none
-/// of them is a lone surrogate.
+/// The number of a block's units that are encoded, the index after their bytes, and whether none is a lone surrogate.
 #[derive(Clone, Copy)]
 struct Written {
     units: usize,
@@ -128,7 +114,6 @@ fn scalar_lasts(units: u16x16) -> u16x16
     units.simd_min(u16x16::splat(0x80) + units % u16x16::splat(64))
 }
 
-/// 0x8000 in each lane whose unit takes three bytes if it is no half of a pair, else 0.
 #[inline(always)]
 fn scalar_flags(units: u16x16) -> u16x16
     ensures { result ≡ map three_byte_flag units }
@@ -138,7 +123,6 @@ fn scalar_flags(units: u16x16) -> u16x16
         .select(u16x16::splat(0), u16x16::splat(0x8000))
 }
 
-/// The bytes of a block without a surrogate: cheaper than `unit_bytes`.
 #[inline(always)]
 fn scalar_unit_bytes(units: u16x16) -> UnitBytes
     requires { AreScalarUnits units }
@@ -152,10 +136,9 @@ fn scalar_unit_bytes(units: u16x16) -> UnitBytes
     }
 }
 
-/// The bytes of any block. The second and last bytes of a pair's lead are the first two of the pair's four bytes, those
-/// of its trail the other two, the first with bits of the lead too; their first ones, ED, are not used. All other
-/// units, lone surrogates too, have the bytes of scalar values. A lead in the last lane counts as a pair's: the next
-/// block encodes it.
+/// The bytes of any block. The second and last bytes of a pair's lead are the first two of the pair's four bytes, and
+/// the trail's are the other two, the first with bits of the lead too; their first ones, ED, are not used. All other
+/// units have the bytes of scalar values. A lead in the last lane counts as a pair's: the next block encodes it.
 #[inline(always)]
 fn unit_bytes(units: u16x16) -> UnitBytes
     ensures bytes { AreUnitBytes (tagged_block units) result.heads result.lasts }
@@ -172,6 +155,7 @@ fn unit_bytes(units: u16x16) -> UnitBytes
     let surrogates = (units / u16x16::splat(2 * SURROGATES_PER_HALF)).simd_eq(u16x16::splat(
         FIRST_LEAD / (2 * SURROGATES_PER_HALF),
     ));
+    // 0x10000 is 64 times `SURROGATES_PER_HALF`: this is the pair's code point without its last ten bits.
     let high = units % u16x16::splat(SURROGATES_PER_HALF) + u16x16::splat(64);
     let lead_heads = u16x16::splat(0xF0ED) + high / u16x16::splat(256) * u16x16::splat(256);
     let lead_lasts = u16x16::splat(0x80) + high / u16x16::splat(4) % u16x16::splat(64);
@@ -187,7 +171,6 @@ fn unit_bytes(units: u16x16) -> UnitBytes
     }
 }
 
-/// Packs the bytes of four units at index `len` of a scratch buffer, by row `number`. Returns the index after them.
 #[inline(always)]
 fn pack_four(lanes: u8x16, number: usize, scratch: &mut [u8], len: usize) -> usize
     requires number { number < 256 }
@@ -201,7 +184,6 @@ fn pack_four(lanes: u8x16, number: usize, scratch: &mut [u8], len: usize) -> usi
     len + shuffle_table::packed_len(number)
 }
 
-/// Packs the bytes of a block at index `len` of a scratch buffer. Returns the index after them.
 #[inline(always)]
 fn pack_block(units: u16x16, from: UnitBytes, scratch: &mut [u8], len: usize) -> usize
     requires room { len + MIN_SPARE ≤ length scratch.old }
@@ -221,9 +203,8 @@ fn pack_block(units: u16x16, from: UnitBytes, scratch: &mut [u8], len: usize) ->
     pack_four(fourth.to_le_bytes(), rows / 16777216 % 256, scratch, len)
 }
 
-/// Encodes a block at index `len` of a scratch buffer, without its last unit if that is a lead. Units without a
-/// surrogate take the cheaper path. A third path, for lone surrogates without a pair, made letters dearer by 6% and
-/// pairs by 8%: all paths share registers and constants.
+/// Leaves out a last unit that is a lead. Units without a surrogate take the cheaper path. A third path, for lone
+/// surrogates without a pair, made letters dearer by 6% and pairs by 8%: all paths share registers and constants.
 #[inline(always)]
 fn write_block(units: u16x16, scratch: &mut [u8], len: usize) -> Written
     requires room { len + MIN_SPARE ≤ length scratch.old }
@@ -257,8 +238,7 @@ fn write_block(units: u16x16, scratch: &mut [u8], len: usize) -> Written
     }
 }
 
-/// Copies `N` to `2 * N` units to the front of a block, by their first and their last `N`. A copy of a number that only
-/// the call knows would be a call of `memcpy`.
+/// Copies the first and the last `N` units: a copy of a number that only the call knows would be a call of `memcpy`.
 #[inline(always)]
 fn copy_by_ends<const N: usize>(units: &[u16], block: &mut [u16])
     requires within { (N ≤ length units.now) × (length units.now ≤ 2 * N) }
@@ -271,7 +251,6 @@ fn copy_by_ends<const N: usize>(units: &[u16], block: &mut [u16])
     block[last..units.len()].copy_from_slice(&units[last..]);
 }
 
-/// Units, `LAST_UNITS` or more and fewer than a block, with zeros after them.
 #[inline(always)]
 fn padded(units: &[u16]) -> u16x16
     requires least { LAST_UNITS ≤ length units.now }
@@ -287,9 +266,8 @@ fn padded(units: &[u16]) -> u16x16
     u16x16::from_array(block)
 }
 
-/// Encodes units, fewer than a block, at index `len` of a scratch buffer: as a block with zeros after them. A lead
-/// before these is lone, and each of them takes one byte, a zero, which is left out. Returns the index after their
-/// bytes, and whether no unit is a lone surrogate.
+/// Encodes units as a block with zeros after them. A lead before these is lone, and each of them takes one byte, a
+/// zero, which is left out. Returns the index after the other bytes, and whether no unit is a lone surrogate.
 #[inline(always)]
 fn write_last_block(units: &[u16], scratch: &mut [u8], len: usize) -> (usize, bool)
     requires least { LAST_UNITS ≤ length units.now }
@@ -303,9 +281,8 @@ fn write_last_block(units: &[u16], scratch: &mut [u8], len: usize) -> (usize, bo
     (written.end - (BLOCK_UNITS - units.len()), written.is_utf8)
 }
 
-/// Encodes units from index `at` on into a scratch buffer: the number of blocks that has units and room whatever the
-/// units are, so that no turn compares either, then `LAST_UNITS` or more that are left at the end. Returns the number
-/// of bytes, and how far units are encoded.
+/// Encodes the number of blocks that has units and room whatever the units are, so that no turn compares either, then
+/// `LAST_UNITS` or more that are left at the end. Returns the number of bytes, and how far units are encoded.
 #[inline(always)]
 fn write_blocks(v: &[u16], at: usize, scratch: &mut [u8]) -> (usize, Progress)
     requires units { at + LAST_UNITS ≤ length v.now }
@@ -337,9 +314,8 @@ fn write_blocks(v: &[u16], at: usize, scratch: &mut [u8]) -> (usize, Progress)
     (len, to)
 }
 
-/// Appends the bytes of units from index `from.at` on, through a scratch buffer of `SCRATCH` bytes: a block at a time,
-/// until fewer than `LAST_UNITS` are left or ASCII follows a full buffer. A full buffer is appended and filled again,
-/// without being zeroed anew. Returns how far units are encoded.
+/// Appends blocks through a scratch buffer, until fewer than `LAST_UNITS` are left or ASCII follows a full buffer. A
+/// full buffer is appended and filled again, without being zeroed anew.
 #[inline(always)]
 pub(crate) fn append_blocks<const SCRATCH: usize, A: Allocator>(
     bytes: &mut Vec<u8, A>,

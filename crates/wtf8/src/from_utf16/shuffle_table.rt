@@ -5,9 +5,8 @@ ghost use lib.Lanes.{Each1};
 
 use std::simd::prelude::*;
 
-/// Shuffles that pack the bytes of four units at the front of a vector. Lanes `4 * k` to `4 * k + 2` hold the first,
-/// second and last bytes of unit `k`; a unit takes the last one, two or three of its bytes. In the index of a row, bit
-/// `2 * k` is set if unit `k` takes more than one byte, and bit `2 * k + 1` if it takes three.
+/// Shuffles that pack the bytes of four units: lanes `4 * k` to `4 * k + 2` hold the first, second and last of unit
+/// `k`. In a row's index, bit `2 * k` is set if unit `k` takes more than one byte, and bit `2 * k + 1` if three.
 const SHUFFLES: &[[u8; 16]; 256] = &[
     [2, 6, 10, 14, 0, 0, 0, 0, 0, 0, 0, 0, 0, 0, 0, 0],
     [1, 2, 6, 10, 14, 0, 0, 0, 0, 0, 0, 0, 0, 0, 0, 0],
@@ -267,7 +266,6 @@ const SHUFFLES: &[[u8; 16]; 256] = &[
     [0, 1, 2, 4, 5, 6, 8, 9, 10, 12, 13, 14, 0, 0, 0, 0],
 ];
 
-/// The shuffle at `index` of `SHUFFLES`: it packs the bytes of four units.
 #[inline(always)]
 pub(crate) fn packing_shuffle(index: usize) -> u8x16
     requires { index < 256 }

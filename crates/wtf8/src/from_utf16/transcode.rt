@@ -1,6 +1,5 @@
 // Encodes code units in steps, by what the next units are: an ASCII run of up to 32, 16, 8 or 4 units and the code
-// point after it, blocks of `kernel`, or one code point. `decode_utf16` decodes the last units, fewer than
-// `LAST_UNITS`.
+// point after it, blocks of `kernel`, or one code point. `decode_utf16` decodes the last ones, fewer than `LAST_UNITS`.
 ghost use Rattle.std.specs.Prelude.{◌≡◌, ℕ, List, ◌++◌, ◌+◌, ◌^◌, ◌<◌, ◌≤◌, length, take, map, min, vec_capacity, IfOk, IsOk};
 ghost use Rattle.wtf8.specs.private.Prefixes.{IsKnownForm, IsReadTo, ReadsOn, HasRoomFrom};
 
@@ -13,17 +12,14 @@ use crate::vec::spare_capacity;
 use std::alloc::{AllocError, Allocator};
 use std::simd::prelude::*;
 
-/// The number of units that are searched for an ASCII run at once while as many are left.
+/// The number of units that are searched for an ASCII run at once while that number is left; below, while fewer are.
 const LONG_RUN: usize = 32;
 
-/// The number of units that are searched for an ASCII run at once while as many are left, and fewer than `LONG_RUN`.
 const MEDIUM_RUN: usize = LONG_RUN / 2;
 
-/// The number of units that are searched for an ASCII run at once while as many are left, and fewer than `MEDIUM_RUN`.
-/// Also the least number that a caller with few units appends by blocks.
+/// Also the least number of units that a caller with few units appends by blocks.
 const SMALL_RUN: usize = MEDIUM_RUN / 2;
 
-/// The number of units that are searched for an ASCII run at once if fewer than `SMALL_RUN` are left.
 const SHORT_RUN: usize = SMALL_RUN / 2;
 
 /// The number of units from which on the kernel's scratch buffer has `LONG_SCRATCH_BYTES`. If it has them from 32 units
@@ -33,12 +29,11 @@ const LONG_LIST: usize = 128;
 /// The size in bytes of the kernel's scratch buffer while `LONG_LIST` or more units are left: room for ten blocks.
 const LONG_SCRATCH_BYTES: usize = 512;
 
-/// The size in bytes of the kernel's scratch buffer while `LONG_RUN` or more units are left, and fewer than
-/// `LONG_LIST`: room for five blocks. No more are zeroed without a call of `memset`.
+/// The size in bytes of the kernel's scratch buffer while fewer than `LONG_LIST` units are left: room for five blocks.
+/// No more are zeroed without a call of `memset`.
 const SCRATCH_BYTES: usize = 256;
 
-/// The size in bytes of the kernel's scratch buffer if fewer than `LONG_RUN` units are left: room for these. It is no
-/// longer, since it is zeroed first.
+/// The scratch buffer's size while fewer than `LONG_RUN` units are left: room for these, since it is zeroed first.
 const SHORT_SCRATCH_BYTES: usize = 112;
 
 /// Units narrowed to bytes. A unit above 0xFF becomes 0xFF, so that it is not ASCII.
@@ -49,7 +44,6 @@ fn narrow_saturating<const N: usize>(units: Simd<u16, N>) -> Simd<u8, N>
     units.simd_min(Simd::splat(0xFF)).cast::<u8>()
 }
 
-/// Appends the encoding of the code point at `from.at`. Returns how far units are encoded.
 #[inline(always)]
 fn append_point<A: Allocator>(
     bytes: &mut Vec<u8, A>,
@@ -78,8 +72,7 @@ fn append_point<A: Allocator>(
     Ok(Progress { at, is_utf8 })
 }
 
-/// Appends the ASCII run at the front of the `N` units at index `from.at`, and the code point after it if the run is
-/// shorter than `N`; one code point if the spare capacity is less than `N`. Returns how far units are encoded.
+/// Appends the ASCII run in the next `N` units and the code point after it; one code point if spare capacity is less.
 #[inline(always)]
 fn append_ascii_run<const N: usize, A: Allocator>(
     bytes: &mut Vec<u8, A>,
@@ -118,8 +111,7 @@ fn append_ascii_run<const N: usize, A: Allocator>(
     append_point(bytes, v, to)
 }
 
-/// Appends the bytes of the next units, `LONG_RUN` or more: an ASCII run of up to `LONG_RUN` and the code point after
-/// it, blocks through a scratch buffer of `SCRATCH` bytes, or one code point. Returns how far units are encoded.
+/// Takes a step while `LONG_RUN` or more units are left. The kernel's scratch buffer has `SCRATCH` bytes.
 #[inline(always)]
 fn append_next<const SCRATCH: usize, A: Allocator>(
     bytes: &mut Vec<u8, A>,
@@ -145,8 +137,7 @@ fn append_next<const SCRATCH: usize, A: Allocator>(
     kernel::append_blocks::<SCRATCH, A>(bytes, v, from)
 }
 
-/// Appends the bytes of the next units, `LAST_UNITS` or more: an ASCII run and the code point after it, or blocks, of
-/// which the last may have fewer units. Returns how far units are encoded.
+/// Takes a step while `LAST_UNITS` or more units are left. The last block may have fewer units than others.
 #[inline(always)]
 fn append_last<A: Allocator>(
     bytes: &mut Vec<u8, A>,
@@ -175,8 +166,7 @@ fn append_last<A: Allocator>(
     append_ascii_run::<MEDIUM_RUN, A>(bytes, v, from)
 }
 
-/// Appends the bytes of units from index `from.at` on, until fewer than `LAST_UNITS` are left. Returns how far units
-/// are encoded. With these loops in `append_utf16` itself, 40 units whose ends join take 1.4% more instructions.
+/// With these loops in `append_utf16` itself, 40 units whose ends join take 1.4% more instructions.
 #[inline(always)]
 fn append_steps<A: Allocator>(
     bytes: &mut Vec<u8, A>,
@@ -203,9 +193,6 @@ fn append_steps<A: Allocator>(
     Ok(read)
 }
 
-/// Appends the bytes of all units from index `from.at` on. Returns whether `from.is_utf8` and none of them is a lone
-/// surrogate.
-///
 /// `decode_utf16` joins each pair, so it yields no trail directly after a lead, and `append` has nothing to join.
 #[inline(always)]
 fn append_rest<A: Allocator>(
@@ -249,8 +236,7 @@ pub(crate) fn append_utf16<A: Allocator>(
     append_rest(bytes, v, read)
 }
 
-/// Appends the ASCII run at the front of the `SHORT_RUN` units at index `from.at` and the code point after it, or
-/// nothing if these are fewer or the first is not ASCII. Returns how far units are encoded.
+/// Appends nothing if fewer than `SHORT_RUN` units are left or the first is not ASCII.
 #[inline(always)]
 fn append_short_run<A: Allocator>(
     bytes: &mut Vec<u8, A>,
@@ -270,8 +256,7 @@ fn append_short_run<A: Allocator>(
     Ok(from)
 }
 
-/// Appends the bytes of few units from index `from.at` on, one code point at a time after a short ASCII run. Returns
-/// whether `from.is_utf8` and none of them is a lone surrogate.
+/// `append_utf16` of few units: one code point at a time, after a short ASCII run.
 #[inline(always)]
 fn append_few<A: Allocator>(
     bytes: &mut Vec<u8, A>,
@@ -291,8 +276,7 @@ fn append_few<A: Allocator>(
     Ok(read.is_utf8)
 }
 
-/// `append_utf16` for a caller that often has fewer than `SMALL_RUN` units: these do not pay for what blocks need of
-/// registers and stack.
+/// `append_utf16` for a caller that often has few units: they do not pay for the registers and stack that blocks need.
 #[inline(always)]
 pub(crate) fn append_few_or_many<A: Allocator>(
     bytes: &mut Vec<u8, A>,

@@ -44,7 +44,6 @@ fn mismatch_in_block<const N: usize>(own: &[u8], others: &[u8], at: usize) -> Op
     Some(at + lowest_set_lane(unlike.to_bitmask()))
 }
 
-/// Whether slices of equal length, `N` to `2 * N` bytes, are equal, by two blocks of `N`, which may overlap.
 #[inline(always)]
 fn eq_overlapping<const N: usize>(own: &[u8], others: &[u8]) -> bool
     requires lanes { (0 < N) × (N ≤ u64.BITS) }
@@ -117,8 +116,7 @@ fn eq_over_block(own: &[u8], others: &[u8]) -> bool
     mismatch_long(own, others, len).is_none()
 }
 
-/// The lexicographic order of two slices: the first mismatch decides, and a prefix comes before the longer slice. Not
-/// inlined, since sorts and maps call it in many places.
+/// Not inlined, since sorts and maps call it in many places.
 #[inline(never)]
 pub(crate) fn cmp(own: &[u8], others: &[u8]) -> Ordering
     ensures { result ≡ slice_cmp nat_cmp own.now others.now }
@@ -140,7 +138,6 @@ fn cmp_long(own: &[u8], others: &[u8], end: usize) -> Ordering
     cmp_at_mismatch(own, others, mismatch_long(own, others, end))
 }
 
-/// The order of two slices: `found` is the index of their first mismatch, or `None` if one is a prefix of the other.
 #[inline(always)]
 fn cmp_at_mismatch(own: &[u8], others: &[u8], found: Option<usize>) -> Ordering
     requires { IsFirstIn (DifferAt own.now others.now) 0 (min (length own.now) (length others.now)) found }
@@ -185,8 +182,7 @@ fn mismatch_short(own: &[u8], others: &[u8], end: usize) -> Option<usize>
     mismatch_bytewise(own, others, end)
 }
 
-/// The index of the first mismatch in `0..end`, more than `TWO_VECTORS` bytes. Many slices differ in the first vector,
-/// which is compared first. Equal bytes after it are skipped in strides of `STRIDE`.
+/// The first vector is compared first, since many slices differ there. Equal bytes after it are skipped in strides.
 #[inline(always)]
 fn mismatch_long(own: &[u8], others: &[u8], end: usize) -> Option<usize>
     requires long { TWO_VECTORS < end }
@@ -203,7 +199,6 @@ fn mismatch_long(own: &[u8], others: &[u8], end: usize) -> Option<usize>
     mismatch_in_blocks(own, others, at, end)
 }
 
-/// Skips strides of `STRIDE` equal bytes after the first vector, which is equal. Returns the index after the last one.
 #[inline(always)]
 fn skip_equal_strides(own: &[u8], others: &[u8], end: usize) -> usize
     requires long { VECTOR ≤ end }
@@ -221,8 +216,7 @@ fn skip_equal_strides(own: &[u8], others: &[u8], end: usize) -> usize
     at
 }
 
-/// The index of the first mismatch in `from..end`, `TWO_VECTORS` bytes at a time; everything before `from` is equal.
-/// The last `TWO_VECTORS` bytes may overlap equal ones before them.
+/// Compares `TWO_VECTORS` bytes at a time. The last `TWO_VECTORS` may overlap equal bytes before them.
 #[inline(always)]
 fn mismatch_in_blocks(own: &[u8], others: &[u8], from: usize, end: usize) -> Option<usize>
     requires long { TWO_VECTORS ≤ end }
@@ -241,7 +235,6 @@ fn mismatch_in_blocks(own: &[u8], others: &[u8], from: usize, end: usize) -> Opt
     mismatch_in_block::<TWO_VECTORS>(own, others, end - TWO_VECTORS)
 }
 
-/// The index of the first mismatch in `from..end`, `N` to `2 * N` bytes, by two blocks of `N`, which may overlap.
 #[inline(always)]
 fn mismatch_overlapping<const N: usize>(
     own: &[u8],

@@ -14,7 +14,6 @@ fn block(firsts: u8x32, seconds: u8x32) -> Option<usize>
     first_set_lane(begin.to_bitmask())
 }
 
-/// The index of the first surrogate that begins in `at..at + 32`. Reads one byte past that range.
 #[inline(always)]
 fn surrogate_in_block(bytes: &[u8], at: usize) -> Option<usize>
     requires { at + 32 < length bytes.now }
@@ -26,7 +25,6 @@ fn surrogate_in_block(bytes: &[u8], at: usize) -> Option<usize>
     Some(at + lane)
 }
 
-/// The index of the first surrogate that begins at `from` or after it. The bytes need not be well-formed.
 pub(crate) fn next_surrogate(bytes: &[u8], from: usize) -> Option<usize>
     ensures { IsFirst (SurrogateAt bytes.now) from result }
 {

@@ -19,8 +19,7 @@ use crate::strings::view::Wtf8;
 use crate::vec::spare_capacity;
 use std::alloc::{AllocError, Allocator};
 
-/// Completes the lead surrogate at the end of `bytes` with `trail`: reserves the fourth byte of the pair's encoding,
-/// then overwrites the lead's three. If memory is refused, `bytes` is unchanged.
+/// Reserves the fourth byte of the pair's encoding before it overwrites the lead's three.
 fn complete_pair<A: Allocator>(
     bytes: &mut Vec<u8, A>,
     lead: u32,
@@ -39,8 +38,7 @@ fn complete_pair<A: Allocator>(
     Ok(())
 }
 
-/// Appends a code point that completes no pair: it is no trail, or no lead ends `bytes`. `spare` is the spare capacity.
-/// `append_with_spare` promises the bytes of any code point; these are the form of the units, which is proved here once.
+/// `append_with_spare` if no pair is completed: that the bytes are the form of the units is proved here once.
 #[inline(always)]
 fn push_unpaired<A: Allocator>(
     bytes: &mut Vec<u8, A>,
@@ -56,7 +54,6 @@ fn push_unpaired<A: Allocator>(
     encoding::append_with_spare(bytes, spare, code_point)
 }
 
-/// Appends a trail surrogate to well-formed bytes: it completes a lead at their end. `spare` is the spare capacity.
 #[inline(always)]
 fn push_trail<A: Allocator>(
     bytes: &mut Vec<u8, A>,
@@ -128,8 +125,7 @@ fn pair_at_seam(front: Wtf8<'_>, back: Wtf8<'_>) -> Option<(u32, u32)>
     Some((lead, trail))
 }
 
-/// Appends `other`, whose first three bytes are the trail surrogate that completes the lead at the end. Requests all
-/// memory before it overwrites the lead: if it is refused, `bytes` is unchanged. Not inlined, since few pushes join.
+/// Requests all memory before it overwrites the lead. Not inlined, since few pushes join.
 #[inline(never)]
 fn append_completing_pair<A: Allocator>(
     bytes: &mut Vec<u8, A>,
@@ -152,8 +148,6 @@ fn append_completing_pair<A: Allocator>(
     Ok(())
 }
 
-/// Appends a view to a string that may hold surrogates: a lead at the end and a trail at its front become one code
-/// point.
 #[inline(always)]
 fn append_joining<A: Allocator>(bytes: &mut Vec<u8, A>, other: Wtf8<'_>) -> Result<(), AllocError>
     requires { IsWellFormed bytes.old.items }
@@ -166,8 +160,6 @@ fn append_joining<A: Allocator>(bytes: &mut Vec<u8, A>, other: Wtf8<'_>) -> Resu
     }
 }
 
-/// Appends a view; a lead at the end and a trail at its front become one code point. A view that is not empty cuts the
-/// UTF-8 prefix to at most the old length, since it is not searched.
 #[inline(always)]
 pub(crate) fn push_wtf8<A: Allocator>(
     bytes: &mut Vec<u8, A>,
@@ -190,7 +182,6 @@ pub(crate) fn push_wtf8<A: Allocator>(
     }
 }
 
-/// Appends a character, which completes no pair.
 #[inline(always)]
 pub(crate) fn push_char<A: Allocator>(bytes: &mut Vec<u8, A>, c: char) -> Result<(), AllocError>
     requires { IsWellFormed bytes.old.items }
@@ -201,7 +192,6 @@ pub(crate) fn push_char<A: Allocator>(bytes: &mut Vec<u8, A>, c: char) -> Result
     push_unpaired(bytes, spare, CodePoint::from_u32_unchecked(u32::from(c)))
 }
 
-/// Appends a text, which completes no pair.
 pub(crate) fn push_str<A: Allocator>(bytes: &mut Vec<u8, A>, other: &str) -> Result<(), AllocError>
     requires { IsWellFormed bytes.old.items }
     ensures units { ExtendsForm bytes.old.items (bytes.old.items ++ other.now) (units (chars other.now)) }
@@ -226,9 +216,8 @@ fn lead_before<A: Allocator>(bytes: &Vec<u8, A>, v: &[u16]) -> Option<u32>
     }
 }
 
-/// Appends code units to well-formed bytes. `lead` is the lead surrogate at their end that the first unit completes,
-/// and `is_utf8` whether they are known to hold no surrogate. Returns whether the new bytes hold none. If memory is
-/// refused, some units may have been appended.
+/// `lead` is the lead surrogate at the end of `bytes` that the first unit completes. Returns whether the new bytes are
+/// known to hold no surrogate. If memory is refused, some units may have been appended.
 fn append_utf16<A: Allocator>(
     bytes: &mut Vec<u8, A>,
     is_utf8: bool,
@@ -264,8 +253,7 @@ fn append_utf16<A: Allocator>(
     }
 }
 
-/// Takes back what was appended to the first `len` bytes, which `lead` ended if it is one. Not inlined, since few
-/// pushes are refused.
+/// Restores the first `len` bytes, which `lead` ended if it is one. Not inlined, since few pushes are refused.
 #[inline(never)]
 pub(crate) fn take_back<A: Allocator>(bytes: &mut Vec<u8, A>, len: usize, lead: Option<u32>)
     requires within { len ≤ length bytes.old.items }
@@ -280,8 +268,7 @@ pub(crate) fn take_back<A: Allocator>(bytes: &mut Vec<u8, A>, len: usize, lead: 
     }
 }
 
-/// Appends code units; a trail at their front completes a lead at the end. A lone surrogate among them, or a front that
-/// may hold one, cuts the UTF-8 prefix to at most the old length.
+/// A lone surrogate among the units, or a front that may hold one, cuts the UTF-8 prefix to at most the old length.
 pub(crate) fn push_utf16<A: Allocator>(
     bytes: &mut Vec<u8, A>,
     utf8_prefix: &mut Utf8Prefix,

@@ -18,9 +18,7 @@ use std::alloc::AllocError;
 use std::marker::Model;
 
 /// An iterator over the code points of a string, in order. After the last one it always returns `None`. A clone goes on
-/// with the same items and does not allocate.
-///
-/// Contracts see it as the list of the code points that are left.
+/// with the same items and does not allocate. Contracts see it as the list of the code points that are left.
 #[derive(Drop)]
 pub struct Wtf8CodePoints<'a> {
     bytes: &'a [u8],
@@ -99,8 +97,7 @@ impl<'a> Clone for Wtf8CodePoints<'a> {
     }
 }
 
-/// Returns the code unit at `position` and moves `position` past it. After the lead of a pair it points to the last two
-/// of the pair's four bytes, which give the trail.
+/// Moves `position` past the returned unit; after a pair's lead, to the last two of four bytes, which give the trail.
 #[inline(always)]
 pub(crate) fn read_unit(bytes: &[u8], position: &mut usize) -> u16
     requires inside { position.old < length bytes.now }
@@ -135,15 +132,13 @@ pub(crate) fn read_unit(bytes: &[u8], position: &mut usize) -> u16
 }
 
 /// An iterator over the 16-bit code units of a string, in order: the units that it was made of, paired or not. After
-/// the last one it always returns `None`. A clone goes on with the same items and does not allocate.
-///
-/// Contracts see the trail surrogate that is held back, if any, and the code points that are left.
+/// the last one it always returns `None`. A clone goes on with the same items and does not allocate. Contracts see the
+/// trail surrogate that is held back, if any, and the code points that are left.
 #[derive(Drop)]
 pub struct IllFormedUtf16CodeUnits<'a> {
     bytes: &'a [u8],
 
-    /// The byte position of the next code point, or the length at the end. While the trail of a pair is held back, the
-    /// position of the last two of the pair's four bytes, which give the trail.
+    /// The position of the next code point, or of the last two of a pair's four bytes while its trail is held back.
     position: usize,
 
     ghost within: { position ≤ length bytes.now },
@@ -180,7 +175,6 @@ impl<'a> IllFormedUtf16CodeUnits<'a> {
         Some(Wtf8::from_well_formed(unread))
     }
 
-    /// Returns the held trail, if any, else the first unit of the next code point; a pair's trail is then held.
     #[inline(always)]
     fn next_unit(&mut self) -> Option<u16>
         ensures first { YieldsFirst unread_units self.old result self.new }
@@ -192,7 +186,6 @@ impl<'a> IllFormedUtf16CodeUnits<'a> {
         Some(read_unit(self.bytes, &mut self.position))
     }
 
-    /// Returns the encoded length of the code points that are left, without the two bytes of a held trail.
     fn unread_bytes(&self) -> usize
         ensures value { result ≡ length (bytes self.now.points) }
         ensures at_least_units { length (units self.now.points) ≤ result }

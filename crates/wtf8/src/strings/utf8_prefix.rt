@@ -17,10 +17,8 @@ impl Utf8Prefix {
     /// The prefix of a buffer without surrogates. It stays right when text is appended, so no push has to update it.
     pub(crate) const ALL: Utf8Prefix = Utf8Prefix { len: usize::MAX };
 
-    /// The prefix of a buffer of which nothing is known.
     pub(crate) const NONE: Utf8Prefix = Utf8Prefix { len: 0 };
 
-    /// The prefix of a new buffer: all of it if `is_utf8` says that it holds no surrogate, else none.
     pub(crate) fn new(is_utf8: bool) -> Utf8Prefix
         ensures { (c : List ℕ) → (IsTrue is_utf8 → AreScalar c) → AreScalarTo result.len c }
     {
@@ -40,7 +38,7 @@ impl Utf8Prefix {
         Utf8Prefix { len }
     }
 
-    /// The prefix after a push to `len` bytes: at most these, since `other` is not searched, or as before if it is empty.
+    /// The prefix after a push to `len` bytes: at most these, since `other` is not searched; unchanged if it is empty.
     #[inline(always)]
     pub(crate) fn after_push(self, len: usize, other: Wtf8<'_>) -> Utf8Prefix
         ensures order { result.len ≤ self.len }
@@ -52,7 +50,6 @@ impl Utf8Prefix {
         self.up_to(len)
     }
 
-    /// The prefix after a truncation to `len` bytes: all of them if they are within it, else unchanged.
     #[inline(always)]
     pub(crate) fn after_truncate(self, len: usize) -> Utf8Prefix
         ensures { (c : List ℕ) → length (bytes c) ≡ len → AreScalarTo self.len c → AreScalarTo result.len c }

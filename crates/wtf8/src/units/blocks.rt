@@ -19,8 +19,7 @@ const OTHERS_OF_THREES: [usize; 16] = [2, 1, 5, 4, 8, 7, 11, 10, 14, 13, 25, 24,
 
 /// Code points of one unit and `WIDTH` bytes each, of which `N` are decoded from a load of `BYTES` bytes.
 pub(crate) trait EncodedLength<const N: usize, const WIDTH: usize, const BYTES: usize> {
-    /// Decodes `N` code points as if all had `WIDTH` bytes. Returns their units, and how many of them at the front are
-    /// right: the ones before the first code point of another length.
+    /// Decodes `N` code points as if all had `WIDTH` bytes. Returns their units, and how many at the front are right.
     fn read(bytes: &[u8]) -> ([u16; N], usize)
         requires { BYTES ≤ length bytes.now }
         ensures within { (result.1 ≤ N) × (result.1 ≤ WIDTH * result.1) × (WIDTH * result.1 ≤ BYTES) }
@@ -28,10 +27,8 @@ pub(crate) trait EncodedLength<const N: usize, const WIDTH: usize, const BYTES: 
         ensures begins { BeginsWithUnits bytes.now (take result.1 result.0) (WIDTH * result.1) };
 }
 
-/// ASCII.
 pub(crate) struct OneByte;
 
-/// Code points of two bytes.
 pub(crate) struct TwoBytes;
 
 /// Code points of three bytes, surrogates included.
@@ -82,7 +79,6 @@ fn read_twos(bytes: u8x16) -> (u8x8, [u16; 8])
     (first, units.to_array())
 }
 
-/// Whether `lane / size` is `prefix` in all lanes.
 #[inline(always)]
 fn all_have_prefix<const N: usize>(lanes: Simd<u16, N>, size: u16, prefix: u16) -> bool
     requires lanes { N ≤ u64.BITS }
@@ -93,8 +89,7 @@ fn all_have_prefix<const N: usize>(lanes: Simd<u16, N>, size: u16, prefix: u16) 
     kinds.simd_ne(Simd::splat(prefix)).to_bitmask() == 0
 }
 
-/// Decodes sixteen two-byte code points by words. Returns their lead bytes, which are not checked here, and their
-/// units.
+/// Decodes sixteen two-byte code points by words. Returns their lead bytes, not checked here, and their units.
 #[inline(always)]
 fn read_sixteen_twos(bytes: u8x32) -> (u16x16, [u16; 16])
     ensures firsts { result.0 ≡ map_run 2 (λ w. get_or w 0 0) 16 bytes }
@@ -106,9 +101,8 @@ fn read_sixteen_twos(bytes: u8x32) -> (u16x16, [u16; 16])
     (words % u16x16::splat(256), (high + low).to_array())
 }
 
-/// Decodes eight three-byte code points, of bytes 0 to 15 and 8 to 23, by words. Returns their lead bytes, twice each
-/// in a word and not checked here, and their units. Of one load of 32 bytes LLVM takes bytes 16 to 23 one by one, in
-/// three times the time.
+/// Decodes eight three-byte code points, of bytes 0 to 15 and 8 to 23: of one load of 32 bytes LLVM takes bytes 16 to
+/// 23 one by one, in three times the time. Returns lead bytes, twice each in a word, not checked here, and units.
 #[inline(always)]
 fn read_eight_threes(front: u8x16, back: u8x16) -> (u16x8, [u16; 8])
     ensures firsts { result.0 ≡ map_run 3 (λ w. 257 * get_or w 0 0) 8 (front ++ drop 8 back) }

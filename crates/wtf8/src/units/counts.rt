@@ -58,7 +58,6 @@ fn utf16_len_of_block<const N: usize>(bytes: Simd<u8, N>) -> usize
     usize::from(utf16_len_of_each(bytes).strict_reduce_sum())
 }
 
-/// Counts the units of the code points that begin in `SUMMED_BLOCKS` blocks from `position` on, by one horizontal sum.
 #[inline(always)]
 fn utf16_len_of_blocks(bytes: &[u8], position: usize) -> usize
     requires { position + SUMMED_BLOCKS * BLOCK ≤ length bytes.now }
@@ -98,8 +97,7 @@ pub(crate) fn skip_block<const N: usize>(
     })
 }
 
-/// Skips groups of `SUMMED_BLOCKS` blocks from the start, before the code point that holds the unit, while the unit is
-/// at least `LEAST_UNITS_SUMMED` units ahead.
+/// Skips groups of blocks from the start while the unit is at least `LEAST_UNITS_SUMMED` units ahead.
 #[inline(always)]
 #[tactic(auto, using(crate::proofs::lemmas::strings::Positions::sum_utf16_len_take_add))]
 pub(crate) fn skip_summed_blocks(bytes: &[u8], unit: usize) -> UnitCursor

@@ -10,7 +10,6 @@ use crate::units::positions::cut_at;
 
 /// A byte position and the number of code units before it. It is a mark of a string if the bytes before the position
 /// encode exactly that number of units and the bytes after it encode the rest, so it splits no surrogate pair.
-///
 /// `Wtf8::start_mark` returns the first one, and `Wtf8::mark_at` finds others.
 #[derive(Clone, Copy)]
 pub struct UnitMark {
@@ -74,8 +73,7 @@ impl<'a> Wtf8<'a> {
         self.mark_at(start, units)
     }
 
-    /// A mark with at most `units` code units before it. Goes back three bytes for each unit, since no unit takes more,
-    /// and from there to a boundary.
+    /// Goes back three bytes for each unit, since no unit takes more, and from there to a boundary.
     fn mark_shortly_before(&self, from: UnitMark, units: usize) -> UnitMark
         requires mark { IsMarkOf self.now from }
         requires order { units ≤ from.units }

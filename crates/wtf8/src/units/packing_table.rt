@@ -5,8 +5,7 @@ ghost use lib.Lanes.{Each1};
 
 use std::simd::prelude::*;
 
-/// Shuffles that pack the words of the positions whose bit is set in the index of the row at the front of a vector of
-/// eight words. The lanes after these are not used.
+/// Each row packs the words whose bit is set in its index at the front of eight words. Lanes after these are not used.
 const PACKING_ROWS: &[[u8; 16]; 256] = &[
     [0, 0, 0, 0, 0, 0, 0, 0, 0, 0, 0, 0, 0, 0, 0, 0],
     [0, 1, 0, 0, 0, 0, 0, 0, 0, 0, 0, 0, 0, 0, 0, 0],
@@ -266,7 +265,6 @@ const PACKING_ROWS: &[[u8; 16]; 256] = &[
     [0, 1, 2, 3, 4, 5, 6, 7, 8, 9, 10, 11, 12, 13, 14, 15],
 ];
 
-/// The shuffle at `index` of `PACKING_ROWS`.
 #[inline(always)]
 pub(crate) fn packing_row(index: usize) -> u8x16
     requires { index < 256 }

@@ -22,10 +22,8 @@ const WORTH_BLOCK: usize = BLOCK / 3;
 /// 16, that of a marked text of CJK takes 484 for 419.
 const WORTH_VECTOR: usize = 11;
 
-/// The same for `HALF_VECTOR` bytes.
 const WORTH_HALF_VECTOR: usize = WORTH_VECTOR / 2;
 
-/// Skips bytes before the unit, in blocks from the start; `find_unit` goes on from there.
 #[inline(always)]
 fn skip_blocks(bytes: &[u8], unit: usize) -> UnitCursor
     ensures { IsCursor bytes.now unit result }
@@ -54,8 +52,6 @@ fn skip_blocks_of_long(bytes: &[u8], unit: usize) -> UnitCursor
     skip_ascii::<HALF_VECTOR>(bytes, unit, cursor).unwrap_or(cursor)
 }
 
-/// Skips blocks of `N` bytes before the code point that holds the unit, while the unit is at least `least` units ahead:
-/// closer than that it is probably in the next block, which is then not worth counting.
 #[inline(always)]
 fn skip_blocks_while_far<const N: usize>(
     bytes: &[u8],
@@ -124,8 +120,7 @@ fn find_unit(bytes: &[u8], unit: usize) -> UnitCursor
     }
 }
 
-/// Where the first `n` units end; `n` must be at most the number of units. If they end inside a surrogate pair, the
-/// cursor is before it, one unit less.
+/// Where the first `n` units end. If that is inside a surrogate pair, the cursor is before the pair, one unit less.
 #[inline(always)]
 pub(crate) fn cut_at(view: Wtf8<'_>, n: usize) -> UnitCursor
     requires { n ≤ length (view_units view) }
@@ -136,8 +131,7 @@ pub(crate) fn cut_at(view: Wtf8<'_>, n: usize) -> UnitCursor
     find_unit(view.bytes, n)
 }
 
-/// Where the first `n` units end, or `None` if there are fewer. If they end inside a surrogate pair, the cursor is
-/// before it, one unit less. Counts nothing if `n` exceeds the length in bytes, which is at least the number of units.
+/// Like `cut_at`, but `None` if there are fewer units. Counts nothing if `n` exceeds the length in bytes.
 #[inline(always)]
 pub(crate) fn find_cut(view: Wtf8<'_>, n: usize) -> Option<UnitCursor>
     ensures some { IfSome result (λ cut. IsCursorOfUnit view.entry.bytes.now n cut) }
@@ -155,8 +149,7 @@ pub(crate) fn find_cut(view: Wtf8<'_>, n: usize) -> Option<UnitCursor>
     Some(cut)
 }
 
-/// Returns the unit at `index`, or `None` at or past the end, counted from the front. Counts nothing if `index` is at
-/// least the length in bytes, which is at least the number of units. Not inlined, so that the ASCII path stays small.
+/// Counts nothing if `index` is at least the length in bytes. Not inlined, so that the ASCII path stays small.
 #[inline(never)]
 fn unit_by_count(view: Wtf8<'_>, index: usize) -> Option<u16>
     ensures { result ≡ slice_get (view_units view.entry) index }

@@ -27,7 +27,6 @@ const UP_BY_THREE: [usize; 32] = [
     23, 24, 25, 26, 27, 28,
 ];
 
-/// FF in the last lane.
 const LAST_LANE: [u8; 32] = [
     0, 0, 0, 0, 0, 0, 0, 0, 0, 0, 0, 0, 0, 0, 0, 0, 0, 0, 0, 0, 0, 0, 0, 0, 0, 0, 0, 0, 0, 0, 0,
     255,
@@ -54,7 +53,6 @@ pub(crate) struct UnitEnds {
     pub(crate) ends: u64,
 }
 
-/// The bytes one, two and three positions before each byte of a block, and zeros before the block.
 #[inline(always)]
 fn bytes_before(bytes: u8x32) -> (u8x32, u8x32, u8x32)
     ensures one { result.0 ≡ bytes_one_before bytes }
@@ -93,8 +91,7 @@ fn units_of_two(bytes: u8x32, one_before: u8x32) -> (u8x32, u8x32)
     )
 }
 
-/// The high byte of the unit of one to three bytes that ends at each position, from that of two bytes. The low byte is
-/// the same.
+/// The high byte of units of up to three bytes, from that of up to two. The low byte is the same.
 #[inline(always)]
 fn high_of_three(bytes: u8x32, two_before: u8x32, high: u8x32) -> u8x32
     requires two { two_before ≡ bytes_two_before bytes }
@@ -104,8 +101,7 @@ fn high_of_three(bytes: u8x32, two_before: u8x32, high: u8x32) -> u8x32
     high + two_before.saturating_sub(u8x32::splat(0xE0)) * u8x32::splat(16)
 }
 
-/// The low and the high byte of the unit that ends at each position, from those of one to three bytes. The third of
-/// four bytes ends a lead, the fourth a trail.
+/// Takes the low and high bytes of units of up to three bytes. The third of four ends a lead, the fourth a trail.
 #[inline(always)]
 fn units_of_four(
     bytes: u8x32,
@@ -198,7 +194,6 @@ pub(crate) fn unit_ends(bytes: u8x32) -> UnitEnds
     }
 }
 
-/// Packs the words whose bit is set in `index`; the units after these are not used.
 #[inline(always)]
 pub(crate) fn pack_words(lanes: u8x16, index: usize) -> [u16; 8]
     requires { index < 256 }
@@ -208,7 +203,6 @@ pub(crate) fn pack_words(lanes: u8x16, index: usize) -> [u16; 8]
     u16x8::from_le_bytes(lanes.swizzle_dyn(packing_row(index))).to_array()
 }
 
-/// The words of positions 0 to 7, 8 to 15, 16 to 23 and 24 to 31.
 #[inline(always)]
 pub(crate) fn interleave(low: u8x32, high: u8x32) -> (u8x16, u8x16, u8x16, u8x16)
     ensures first { words result.0 ≡ take 8 (joined_words low high) }

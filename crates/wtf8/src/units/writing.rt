@@ -31,8 +31,7 @@ const SCRATCH_UNITS: usize = 4 * VECTOR;
 /// From this many bytes on a block of any kind can be loaded, so that the length is compared once for all kinds.
 const LONGEST_LOAD: usize = 2 * VECTOR;
 
-/// The positions at which units end in 32 bytes of two-byte code points; below, in 24 bytes of three-byte ones and the
-/// lead byte after them.
+/// Where units end in 32 bytes of two-byte code points; below, in 24 of three-byte ones and the lead byte after them.
 const ENDS_OF_TWOS: u64 = 0xAAAA_AAAA;
 
 const ENDS_OF_THREES: u64 = 0x92_4924;
@@ -43,11 +42,10 @@ const FIRST_OF_FOUR: u8 = 0xF0;
 /// The most lanes of a vector, so the most units that one store writes.
 const MOST_LANES: usize = 64;
 
-/// The bytes at the end of a long string whose units `write_units` counts: `MOST_LANES` units or more, since a unit
-/// takes at most three. Stores of the bytes before reach no further.
+/// The bytes at the end of a string of `COUNTED_FROM` bytes or more whose units `write_units` counts: `MOST_LANES`
+/// units or more, since a unit takes at most three. Stores of the bytes before reach no further.
 const COUNTED_BYTES: usize = 3 * MOST_LANES;
 
-/// The length in bytes from which on `write_units` counts the units of the last `COUNTED_BYTES` alone.
 const COUNTED_FROM: usize = 2 * COUNTED_BYTES;
 
 /// The part of a view that is not decoded yet, and the index at which its first unit will be written.
@@ -90,7 +88,6 @@ fn append_ascii<const N: usize, B: Allocator>(
     Ok(())
 }
 
-/// The surrogate pair of a supplementary code point.
 #[inline(always)]
 #[tactic(auto, using(crate::proofs::lemmas::codec::Readings::units_two))]
 fn pair_of(code_point: CodePoint) -> [u16; 2]
@@ -103,7 +100,6 @@ fn pair_of(code_point: CodePoint) -> [u16; 2]
     [lead as u16, (FIRST_TRAIL as u32 + offset % per_half) as u16]
 }
 
-/// Decodes the first code point and writes its one or two units.
 #[inline(always)]
 fn decode_point<'a>(units: &mut [u16], left: Undecoded<'a>) -> Undecoded<'a>
     requires room { left.at + length (view_units left.view) ≤ length units.old }
@@ -118,6 +114,7 @@ fn decode_point<'a>(units: &mut [u16], left: Undecoded<'a>) -> Undecoded<'a>
         _ => {
             let (code_point, width) = encoding::read(bytes, 0);
             let value = code_point.to_u32();
+            // Two- and three-byte lead bytes are matched above, so a value below 0x10000 is ASCII.
             if value < 0x10000 {
                 return write_front(units, left, [value as u16], 1, width);
             }
@@ -127,8 +124,7 @@ fn decode_point<'a>(units: &mut [u16], left: Undecoded<'a>) -> Undecoded<'a>
     }
 }
 
-/// Writes the first `count` units of `block`, and skips the `width` bytes that encode them. The units of the block
-/// after these are written too, where later units come, or never read.
+/// The units of the block after the first `count` are written too, where later units come, or are never read.
 #[inline(always)]
 fn write_front<'a, const N: usize>(
     units: &mut [u16],
@@ -151,9 +147,7 @@ fn write_front<'a, const N: usize>(
     }
 }
 
-/// Decodes the code points of a kind at the front of one block, and returns whether they fill it. Does nothing and
-/// returns false if fewer than `BYTES` bytes are left or there is no room for `N` units. A full block advances by a
-/// constant, so that the next load need not wait for the count.
+/// Returns whether the block is full: then it advances by a constant, and the next load need not wait for the count.
 #[inline(always)]
 fn decode_block<
     'a,
@@ -181,8 +175,7 @@ fn decode_block<
     (write_front(units, left, block, count, WIDTH * count), false)
 }
 
-/// Decodes a run of code points of a kind by blocks. After a block that they do not fill, it decodes one code point of
-/// any kind. Ends when fewer than `BYTES` bytes are left or another kind follows.
+/// Decodes by blocks, and after one that is not full one code point of any kind, until another kind follows.
 #[inline(always)]
 fn decode_run<
     'a,
@@ -211,7 +204,6 @@ fn decode_run<
     }
 }
 
-/// Packs eight words and writes the units whose bit is set in `index`. Returns the index after them.
 #[inline(always)]
 fn store_packed(units: &mut [u16], at: usize, lanes: u8x16, index: usize) -> usize
     requires index { index < 256 }
@@ -225,7 +217,6 @@ fn store_packed(units: &mut [u16], at: usize, lanes: u8x16, index: usize) -> usi
     at + index.count_ones() as usize
 }
 
-/// Writes the units that end in a block. Returns the index after them.
 #[inline(always)]
 fn store_block(units: &mut [u16], at: usize, block: UnitEnds) -> usize
     requires room { at + POSITIONS ≤ length units.old }
@@ -240,7 +231,6 @@ fn store_block(units: &mut [u16], at: usize, block: UnitEnds) -> usize
     store_packed(units, after, last, ends / 0x100_0000 % 0x100)
 }
 
-/// Decodes code points one by one until fewer than `LONGEST_LOAD` bytes are left.
 #[inline(always)]
 fn decode_points<'a>(units: &mut [u16], left: Undecoded<'a>) -> Undecoded<'a>
     requires room { left.at + length (view_units left.view) ≤ length units.old }
@@ -255,8 +245,7 @@ fn decode_points<'a>(units: &mut [u16], left: Undecoded<'a>) -> Undecoded<'a>
     rest
 }
 
-/// Decodes the whole code points in the next `POSITIONS` bytes, of any kinds. If there is no room for as many units, so
-/// near the end, decodes code points one by one.
+/// Near the end, without room for `POSITIONS` units, decodes code points one by one.
 #[inline(always)]
 fn decode_positions<'a>(units: &mut [u16], left: Undecoded<'a>, bytes: u8x32) -> Undecoded<'a>
     requires room { left.at + length (view_units left.view) ≤ length units.old }
@@ -309,8 +298,7 @@ fn decode_full_blocks<
 /// Decodes 32 ASCII bytes, in 0.78 of the time that blocks of 16 take; or the ASCII bytes at the front and one other
 /// code point, if at least 16 are ASCII or a supplementary one follows, since by positions English takes 1.06 of the
 /// time and emoji in ASCII 1.18; or full blocks of two- or three-byte code points, which take 1.7 to 1.9 by positions;
-/// or the whole code points in the next 32 bytes. The positions at which units end only choose among these: each is
-/// right for any bytes.
+/// or all whole code points in 32 bytes. The positions of unit ends only choose: each way is right for any bytes.
 #[inline(always)]
 fn decode_next<'a>(units: &mut [u16], left: Undecoded<'a>) -> Undecoded<'a>
     requires room { left.at + length (view_units left.view) ≤ length units.old }
@@ -340,8 +328,7 @@ fn decode_next<'a>(units: &mut [u16], left: Undecoded<'a>) -> Undecoded<'a>
     decode_positions(units, left, block)
 }
 
-/// `decode_next` for fewer than `LONGEST_LOAD` bytes: decodes a run by blocks if the first two code points have one
-/// byte each, or two bytes each; else one code point.
+/// `decode_next` for fewer than `LONGEST_LOAD` bytes: by blocks if the first two code points have one byte each or two.
 #[inline(always)]
 fn decode_next_of_tail<'a>(units: &mut [u16], left: Undecoded<'a>) -> Undecoded<'a>
     requires room { left.at + length (view_units left.view) ≤ length units.old }
@@ -361,8 +348,7 @@ fn decode_next_of_tail<'a>(units: &mut [u16], left: Undecoded<'a>) -> Undecoded<
     }
 }
 
-/// Writes the units from index `from` on, and returns the index after them. What is at this index and later, up to
-/// `MOST_LANES` units, may be overwritten. Not inlined, so that all callers share the one loop.
+/// May overwrite up to `MOST_LANES` later units. Not inlined, so that all callers share the one loop.
 #[inline(never)]
 fn decode_all(units: &mut [u16], from: usize, view: Wtf8<'_>) -> usize
     requires room { from + length (view_units view) ≤ length units.old }
@@ -381,8 +367,7 @@ fn decode_all(units: &mut [u16], from: usize, view: Wtf8<'_>) -> usize
     left.at
 }
 
-/// Appends the units of a string of fewer than `SCRATCH_UNITS` bytes, by way of a buffer on the stack: cheaper for
-/// these than to count the units first. Not inlined, since a caller would pay for the buffer at each entry.
+/// Not inlined, since a caller would pay for the buffer on the stack at each entry.
 #[inline(never)]
 fn append_short<B: Allocator>(units: &mut Vec<u16, B>, view: Wtf8<'_>) -> Result<(), AllocError>
     requires { length view.bytes.now < SCRATCH_UNITS }
@@ -395,7 +380,6 @@ fn append_short<B: Allocator>(units: &mut Vec<u16, B>, view: Wtf8<'_>) -> Result
     units.extend_from_slice(&block[..count])
 }
 
-/// Appends the units of a string, which are counted first to size the vector.
 #[inline(never)]
 fn append_counted<B: Allocator>(units: &mut Vec<u16, B>, view: Wtf8<'_>) -> Result<(), AllocError>
     ensures { BecomesOrKeeps units.old (units.old.items ++ view_units view.entry) units.new result }
@@ -408,7 +392,6 @@ fn append_counted<B: Allocator>(units: &mut Vec<u16, B>, view: Wtf8<'_>) -> Resu
     Ok(())
 }
 
-/// Writes the units from index `from` on, and changes no other. They are counted first.
 #[inline(always)]
 fn write_counted(out: &mut [u16], from: usize, view: Wtf8<'_>) -> usize
     requires room { from + length (view_units view) ≤ length out.old }
