@@ -1,14 +1,18 @@
 // Kernel that encodes sixteen code units at a time, of any kinds. Unit k has three candidate bytes, fk, sk and lk, and
 // takes the last one, two or three of them: two if it is a lead or a trail of a pair, half of the pair's four bytes. A
-// lone surrogate takes three, by the same formulas as any other unit from 0800 on. With tk 0x80 if unit k takes three
-// bytes, else 0, its lanes of 16 bits are fk + 256 * sk in `heads` and lk + 256 * tk in `lasts`. Both are interleaved,
-// four units at a time. The lanes of 8 bits of units 0 to 3, by FIRST_QUARTER:
+// lone surrogate takes three, by the same formulas as any other unit from 0800 on. Unit k's lanes of 16 bits, where tk
+// is 0x80 if it takes three bytes, else 0:
+//
+//     heads    fk + 256 * sk
+//     lasts    lk + 256 * tk
+//
+// Both are interleaved, four units at a time. The lanes of 8 bits of units 0 to 3, by FIRST_QUARTER:
 //
 //     f0 s0 l0 t0  f1 s1 l1 t1  f2 s2 l2 t2  f3 s3 l3 t3
 //
 // A unit's last byte is 0x80 or more if it takes more than one. So the mask of the high bits of `lasts`, lane 0 lowest,
 // has two bits for each unit: whether it takes more than one byte, and whether it takes three. It is the index in
-// `SHUFFLES` for units 0-3, plus 256 times that for units 4-7, and so on.
+// `SHUFFLES` for units 0-3, plus 256 times that for units 4-7, and so on. A row packs the bytes to be written.
 #![tactic(auto)]
 
 ghost use Rattle.std.specs.Prelude.{◌≡◌, ◌⊎◌, ℕ, List, Bool, ◌&&◌, ◌+◌, ◌-◌, ◌*◌, ◌%◌, ◌/◌, ◌^◌, ◌<◌, ◌≤◌, ◌++◌, length, map, take, drop, replicate, slice_index_or, vec_capacity, IfOk, IsOk, IsTrue};
@@ -203,8 +207,9 @@ fn pack_block(units: u16x16, from: UnitBytes, scratch: &mut [u8], len: usize) ->
     pack_four(fourth.to_le_bytes(), rows / 16777216 % 256, scratch, len)
 }
 
-/// Leaves out a last unit that is a lead. Units without a surrogate take the cheaper path. A third path, for lone
-/// surrogates without a pair, made letters dearer by 6% and pairs by 8%: all paths share registers and constants.
+/// Encodes a block, without its last unit if that is a lead. Units without a surrogate take the cheaper path. A third
+/// path, for lone surrogates without a pair, made letters dearer by 6% and pairs by 8%: all paths share registers and
+/// constants.
 #[inline(always)]
 fn write_block(units: u16x16, scratch: &mut [u8], len: usize) -> Written
     requires room { len + MIN_SPARE ≤ length scratch.old }

@@ -73,7 +73,7 @@ impl<'a> Wtf8<'a> {
         self.mark_at(start, units)
     }
 
-    /// Goes back three bytes for each unit, since no unit takes more, and from there to a boundary.
+    /// A mark with at most `units` units before it: back three bytes for each, the most that one takes, to a boundary.
     fn mark_shortly_before(&self, from: UnitMark, units: usize) -> UnitMark
         requires mark { IsMarkOf self.now from }
         requires order { units ≤ from.units }

@@ -147,7 +147,8 @@ fn write_front<'a, const N: usize>(
     }
 }
 
-/// Returns whether the block is full: then it advances by a constant, and the next load need not wait for the count.
+/// Decodes the code points of a kind at the front of one block. Returns whether they fill it: then the next load need
+/// not wait for the count, since the block advances by a constant.
 #[inline(always)]
 fn decode_block<
     'a,
