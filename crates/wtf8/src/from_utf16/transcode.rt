@@ -8,13 +8,16 @@ use crate::codec::code_point::CodePoint;
 use crate::codec::encoding;
 use crate::from_utf16::decode;
 use crate::from_utf16::kernel::{self, LAST_UNITS, MIN_SPARE, Progress};
-use crate::lanes::ascii::ascii_run_len;
+use crate::lanes::ascii::first_not_ascii;
 use crate::vec::spare_capacity;
 use std::alloc::{AllocError, Allocator};
 use std::simd::prelude::*;
 
 /// The number of units that are searched for an ASCII run at once while as many are left.
 const LONG_RUN: usize = 32;
+
+/// The least number of `LONG_RUN` units that are not ASCII from which on blocks are cheaper than runs.
+const MANY_LETTERS: u32 = 5;
 
 /// The number of units that are searched for an ASCII run at once while as many are left, and fewer than `LONG_RUN`.
 const MEDIUM_RUN: usize = LONG_RUN / 2;
@@ -78,6 +81,46 @@ fn append_point<A: Allocator>(
     Ok(Progress { at, is_utf8 })
 }
 
+/// Appends the ASCII run at the front of the `N` units at index `from.at`, or nothing if the spare capacity is less than
+/// `N`. Returns how far units are encoded, and the mask of the units that are not ASCII.
+#[inline(always)]
+fn append_front<const N: usize, A: Allocator>(
+    bytes: &mut Vec<u8, A>,
+    v: &[u16],
+    from: Progress,
+) -> Result<(Progress, u64), AllocError>
+    requires lanes { (0 < N) × (N ≤ u64.BITS) }
+    requires within { from.at + N ≤ length v.now }
+    ensures order { IfOk result (λ r. (from.at ≤ r.0.at) × (r.0.at ≤ from.at + N)) }
+    ensures read { IfOk result (λ r. ReadsOn bytes.old.items bytes.new.items v.now from.at from.is_utf8 r.0.at r.0.is_utf8) }
+    ensures begins { take (length bytes.old.items) bytes.new.items ≡ bytes.old.items }
+    ensures room { HasRoomFrom bytes.old v.now from.at from.is_utf8 → IsOk result }
+    ensures capacity { vec_capacity bytes.old ≤ vec_capacity bytes.new }
+{
+    if spare_capacity(bytes) < N {
+        // The `N` units do not fit, since each takes a byte or more. The code point that the caller appends grows the
+        // buffer, so that the store below never does: long ASCII takes 0.97 of the instructions so.
+        return Ok((from, 0));
+    }
+    let block = narrow_saturating(Simd::<u16, N>::from_slice(&v[from.at..]));
+    let len = bytes.len();
+    bytes.extend_from_slice(&block.to_array())?;
+    let Some(count) = first_not_ascii(block) else {
+        // By a constant: the next load does not wait for the mask of this block.
+        let to = Progress {
+            at: from.at + N,
+            is_utf8: from.is_utf8,
+        };
+        return Ok((to, 0));
+    };
+    bytes.truncate(len + count);
+    let to = Progress {
+        at: from.at + count,
+        is_utf8: from.is_utf8,
+    };
+    Ok((to, block.simd_ge(Simd::splat(0x80)).to_bitmask()))
+}
+
 /// Appends the ASCII run at the front of the `N` units at index `from.at`, and the code point after it if the run is
 /// shorter than `N`; one code point if the spare capacity is less than `N`. Returns how far units are encoded.
 #[inline(always)]
@@ -94,27 +137,10 @@ fn append_ascii_run<const N: usize, A: Allocator>(
     ensures room { HasRoomFrom bytes.old v.now from.at from.is_utf8 → IsOk result }
     ensures capacity { vec_capacity bytes.old ≤ vec_capacity bytes.new }
 {
-    if spare_capacity(bytes) < N {
-        // The `N` units do not fit, since each takes a byte or more. `append_point` grows the buffer, so that the store
-        // below never does: long ASCII takes 0.97 of the instructions so.
-        return append_point(bytes, v, from);
+    let (to, _) = append_front::<N, A>(bytes, v, from)?;
+    if to.at == from.at + N {
+        return Ok(to);
     }
-    let block = narrow_saturating(Simd::<u16, N>::from_slice(&v[from.at..]));
-    let count = ascii_run_len(block);
-    let end = bytes.len() + count;
-    bytes.extend_from_slice(&block.to_array())?;
-    if count == N {
-        // By a constant: the next load does not wait for the mask of this block.
-        return Ok(Progress {
-            at: from.at + N,
-            is_utf8: from.is_utf8,
-        });
-    }
-    bytes.truncate(end);
-    let to = Progress {
-        at: from.at + count,
-        is_utf8: from.is_utf8,
-    };
     append_point(bytes, v, to)
 }
 
@@ -135,14 +161,27 @@ fn append_next<const SCRATCH: usize, A: Allocator>(
     ensures capacity { vec_capacity bytes.old ≤ vec_capacity bytes.new }
 {
     let at = from.at;
+    let mut to = from;
     if v[at] < 0x80 {
-        return append_ascii_run::<LONG_RUN, A>(bytes, v, from);
-    }
-    // ASCII that follows soon is most often a run: encode one code point, and leave the run to a later step.
-    if v[at + 1] < 0x80 || v[at + 2] < 0x80 {
+        if spare_capacity(bytes) < LONG_RUN {
+            return append_point(bytes, v, from);
+        }
+        let (front, letters) = append_front::<LONG_RUN, A>(bytes, v, from)?;
+        to = front;
+        if to.at == at + LONG_RUN {
+            return Ok(to);
+        }
+        if 0x800 <= v[to.at]
+            || letters.count_ones() < MANY_LETTERS
+            || v.len() - to.at < LAST_UNITS
+        {
+            return append_point(bytes, v, to);
+        }
+    } else if v[at + 1] < 0x80 || v[at + 2] < 0x80 {
+        // ASCII that follows soon is most often a run: encode one code point, and leave the run to a later step.
         return append_point(bytes, v, from);
     }
-    kernel::append_blocks::<SCRATCH, A>(bytes, v, from)
+    kernel::append_blocks::<SCRATCH, A>(bytes, v, to)
 }
 
 /// Appends the bytes of the next units, `LAST_UNITS` or more: an ASCII run and the code point after it, or blocks, of
