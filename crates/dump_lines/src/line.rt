@@ -36,7 +36,7 @@ impl<A: Allocator + Copy> LineBuffers<A> {
             return Ok(());
         }
         if !parse_calls(line, &mut self.calls)? {
-            return Ok(out.push(b'?')?);
+            return out.extend_from_slice(b"?");
         }
         self.string.clear();
         let Ok(refused) = self.string.apply_all(self.calls.as_slice()) else {

@@ -1,5 +1,5 @@
 // Calls that make a string and let it go.
-ghost use Rattle.std.specs.Prelude.{◌≡◌, [], ◌+◌, ◌*◌, ◌≤◌, ◌⊎◌, ◌↔◌, IsTrue, IsFalse, length};
+ghost use Rattle.std.specs.Prelude.{◌≡◌, [], ◌+◌, ◌*◌, ◌≤◌, ◌⊎◌, ◌↔◌, IsTrue, IsFalse, IfOk, length};
 ghost use Rattle.std.specs.Str.{chars, IsUtf8};
 ghost use Rattle.std.specs.Str.Lossy.{utf8_valid_len};
 ghost use Rattle.wtf8.specs.Appending.{KeepsContents};
@@ -10,10 +10,14 @@ ghost use Rattle.wtf8_c.specs.Contents.{contents, no_string};
 use crate::codes::{NO_MEMORY, NOT_UTF8, OK, code_of};
 use crate::handle::Wtf8String;
 use crate::opening::view;
-use std::alloc::Global;
+use std::alloc::{AllocError, Global};
 use std::str;
 use unit_text::IndexedBuf;
 use wtf8::Wtf8;
+
+/// The most units for which a string that is set again gets the capacity for any units of that number, of which ASCII
+/// takes a third.
+const ROOMY_UNITS: usize = 1024;
 
 /// Replaces the units of the string.
 #[unsafe(no_mangle)]
@@ -30,11 +34,31 @@ pub extern "C" fn wtf8_set_units(alloc: Global, string: &mut Wtf8String, units: 
             string.put(buf);
             code_of(pushed)
         }
-        None => match IndexedBuf::from_units(alloc, units) {
-            Ok(made) => replace(alloc, string, made),
-            Err(_) => NO_MEMORY,
-        },
+        None => {
+            let made = if string.is_full() {
+                with_room_for_others(alloc, units)
+            } else {
+                IndexedBuf::from_units(alloc, units)
+            };
+            match made {
+                Ok(made) => replace(alloc, string, made),
+                Err(_) => NO_MEMORY,
+            }
+        }
     }
+}
+
+/// Makes a buffer of units that replaces another. If there are at most `ROOMY_UNITS`, any units of that number will fit
+/// it, so that a string which is set again and again asks for memory once.
+fn with_room_for_others(alloc: Global, units: &[u16]) -> Result<IndexedBuf<Global>, AllocError>
+    ensures { IfOk result (λ b. b.units ≡ units.now) }
+{
+    if ROOMY_UNITS < units.len() {
+        return IndexedBuf::from_units(alloc, units);
+    }
+    let mut made = IndexedBuf::with_capacity(alloc, 3 * units.len())?;
+    made.push_units(units)?;
+    Ok(made)
 }
 
 /// Replaces the string by a text, which must be UTF-8. If it is not, the length of its longest front that is UTF-8 is
@@ -183,17 +207,24 @@ pub extern "C" fn wtf8_mark(alloc: Global, string: &mut Wtf8String) -> i32
     OK
 }
 
-/// Replaces the string's buffer.
+/// Replaces the string's buffer. Needs no memory if there is one.
 pub(crate) fn replace(alloc: Global, string: &mut Wtf8String, made: IndexedBuf<Global>) -> i32
     ensures code { (result ≡ OK) ⊎ (result ≡ NO_MEMORY) }
     ensures ok { result ≡ OK → contents string.new ≡ made }
     ensures kept { result ≡ NO_MEMORY → contents string.new ≡ contents string.old }
 {
-    let Ok(buf) = Box::new(alloc, made) else {
-        return NO_MEMORY;
-    };
-    let replaced = string.take(alloc);
-    drop(replaced);
-    string.put(buf);
-    OK
+    match string.take(alloc) {
+        Some(mut held) => {
+            *held = made;
+            string.put(held);
+            OK
+        }
+        None => match Box::new(alloc, made) {
+            Ok(held) => {
+                string.put(held);
+                OK
+            }
+            Err(_) => NO_MEMORY,
+        },
+    }
 }

@@ -7,7 +7,7 @@ use crate::codec::code_point::CodePoint;
 use crate::codec::encoding;
 use crate::from_utf16::decode;
 use crate::from_utf16::kernel::{self, LAST_UNITS, MIN_SPARE, Progress};
-use crate::lanes::ascii::ascii_run_len;
+use crate::lanes::ascii::first_not_ascii;
 use crate::vec::spare_capacity;
 use std::alloc::{AllocError, Allocator};
 use std::simd::prelude::*;
@@ -21,6 +21,10 @@ const MEDIUM_RUN: usize = LONG_RUN / 2;
 const SMALL_RUN: usize = MEDIUM_RUN / 2;
 
 const SHORT_RUN: usize = SMALL_RUN / 2;
+
+/// With at least this number of `LONG_RUN` units not ASCII, blocks are cheaper than runs: text with an accent in six
+/// letters takes half the time. With 2 in place of 5, one with an accent in 25 takes 1.24 of it.
+const MANY_LETTERS: u32 = 5;
 
 /// The number of units from which on the kernel's scratch buffer has `LONG_SCRATCH_BYTES`. If it has them from 32 units
 /// on, lists of 40 with lone surrogates take 1.5 to 2.9% more instructions.
@@ -72,6 +76,46 @@ fn append_point<A: Allocator>(
     Ok(Progress { at, is_utf8 })
 }
 
+/// Appends the ASCII run in the next `N` units, or nothing if the spare capacity is less than `N`. Returns how far units
+/// are encoded, and the mask of the units that are not ASCII, or 0 if there is no room.
+#[inline(always)]
+fn append_front<const N: usize, A: Allocator>(
+    bytes: &mut Vec<u8, A>,
+    v: &[u16],
+    from: Progress,
+) -> Result<(Progress, u64), AllocError>
+    requires lanes { (0 < N) × (N ≤ u64.BITS) }
+    requires within { from.at + N ≤ length v.now }
+    ensures order { IfOk result (λ r. (from.at ≤ r.0.at) × (r.0.at ≤ from.at + N)) }
+    ensures read { IfOk result (λ r. ReadsOn bytes.old.items bytes.new.items v.now from.at from.is_utf8 r.0.at r.0.is_utf8) }
+    ensures begins { take (length bytes.old.items) bytes.new.items ≡ bytes.old.items }
+    ensures room { HasRoomFrom bytes.old v.now from.at from.is_utf8 → IsOk result }
+    ensures capacity { vec_capacity bytes.old ≤ vec_capacity bytes.new }
+{
+    if spare_capacity(bytes) < N {
+        // The `N` units do not fit, since each takes a byte or more. The code point that the caller appends grows the
+        // buffer, so that the store below never does: long ASCII takes 0.97 of the instructions so.
+        return Ok((from, 0));
+    }
+    let block = narrow_saturating(Simd::<u16, N>::from_slice(&v[from.at..]));
+    let len = bytes.len();
+    bytes.extend_from_slice(&block.to_array())?;
+    let Some(count) = first_not_ascii(block) else {
+        // By a constant: the next load does not wait for the mask of this block.
+        let to = Progress {
+            at: from.at + N,
+            is_utf8: from.is_utf8,
+        };
+        return Ok((to, 0));
+    };
+    bytes.truncate(len + count);
+    let to = Progress {
+        at: from.at + count,
+        is_utf8: from.is_utf8,
+    };
+    Ok((to, block.simd_ge(Simd::splat(0x80)).to_bitmask()))
+}
+
 /// Appends the ASCII run in the next `N` units and the code point after it; one code point if spare capacity is less.
 #[inline(always)]
 fn append_ascii_run<const N: usize, A: Allocator>(
@@ -87,27 +131,10 @@ fn append_ascii_run<const N: usize, A: Allocator>(
     ensures room { HasRoomFrom bytes.old v.now from.at from.is_utf8 → IsOk result }
     ensures capacity { vec_capacity bytes.old ≤ vec_capacity bytes.new }
 {
-    if spare_capacity(bytes) < N {
-        // The `N` units do not fit, since each takes a byte or more. `append_point` grows the buffer, so that the store
-        // below never does: long ASCII takes 0.97 of the instructions so.
-        return append_point(bytes, v, from);
+    let (to, _) = append_front::<N, A>(bytes, v, from)?;
+    if to.at == from.at + N {
+        return Ok(to);
     }
-    let block = narrow_saturating(Simd::<u16, N>::from_slice(&v[from.at..]));
-    let count = ascii_run_len(block);
-    let end = bytes.len() + count;
-    bytes.extend_from_slice(&block.to_array())?;
-    if count == N {
-        // By a constant: the next load does not wait for the mask of this block.
-        return Ok(Progress {
-            at: from.at + N,
-            is_utf8: from.is_utf8,
-        });
-    }
-    bytes.truncate(end);
-    let to = Progress {
-        at: from.at + count,
-        is_utf8: from.is_utf8,
-    };
     append_point(bytes, v, to)
 }
 
@@ -127,14 +154,29 @@ fn append_next<const SCRATCH: usize, A: Allocator>(
     ensures capacity { vec_capacity bytes.old ≤ vec_capacity bytes.new }
 {
     let at = from.at;
+    let mut to = from;
     if v[at] < 0x80 {
-        return append_ascii_run::<LONG_RUN, A>(bytes, v, from);
-    }
-    // ASCII that follows soon is most often a run: encode one code point, and leave the run to a later step.
-    if v[at + 1] < 0x80 || v[at + 2] < 0x80 {
+        // With this test in `append_front` alone, emoji in ASCII take 5% more instructions.
+        if spare_capacity(bytes) < LONG_RUN {
+            return append_point(bytes, v, from);
+        }
+        let (front, letters) = append_front::<LONG_RUN, A>(bytes, v, from)?;
+        to = front;
+        if to.at == at + LONG_RUN {
+            return Ok(to);
+        }
+        // Pairs and punctuation among ASCII are cheaper one by one.
+        if 0x800 <= v[to.at]
+            || letters.count_ones() < MANY_LETTERS
+            || v.len() - to.at < LAST_UNITS
+        {
+            return append_point(bytes, v, to);
+        }
+    } else if v[at + 1] < 0x80 || v[at + 2] < 0x80 {
+        // ASCII that follows soon is most often a run: encode one code point, and leave the run to a later step.
         return append_point(bytes, v, from);
     }
-    kernel::append_blocks::<SCRATCH, A>(bytes, v, from)
+    kernel::append_blocks::<SCRATCH, A>(bytes, v, to)
 }
 
 /// Takes a step while `LAST_UNITS` or more units are left. The last block may have fewer units than others.

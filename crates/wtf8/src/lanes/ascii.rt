@@ -1,9 +1,19 @@
 // ASCII in blocks of bytes: whether all bytes are ASCII, and how many at the front are.
-ghost use Rattle.std.specs.Prelude.{◌*◌, ◌≤◌, length, take, IsTrue};
+ghost use Rattle.std.specs.Prelude.{◌*◌, ◌<◌, ◌≤◌, length, take, IsTrue, IfNone, IfSome};
 ghost use Rattle.wtf8.specs.private.Prefixes.{AreAscii};
 
 use crate::lanes::first_set_lane;
 use std::simd::prelude::*;
+
+/// Returns the index of the first byte that is not ASCII, or `None` if all are.
+#[inline(always)]
+pub(crate) fn first_not_ascii<const N: usize>(bytes: Simd<u8, N>) -> Option<usize>
+    requires { N ≤ u64.BITS }
+    ensures none { IfNone result (AreAscii bytes.entry) }
+    ensures some { IfSome result (λ n. (n < N) × AreAscii (take n bytes.entry)) }
+{
+    first_set_lane(bytes.simd_ge(Simd::splat(0x80)).to_bitmask())
+}
 
 #[inline(always)]
 pub(crate) fn ascii_run_len<const N: usize>(bytes: Simd<u8, N>) -> usize
@@ -11,7 +21,7 @@ pub(crate) fn ascii_run_len<const N: usize>(bytes: Simd<u8, N>) -> usize
     ensures within { result ≤ N }
     ensures ascii { AreAscii (take result bytes.entry) }
 {
-    first_set_lane(bytes.simd_ge(Simd::splat(0x80)).to_bitmask()).unwrap_or(N)
+    first_not_ascii(bytes).unwrap_or(N)
 }
 
 #[inline(always)]

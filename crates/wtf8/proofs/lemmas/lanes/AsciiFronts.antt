@@ -1,9 +1,10 @@
 -- ASCII lanes of a block.
 use Rattle.wtf8.proofs.Common.{◌≡◌, ℕ, zero, suc, ◌+◌, ◌-◌, ◌%◌, ◌^◌, ◌<◌, ◌≤◌, leb, le-leb, cond, List, [], ◌∷◌, map, length, take, get_or}
 use Rattle.wtf8.proofs.Common.{replicate, refl, ap, ltb, lt-ltb, le-ltb, cases_lt, inl, inr, ◌∙◌, arith, subst, false, Each1, Option}
-use Rattle.wtf8.proofs.Common.{None, Some, tops_compared, zip2, mask_l, top, AreAscii, length-take, NoneIn, Each2, IsTrue, eqb, eqb-true}
-use Rattle.wtf8.proofs.Common.{take_all, chunk, length-chunk, get_or-chunk, length-map, sel_l, unwrap_or, min, Each1-from_get_or, IsFirstIn}
+use Rattle.wtf8.proofs.Common.{None, Some, IfSome, tops_compared, zip2, mask_l, top, AreAscii, length-take, NoneIn, Each2, IsTrue, eqb, eqb-true}
+use Rattle.wtf8.proofs.Common.{take_all, chunk, length-chunk, get_or-chunk, length-map, sel_l, min, Each1-from_get_or, IsFirstIn}
 use Rattle.wtf8.proofs.Common.{IsFirstSet, IsSet}
+use Rattle.std.specs.Option.{IfNone}
 use Rattle.std.proofs.lemmas.List.{get_or-map, get_or-take}
 use Rattle.std.proofs.lemmas.Simd.{zip2_splat_left, Each1-get_or, Each2-splat, Each1-all}
 use mir.Syntax.{Width}
@@ -24,19 +25,19 @@ module _ (w : Width) (n : ℕ) (xs : List ℕ) (few : n ≤ 64) (long : length x
       let lane = get_or-map (leb 0x80) xs i 0 false (omega (arith, inside, le, long)) in
       grind (arith, get_or-take, le-leb, cases_lt, none i (omega arith) inside, lane))
 
-  pub ascii_before : (r : Option ℕ) → IsFirstSet non_ascii_mask r → (unwrap_or r n ≤ n) × AreAscii (take (unwrap_or r n) xs)
+  all_ascii : NoneIn (IsSet (map (leb 0x80) xs)) 0 n → AreAscii xs
+  all_ascii none = subst AreAscii (take_all n xs (omega (arith, long))) (AreAscii-take n (omega arith) none)
+
+  pub ascii_before : (r : Option ℕ) → IsFirstSet non_ascii_mask r → IfNone r (AreAscii xs) × IfSome r (λ k. (k < n) × AreAscii (take k xs))
   ascii_before r first = by r (first n (map (leb 0x80) xs) few (length-map xs (leb 0x80) ∙ long) non_ascii_mask-mask_l)
     where
-      by : (r : Option ℕ) → IsFirstIn (IsSet (map (leb 0x80) xs)) 0 n r → (unwrap_or r n ≤ n) × AreAscii (take (unwrap_or r n) xs)
-      by None none = (omega arith, AreAscii-take n (omega arith) none)
-      by (Some k) h = (omega (arith, h.1), AreAscii-take k (omega (arith, h.1)) h.0.none_between)
+      by : (r : Option ℕ) → IsFirstIn (IsSet (map (leb 0x80) xs)) 0 n r → IfNone r (AreAscii xs) × IfSome r (λ k. (k < n) × AreAscii (take k xs))
+      by None none = (all_ascii none, tt)
+      by (Some k) h = (tt, (h.1, AreAscii-take k (omega (arith, h.1)) h.0.none_between))
 
   -- if the mask is 0, all lanes are ASCII
   pub ascii_if_none : IsTrue (eqb non_ascii_mask 0) → AreAscii xs
-  ascii_if_none t =
-      subst AreAscii (take_all n xs (omega (arith, long)))
-      (AreAscii-take n (omega arith)
-      (none_set non_ascii_mask n (map (leb 0x80) xs) few (length-map xs (leb 0x80) ∙ long) non_ascii_mask-mask_l (eqb-true _ 0 t)))
+  ascii_if_none t = all_ascii (none_set non_ascii_mask n (map (leb 0x80) xs) few (length-map xs (leb 0x80) ∙ long) non_ascii_mask-mask_l (eqb-true _ 0 t))
 
 -- a byte in an ASCII block is ASCII
 pub ascii_in_block : (n at : ℕ) (w : List ℕ) → at + n ≤ length w → AreAscii (chunk at n w) → (i : ℕ) → at ≤ i → i < at + n
