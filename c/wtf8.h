@@ -90,7 +90,9 @@ const char *wtf8_version(void);
  * an empty string.
  */
 
-/* Replaces the string by `n` units. Never refused if 3 bytes for each fit. Codes: OK, NO_MEMORY. */
+/* Replaces the string by `n` units. Never refused if 3 bytes for each fit. If they do not, a string that has a buffer
+ * gets a capacity of 3 bytes for each of up to 1,024 units, so that the next call with as many needs no memory. Codes: OK,
+ * NO_MEMORY. */
 WTF8_CODE wtf8_result wtf8_set_units(wtf8_string *string, const uint16_t *units, size_t n);
 
 /* Replaces the string by a text of `n` bytes. With NOT_UTF8 the position of the first byte that is not UTF-8 is written

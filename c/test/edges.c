@@ -927,6 +927,24 @@ static void replaced_in_place(void) {
     wtf8_free(&other);
 }
 
+/* A string that is set again has room for any units of that number from then on. */
+static void set_again(void) {
+    enum { UNITS = 12, LISTS = 100 };
+    uint16_t units[UNITS];
+    wtf8_string string = WTF8_EMPTY;
+    for (int i = 0; i < UNITS; i++) units[i] = (uint16_t)('a' + i);
+    must(wtf8_set_units(&string, units, UNITS) == WTF8_OK && wtf8_capacity(&string) < 3 * UNITS, "letters that are set");
+    long requested = requests;
+    must(wtf8_set_units(&string, units, UNITS) == WTF8_OK && wtf8_capacity(&string) >= 3 * UNITS, "letters set again");
+    must(requests == requested + 1, "the request of a string that is set again");
+    for (int list = 0; list < LISTS; list++) {
+        for (int i = 0; i < UNITS; i++) units[i] = (uint16_t)(list * 977 + i * 5003);
+        must(wtf8_set_units(&string, units, UNITS) == WTF8_OK && wtf8_equal_units(&string, units, UNITS), "units set again");
+    }
+    must(requests == requested + 1, "requests of units set again and again");
+    wtf8_free(&string);
+}
+
 /* Code points are taken off the end, each with the units of both halves of a pair, until none is left. */
 static void pops(void) {
     static const uint16_t units[] = {0xDC00, 0xD83D, 0xDCA9, 'a', 0xE9, 0x4E2D, 0xFFFF, 0xDBFF, 0xDFFF, 0xDFFF, 0,
@@ -1066,6 +1084,7 @@ int main(void) {
     marks();
     reserve();
     replaced_in_place();
+    set_again();
     pops();
     shrinks();
     kept_capacity();
