@@ -28,17 +28,28 @@ fn are_refused<'a>(heap: Lent<'a>, text: &mut UnitText<Lent<'a>>, refusal: Refus
     is_str_refused && is_view_refused && heap.requests() == 1
 }
 
+/// Fails unless 40 letters are refused in each way.
+fn expect_refused<'a>(heap: Lent<'a>, text: &mut UnitText<Lent<'a>>) -> Result<(), Failed> {
+    for refusal in REFUSALS {
+        expect(are_refused(heap, text, refusal), Wrong::Requests)?;
+    }
+    Ok(())
+}
+
+/// Fails unless 40 letters are appended to a text of two units.
+fn expect_appended<'a>(text: &mut UnitText<Lent<'a>>) -> Result<(), Failed> {
+    expect(text.push_str(LETTERS).is_ok(), Wrong::Memory)?;
+    expect(text.unit_len() == 42, Wrong::Units)
+}
+
 #[test]
 fn a_refused_string_is_not_appended(rt: HostRuntime) -> Result<(), Failed> {
     let heap = Refusing::new(rt.alloc(), 9);
     let mut text = made(UnitText::from_units(&heap, &[0x0061, 0xD83D]))?;
-    for refusal in REFUSALS {
-        expect(are_refused(&heap, &mut text, refusal), Wrong::Requests)?;
-    }
+    expect_refused(&heap, &mut text)?;
     expect_text(rt.alloc(), &text, &[0x0061, 0xD83D], "61 ED A0 BD")?;
     heap.grant(1);
-    expect(text.push_str(LETTERS).is_ok(), Wrong::Memory)?;
-    expect(text.unit_len() == 42, Wrong::Units)
+    expect_appended(&mut text)
 }
 
 /// Whether a text can be made of `value` with no request granted; there is one request if `value` is not empty.

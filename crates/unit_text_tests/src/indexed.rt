@@ -204,8 +204,10 @@ struct Row {
     dump: &'static str,
 }
 
-/// Code points, units and characters that are pushed.
-fn single_pushes() -> [Row; 7] {
+/// Code points, units and characters that are pushed, then strings and lists of units, and then slices: with the trail
+/// of a pair in front, which the lead at the end of a string meets or not, with a lead at the end, with both, and
+/// without any unit.
+fn pushes() -> [Row; 19] {
     [
         Row {
             front: &[0x0061],
@@ -249,12 +251,6 @@ fn single_pushes() -> [Row; 7] {
             units: &[0xD83D, 0xD83D, 0xDCA9],
             dump: "ED A0 BD F0 9F 92 A9",
         },
-    ]
-}
-
-/// Strings and lists of units that are pushed.
-fn string_pushes() -> [Row; 7] {
-    [
         Row {
             front: &[0x0061],
             push: Push::Str(""),
@@ -297,13 +293,6 @@ fn string_pushes() -> [Row; 7] {
             units: &[0x0061, 0xDCA9, 0xD83D],
             dump: "61 ED B2 A9 ED A0 BD",
         },
-    ]
-}
-
-/// Slices that are pushed: with the trail of a pair in front, which the lead at the end of a string meets or not, with a
-/// lead at the end, with both, and without any unit.
-fn slice_pushes() -> [Row; 5] {
-    [
         Row {
             front: &[0x0061, 0xD83D],
             push: Push::Slice(&[0xD83D, 0xDCA9, 0x00E9], 1, 3),
@@ -356,17 +345,7 @@ fn expect_push(alloc: Global, row: Row, is_marked: bool) -> Result<(), Failed> {
 #[test]
 fn each_call_that_pushes_appends_its_units(rt: HostRuntime) -> Result<(), Failed> {
     let mut index = 0usize;
-    for row in single_pushes() {
-        in_row(index, expect_push(rt.alloc(), row, false))?;
-        in_row(index, expect_push(rt.alloc(), row, true))?;
-        index = index.wrapping_add(1);
-    }
-    for row in string_pushes() {
-        in_row(index, expect_push(rt.alloc(), row, false))?;
-        in_row(index, expect_push(rt.alloc(), row, true))?;
-        index = index.wrapping_add(1);
-    }
-    for row in slice_pushes() {
+    for row in pushes() {
         in_row(index, expect_push(rt.alloc(), row, false))?;
         in_row(index, expect_push(rt.alloc(), row, true))?;
         index = index.wrapping_add(1);
@@ -395,7 +374,17 @@ fn hash_of(buf: &IndexedBuf<Global>) -> u64 {
     hasher.finish()
 }
 
-/// Fails unless the buffers of the units compare as the order of their numbers does. Both have the same hash if equal.
+/// Whether the buffers compare as `order` says. Both have the same hash if equal.
+fn are_ordered(buf: &IndexedBuf<Global>, other: &IndexedBuf<Global>, order: Ordering) -> bool {
+    let is_equal = order == Ordering::Equal;
+    let is_less = order == Ordering::Less;
+    buf.cmp(other) == order
+        && (buf == other) == is_equal
+        && (buf < other) == is_less
+        && (!is_equal || hash_of(buf) == hash_of(other))
+}
+
+/// Fails unless the buffers of the units compare as the order of their numbers does.
 fn expect_order(
     alloc: Global,
     (units, number): (&[u16], usize),
@@ -404,15 +393,7 @@ fn expect_order(
     let buf = made(IndexedBuf::from_units(alloc, units))?;
     let other = made(pushed_each(alloc, others))?;
     let order = number.cmp(&other_number);
-    let is_equal = order == Ordering::Equal;
-    expect(buf.cmp(&other) == order, Wrong::Outcome)?;
-    expect((buf == other) == is_equal, Wrong::Outcome)?;
-    let is_less = order == Ordering::Less;
-    expect((buf < other) == is_less, Wrong::Outcome)?;
-    expect(
-        !is_equal || hash_of(&buf) == hash_of(&other),
-        Wrong::Outcome,
-    )
+    expect(are_ordered(&buf, &other, order), Wrong::Outcome)
 }
 
 #[test]
@@ -585,14 +566,34 @@ fn pushed_str(alloc: Global, text: &str) -> Result<IndexedBuf<Global>, AllocErro
     Ok(buf)
 }
 
+/// Fails unless a buffer with marks has the units of its kind after these are pushed as one string.
+fn expect_pushed_view(
+    alloc: Global,
+    text: Wtf8<'_>,
+    units: &[u16],
+    kind: Kind,
+) -> Result<(), Failed> {
+    let buf = made(pushed_view(alloc, text))?;
+    expect_long(alloc, &buf, units, kind)
+}
+
+/// Fails unless a buffer with marks has the units of its kind after these are pushed as one text.
+fn expect_pushed_str(
+    alloc: Global,
+    text: Wtf8<'_>,
+    units: &[u16],
+    kind: Kind,
+) -> Result<(), Failed> {
+    let value = text.as_str().ok_or(Failed::by(Wrong::Outcome))?;
+    let buf = made(pushed_str(alloc, value))?;
+    expect_long(alloc, &buf, units, kind)
+}
+
 /// Fails unless a buffer with marks has the units of its kind after these are pushed as one string and as one text.
 fn expect_pushed_string(alloc: Global, units: &[u16], kind: Kind) -> Result<(), Failed> {
     let text = made(Wtf8Buf::from_ill_formed_utf16(alloc, units))?;
-    let view = made(pushed_view(alloc, text.as_wtf8()))?;
-    expect_long(alloc, &view, units, kind)?;
-    let value = text.as_wtf8().as_str().ok_or(Failed::by(Wrong::Outcome))?;
-    let buf = made(pushed_str(alloc, value))?;
-    expect_long(alloc, &buf, units, kind)
+    expect_pushed_view(alloc, text.as_wtf8(), units, kind)?;
+    expect_pushed_str(alloc, text.as_wtf8(), units, kind)
 }
 
 #[test]
@@ -604,17 +605,37 @@ fn a_buffer_has_marks_of_a_string_pushed_at_once(rt: HostRuntime) -> Result<(), 
     Ok(())
 }
 
+/// Fails unless a buffer to which the units were pushed one by one has these, without marks and with them.
+fn expect_long_each(alloc: Global, units: &[u16], kind: Kind) -> Result<(), Failed> {
+    let mut buf = made(pushed_each(alloc, units))?;
+    expect_long(alloc, &buf, units, kind)?;
+    buf.mark_units(alloc);
+    expect_long(alloc, &buf, units, kind)
+}
+
+/// Fails unless a copy of the buffer has the units.
+fn expect_long_copy(
+    alloc: Global,
+    buf: &IndexedBuf<Global>,
+    units: &[u16],
+    kind: Kind,
+) -> Result<(), Failed> {
+    let copy = made(buf.clone())?;
+    expect_long(alloc, &copy, units, kind)
+}
+
+/// Fails unless a buffer grown with marks, to which the units were pushed at once, has these, and its copy too.
+fn expect_long_at_once(alloc: Global, units: &[u16], kind: Kind) -> Result<(), Failed> {
+    let buf = made(pushed_at_once(alloc, units))?;
+    expect_long(alloc, &buf, units, kind)?;
+    expect_long_copy(alloc, &buf, units, kind)
+}
+
 /// Fails unless a long buffer of the kind has its units without marks, with them, and if it is grown with them.
 fn expect_kind(alloc: Global, kind: Kind) -> Result<(), Failed> {
     let units = made(long_units(alloc, kind))?;
-    let mut buf = made(pushed_each(alloc, &units))?;
-    expect_long(alloc, &buf, &units, kind)?;
-    buf.mark_units(alloc);
-    expect_long(alloc, &buf, &units, kind)?;
-    let at_once = made(pushed_at_once(alloc, &units))?;
-    expect_long(alloc, &at_once, &units, kind)?;
-    let copy = made(at_once.clone())?;
-    expect_long(alloc, &copy, &units, kind)
+    expect_long_each(alloc, &units, kind)?;
+    expect_long_at_once(alloc, &units, kind)
 }
 
 #[test]
@@ -665,16 +686,26 @@ fn expect_cut_near_end<A: Allocator>(
     expect(buf_has_units(buf, units), Wrong::Units)
 }
 
+/// Fails unless a buffer has its units and position from index `i` on, and if it is cut there.
+fn expect_from<A: Allocator>(
+    alloc: Global,
+    buf: &mut IndexedBuf<A>,
+    (units, kind): (&[u16], Kind),
+    i: usize,
+) -> Result<(), Failed> {
+    let is_found = i <= buf.unit_len() && buf.position_at(i) == position_of(kind, i);
+    expect(is_found, Wrong::Outcome)?;
+    expect_part(alloc, buf, units, i, LENGTH)?;
+    expect_cut_near_end(buf, units, i)
+}
+
 /// Fails unless a long buffer without marks has its units and positions from each of `last_indexes` on, and if it is cut
 /// there.
 fn expect_end(alloc: Global, kind: Kind) -> Result<(), Failed> {
     let units = made(long_units(alloc, kind))?;
     let mut buf = made(IndexedBuf::from_units(alloc, &units))?;
     for i in last_indexes() {
-        let is_found = i <= buf.unit_len() && buf.position_at(i) == position_of(kind, i);
-        in_row(i, expect(is_found, Wrong::Outcome))?;
-        in_row(i, expect_part(alloc, &buf, &units, i, LENGTH))?;
-        in_row(i, expect_cut_near_end(&mut buf, &units, i))?;
+        in_row(i, expect_from(alloc, &mut buf, (&units, kind), i))?;
     }
     Ok(())
 }
@@ -804,6 +835,30 @@ fn text_in_parts(
     Ok(text)
 }
 
+/// Fails unless a copy of the text equals it and has the units and bytes.
+fn expect_text_copied(
+    alloc: Global,
+    text: &UnitText<Global>,
+    units: &[u16],
+    dump: &str,
+) -> Result<(), Failed> {
+    let copy = made(text.clone())?;
+    expect(&copy == text, Wrong::Outcome)?;
+    expect_text(alloc, &copy, units, dump)
+}
+
+/// Fails unless the text has the units and bytes, also from index `cut` on, and its copy too.
+fn expect_text_and_copy(
+    alloc: Global,
+    text: &UnitText<Global>,
+    (units, dump): (&[u16], &str),
+    cut: usize,
+) -> Result<(), Failed> {
+    expect_text(alloc, text, units, dump)?;
+    expect(text_has_units_from(text, units, cut), Wrong::Units)?;
+    expect_text_copied(alloc, text, units, dump)
+}
+
 /// Fails unless a text pushed in two parts, cut after index `cut`, has the units and bytes, and its copy too.
 fn expect_text_in_parts(
     alloc: Global,
@@ -813,11 +868,7 @@ fn expect_text_in_parts(
 ) -> Result<(), Failed> {
     let (front, back) = units.split_at(cut.min(units.len()));
     let text = made(text_in_parts(alloc, front, back))?;
-    expect_text(alloc, &text, units, dump)?;
-    expect(text_has_units_from(&text, units, cut), Wrong::Units)?;
-    let copy = made(text.clone())?;
-    expect(copy == text, Wrong::Outcome)?;
-    expect_text(alloc, &copy, units, dump)
+    expect_text_and_copy(alloc, &text, (units, dump), cut)
 }
 
 /// Fails unless a text pushed in two parts, wherever they are cut, has the units and bytes.

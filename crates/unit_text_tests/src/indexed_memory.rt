@@ -29,8 +29,10 @@ struct Row {
     requests: u64,
 }
 
-/// Calls that append one code point, or nothing.
-fn single_pushes() -> [Row; 8] {
+/// Calls that append one code point, or nothing, then several code points, and then slices whose trail in front
+/// completes the pair, alone or before other code points, that have a lead at the end, or that are empty. Each part of
+/// a slice is appended separately, and a growth is at least to twice the capacity, which is four bytes at first.
+fn pushes() -> [Row; 16] {
     [
         Row {
             push: Push::Point(0xDCA9),
@@ -88,12 +90,6 @@ fn single_pushes() -> [Row; 8] {
             growth: 0,
             requests: 0,
         },
-    ]
-}
-
-/// Calls that append several code points.
-fn string_pushes() -> [Row; 3] {
-    [
         Row {
             push: Push::Str("aé💩"),
             units: &[0x0061, 0xD83D, 0x0061, 0x00E9, 0xD83D, 0xDCA9],
@@ -115,14 +111,6 @@ fn string_pushes() -> [Row; 3] {
             growth: 3,
             requests: 1,
         },
-    ]
-}
-
-/// Slices whose trail in front completes the pair, alone or before other code points, that have a lead at the end, or
-/// that are empty. Each part of a slice is appended separately, and a growth is at least to twice the capacity, which is
-/// four bytes at first.
-fn slice_pushes() -> [Row; 5] {
-    [
         Row {
             push: Push::Slice(&[0xD83D, 0xDCA9], 1, 2),
             units: &PAIR,
@@ -177,8 +165,30 @@ fn with_spare(heap: Lent<'_>, spare: usize) -> Result<IndexedBuf<Lent<'_>>, Allo
     Ok(buf)
 }
 
-/// Makes the row's call with `spare` bytes of spare capacity and every request refused. Fails unless it appends its
-/// units without a request if their bytes fit, and else changes nothing.
+/// Fails unless the buffer has the units and bytes of `FRONT`.
+fn expect_front<A: Allocator>(alloc: Global, buf: &IndexedBuf<A>) -> Result<(), Failed> {
+    expect_buf(alloc, buf, &FRONT, FRONT_DUMP)
+}
+
+/// Makes the row's call with `spare` bytes of spare capacity and every request of `heap` refused. Fails unless it
+/// appends its units without a request if their bytes fit, and else changes nothing.
+fn expect_fitting<A: Allocator>(
+    alloc: Global,
+    heap: Lent<'_>,
+    buf: &mut IndexedBuf<A>,
+    row: Row,
+    spare: usize,
+) -> Result<(), Failed> {
+    let is_pushed = push_to(alloc, buf, row.push).is_ok();
+    expect(is_pushed == (row.growth <= spare), Wrong::Outcome)?;
+    expect((heap.requests() == 0) == is_pushed, Wrong::Requests)?;
+    if is_pushed {
+        return expect_buf(alloc, buf, row.units, row.dump);
+    }
+    expect_front(alloc, buf)
+}
+
+/// Fails unless the row's call does what `expect_fitting` requires of the buffer of `FRONT`, with marks or without.
 fn expect_in_room(
     alloc: Global,
     heap: Lent<'_>,
@@ -186,25 +196,12 @@ fn expect_in_room(
     spare: usize,
     is_marked: bool,
 ) -> Result<(), Failed> {
-    let Row {
-        push,
-        units,
-        dump,
-        growth,
-        ..
-    } = row;
     let mut buf = made(with_spare(heap, spare))?;
     if is_marked {
         buf.mark_units(heap);
     }
     heap.grant(0);
-    let is_pushed = push_to(alloc, &mut buf, push).is_ok();
-    expect(is_pushed == (growth <= spare), Wrong::Outcome)?;
-    expect((heap.requests() == 0) == is_pushed, Wrong::Requests)?;
-    if is_pushed {
-        return expect_buf(alloc, &buf, units, dump);
-    }
-    expect_buf(alloc, &buf, &FRONT, FRONT_DUMP)
+    expect_fitting(alloc, heap, &mut buf, row, spare)
 }
 
 /// Fails unless the row's call does what `expect_in_room` requires at each spare capacity, up to one byte more than it
@@ -222,15 +219,7 @@ fn expect_in_each_room(alloc: Global, heap: Lent<'_>, row: Row) -> Result<(), Fa
 fn a_push_makes_no_request_just_if_it_fits(rt: HostRuntime) -> Result<(), Failed> {
     let heap = Refusing::new(rt.alloc(), 0);
     let mut index = 0usize;
-    for row in single_pushes() {
-        in_row(index, expect_in_each_room(rt.alloc(), &heap, row))?;
-        index = index.wrapping_add(1);
-    }
-    for row in string_pushes() {
-        in_row(index, expect_in_each_room(rt.alloc(), &heap, row))?;
-        index = index.wrapping_add(1);
-    }
-    for row in slice_pushes() {
+    for row in pushes() {
         in_row(index, expect_in_each_room(rt.alloc(), &heap, row))?;
         index = index.wrapping_add(1);
     }
@@ -249,43 +238,43 @@ fn expect_refused(
     let is_pushed = push_to(alloc, &mut buf, push).is_ok();
     let is_asked = heap.requests() == granted.wrapping_add(1);
     expect(!is_pushed && is_asked, Wrong::Requests)?;
-    expect_buf(alloc, &buf, &FRONT, FRONT_DUMP)
+    expect_front(alloc, &buf)
+}
+
+/// Fails unless the row's call makes its requests of `heap`, and appends its units.
+fn expect_pushed<A: Allocator>(
+    alloc: Global,
+    heap: Lent<'_>,
+    buf: &mut IndexedBuf<A>,
+    row: Row,
+) -> Result<(), Failed> {
+    made(push_to(alloc, buf, row.push))?;
+    expect(heap.requests() == row.requests, Wrong::Requests)?;
+    expect_buf(alloc, buf, row.units, row.dump)
+}
+
+/// Fails unless the row's call, without spare capacity and with all requests granted, makes its requests.
+fn expect_granted(alloc: Global, heap: Lent<'_>, row: Row) -> Result<(), Failed> {
+    let mut buf = made(with_spare(heap, 0))?;
+    heap.grant(9);
+    expect_pushed(alloc, heap, &mut buf, row)
 }
 
 /// Fails unless the row's call, without spare capacity, makes its requests and fails at each that is refused.
 fn expect_each_refused(alloc: Global, heap: Lent<'_>, row: Row) -> Result<(), Failed> {
-    let Row {
-        push,
-        units,
-        dump,
-        requests,
-        ..
-    } = row;
     for refusal in REFUSALS {
-        for granted in 0..requests {
-            expect_refused(alloc, heap, push, (granted, refusal))?;
+        for granted in 0..row.requests {
+            expect_refused(alloc, heap, row.push, (granted, refusal))?;
         }
     }
-    let mut buf = made(with_spare(heap, 0))?;
-    heap.grant(9);
-    made(push_to(alloc, &mut buf, push))?;
-    expect(heap.requests() == requests, Wrong::Requests)?;
-    expect_buf(alloc, &buf, units, dump)
+    expect_granted(alloc, heap, row)
 }
 
 #[test]
 fn a_push_fails_at_each_refusal_and_changes_nothing(rt: HostRuntime) -> Result<(), Failed> {
     let heap = Refusing::new(rt.alloc(), 0);
     let mut index = 0usize;
-    for row in single_pushes() {
-        in_row(index, expect_each_refused(rt.alloc(), &heap, row))?;
-        index = index.wrapping_add(1);
-    }
-    for row in string_pushes() {
-        in_row(index, expect_each_refused(rt.alloc(), &heap, row))?;
-        index = index.wrapping_add(1);
-    }
-    for row in slice_pushes() {
+    for row in pushes() {
         in_row(index, expect_each_refused(rt.alloc(), &heap, row))?;
         index = index.wrapping_add(1);
     }
@@ -337,78 +326,88 @@ fn expect_one_more<'a>(
     expect(buf_has_units(buf, &units), Wrong::Units)
 }
 
-/// Makes the row's call on a long buffer, with just the spare capacity that it needs and every request refused. Fails
-/// unless it appends its units, though a mark is refused, and a later call adds the mark.
+/// Fails unless a long buffer that ends with `units` has all its units, and a later call adds the mark that is missing.
+fn expect_ended<'a>(
+    alloc: Global,
+    heap: Lent<'a>,
+    marks: Lent<'a>,
+    buf: &mut IndexedBuf<Lent<'a>>,
+    units: &[u16],
+) -> Result<(), Failed> {
+    let all = made(after_wide(alloc, units))?;
+    expect(buf_has_units(buf, &all), Wrong::Units)?;
+    expect_one_more(heap, marks, buf, all)
+}
+
+/// Makes the row's call with every request refused. Fails unless it appends its units, though a mark is refused, and a
+/// later call adds the mark.
+fn expect_unmarked<'a>(
+    alloc: Global,
+    heap: Lent<'a>,
+    marks: Lent<'a>,
+    buf: &mut IndexedBuf<Lent<'a>>,
+    row: Row,
+) -> Result<(), Failed> {
+    made(push_to(alloc, buf, row.push))?;
+    let is_mark_refused = marks.requests() == 1;
+    expect(heap.requests() == 0, Wrong::Requests)?;
+    expect(is_mark_refused == (row.growth > 0), Wrong::Requests)?;
+    expect_ended(alloc, heap, marks, buf, row.units)
+}
+
+/// Fails unless the row's call does what `expect_unmarked` requires on a long buffer, with just the spare capacity that
+/// it needs.
 fn expect_long_push(alloc: Global, row: Row) -> Result<(), Failed> {
     let heap = Refusing::new(alloc, 0);
     let marks = Refusing::new(alloc, 0);
-    let Row {
-        push,
-        units,
-        growth,
-        ..
-    } = row;
-    let mut buf = made(long_with_spare(alloc, &heap, &marks, growth))?;
+    let mut buf = made(long_with_spare(alloc, &heap, &marks, row.growth))?;
     heap.grant(0);
     marks.grant(0);
-    made(push_to(alloc, &mut buf, push))?;
-    let is_mark_refused = marks.requests() == 1;
-    expect(heap.requests() == 0, Wrong::Requests)?;
-    expect(is_mark_refused == (growth > 0), Wrong::Requests)?;
-    let all = made(after_wide(alloc, units))?;
-    expect(buf_has_units(&buf, &all), Wrong::Units)?;
-    expect_one_more(&heap, &marks, &mut buf, all)
+    expect_unmarked(alloc, &heap, &marks, &mut buf, row)
 }
 
 #[test]
 fn a_refused_mark_refuses_no_push(rt: HostRuntime) -> Result<(), Failed> {
     let mut index = 0usize;
-    for row in single_pushes() {
-        in_row(index, expect_long_push(rt.alloc(), row))?;
-        index = index.wrapping_add(1);
-    }
-    for row in string_pushes() {
-        in_row(index, expect_long_push(rt.alloc(), row))?;
-        index = index.wrapping_add(1);
-    }
-    for row in slice_pushes() {
+    for row in pushes() {
         in_row(index, expect_long_push(rt.alloc(), row))?;
         index = index.wrapping_add(1);
     }
     Ok(())
 }
 
-/// Makes the row's call on a long buffer with marks, with one byte too little of spare capacity and every request
-/// refused. Fails unless it changes nothing, asks for no mark, and a later call adds the mark that is then missing.
+/// Makes the row's call with every request refused. Fails unless it changes nothing, asks for no mark, and a later call
+/// adds the mark that is then missing.
+fn expect_unchanged<'a>(
+    alloc: Global,
+    heap: Lent<'a>,
+    marks: Lent<'a>,
+    buf: &mut IndexedBuf<Lent<'a>>,
+    row: Row,
+) -> Result<(), Failed> {
+    let is_pushed = push_to(alloc, buf, row.push).is_ok();
+    expect(is_pushed == (row.growth == 0), Wrong::Outcome)?;
+    expect(marks.requests() == 0, Wrong::Requests)?;
+    expect(buf.as_wtf8().len() == 254 * 3 + 4, Wrong::Bytes)?;
+    expect_ended(alloc, heap, marks, buf, &FRONT)
+}
+
+/// Fails unless the row's call does what `expect_unchanged` requires on a long buffer with marks, with one byte too
+/// little of spare capacity.
 fn expect_long_refused(alloc: Global, row: Row) -> Result<(), Failed> {
     let heap = Refusing::new(alloc, 0);
     let marks = Refusing::new(alloc, 0);
-    let Row { push, growth, .. } = row;
-    let spare = growth.saturating_sub(1);
+    let spare = row.growth.saturating_sub(1);
     let mut buf = made(long_with_spare(alloc, &heap, &marks, spare))?;
     heap.grant(0);
     marks.grant(0);
-    let is_pushed = push_to(alloc, &mut buf, push).is_ok();
-    expect(is_pushed == (growth == 0), Wrong::Outcome)?;
-    expect(marks.requests() == 0, Wrong::Requests)?;
-    expect(buf.as_wtf8().len() == 254 * 3 + 4, Wrong::Bytes)?;
-    let all = made(after_wide(alloc, &FRONT))?;
-    expect(buf_has_units(&buf, &all), Wrong::Units)?;
-    expect_one_more(&heap, &marks, &mut buf, all)
+    expect_unchanged(alloc, &heap, &marks, &mut buf, row)
 }
 
 #[test]
 fn a_refused_push_changes_no_long_buffer(rt: HostRuntime) -> Result<(), Failed> {
     let mut index = 0usize;
-    for row in single_pushes() {
-        in_row(index, expect_long_refused(rt.alloc(), row))?;
-        index = index.wrapping_add(1);
-    }
-    for row in string_pushes() {
-        in_row(index, expect_long_refused(rt.alloc(), row))?;
-        index = index.wrapping_add(1);
-    }
-    for row in slice_pushes() {
+    for row in pushes() {
         in_row(index, expect_long_refused(rt.alloc(), row))?;
         index = index.wrapping_add(1);
     }
@@ -521,20 +520,28 @@ fn a_buffer_releases_spare_capacity_if_that_is_granted(rt: HostRuntime) -> Resul
     Ok(())
 }
 
+/// Fails unless the buffer has `units`, and after a push of `FRONT` these too.
+fn expect_before_front<A: Allocator>(
+    buf: &mut IndexedBuf<A>,
+    mut units: Vec<u16>,
+) -> Result<(), Failed> {
+    expect(buf_has_units(buf, &units), Wrong::Units)?;
+    made(buf.push_units(&FRONT))?;
+    expect(units.extend_from_slice(&FRONT).is_ok(), Wrong::Memory)?;
+    expect(buf_has_units(buf, &units), Wrong::Units)
+}
+
 /// Asks for marks of a long buffer with `granted` requests granted. Fails unless the buffer has its units then, and
 /// after a push.
 fn expect_marked(alloc: Global, granted: u64, refusal: Refusal) -> Result<(), Failed> {
     let heap = Refusing::new(alloc, 9);
     let marks = Refusing::new(alloc, 0);
-    let mut units = made(after_wide(alloc, &[0xD83D, 0xD83D, 0xDCA9]))?;
+    let units = made(after_wide(alloc, &[0xD83D, 0xD83D, 0xDCA9]))?;
     let mut buf = made(IndexedBuf::from_units(&heap, &units))?;
     marks.refuse_after(granted, refusal);
     buf.mark_units(&marks);
-    expect(buf_has_units(&buf, &units), Wrong::Units)?;
     heap.grant(9);
-    made(buf.push_units(&FRONT))?;
-    expect(units.extend_from_slice(&FRONT).is_ok(), Wrong::Memory)?;
-    expect(buf_has_units(&buf, &units), Wrong::Units)
+    expect_before_front(&mut buf, units)
 }
 
 #[test]
@@ -597,34 +604,51 @@ fn expect_make<'a>(
     expect(heap.requests() == requests, Wrong::Requests)
 }
 
+/// Fails unless each call of `makes` does what `expect_make` requires.
+fn expect_each_made<'a>(heap: Lent<'a>, other: &IndexedBuf<Lent<'a>>) -> Result<(), Failed> {
+    let mut row = 0usize;
+    for (make, requests) in makes() {
+        in_row(row, expect_make(heap, other, make, requests))?;
+        row = row.wrapping_add(1);
+    }
+    Ok(())
+}
+
 #[test]
 fn a_buffer_is_made_of_the_memory_that_it_needs(rt: HostRuntime) -> Result<(), Failed> {
     let heap = Refusing::new(rt.alloc(), 9);
     let other = made(with_spare(&heap, 0))?;
-    let mut row = 0usize;
-    for (make, requests) in makes() {
-        in_row(row, expect_make(&heap, &other, make, requests))?;
-        row = row.wrapping_add(1);
-    }
-    expect_buf(rt.alloc(), &other, &FRONT, FRONT_DUMP)
+    expect_each_made(&heap, &other)?;
+    expect_front(rt.alloc(), &other)
 }
 
-/// Reserves `additional` bytes, with `granted` requests granted, and two bytes of spare capacity before. Fails unless
-/// that succeeds if `is_reserved`, and changes no unit.
-fn expect_reserved(
+/// Reserves `additional` bytes in the buffer of `FRONT`, which has two bytes of spare capacity. Fails unless that
+/// succeeds if `is_reserved`, makes the requests of `heap`, and changes no unit.
+fn expect_reserve<A: Allocator>(
     alloc: Global,
     heap: Lent<'_>,
-    (additional, granted): (usize, u64),
+    buf: &mut IndexedBuf<A>,
+    additional: usize,
     (is_reserved, requests): (bool, u64),
 ) -> Result<(), Failed> {
-    let mut buf = made(with_spare(heap, 2))?;
-    heap.grant(granted);
     let is_ok = buf.reserve(additional).is_ok();
     expect(is_ok == is_reserved, Wrong::Outcome)?;
     expect(heap.requests() == requests, Wrong::Requests)?;
     let most = if is_ok { additional.max(2) } else { 2 };
     expect(buf.capacity() >= most.saturating_add(4), Wrong::Outcome)?;
-    expect_buf(alloc, &buf, &FRONT, FRONT_DUMP)
+    expect_front(alloc, buf)
+}
+
+/// Fails unless `expect_reserve` holds with `granted` requests granted.
+fn expect_reserved(
+    alloc: Global,
+    heap: Lent<'_>,
+    (additional, granted): (usize, u64),
+    outcome: (bool, u64),
+) -> Result<(), Failed> {
+    let mut buf = made(with_spare(heap, 2))?;
+    heap.grant(granted);
+    expect_reserve(alloc, heap, &mut buf, additional, outcome)
 }
 
 #[test]
@@ -644,18 +668,29 @@ fn spare_capacity_is_reserved_once(rt: HostRuntime) -> Result<(), Failed> {
     Ok(())
 }
 
-/// Takes the string of a buffer and makes a buffer of it again, cuts it inside the pair and empties it. Fails unless
-/// each call leaves the right bytes.
-fn expect_shorter<'a>(alloc: Global, buf: IndexedBuf<Lent<'a>>) -> Result<(), Failed> {
-    let mut again = IndexedBuf::from_buf(buf.into_buf());
-    expect_buf(alloc, &again, &PAIR, PAIR_DUMP)?;
-    if again.unit_len() < 2 {
+/// Cuts the buffer of `PAIR` inside the pair and empties it. Fails unless it has the right bytes before and after each
+/// call.
+fn expect_shorter<A: Allocator>(alloc: Global, buf: &mut IndexedBuf<A>) -> Result<(), Failed> {
+    expect_buf(alloc, buf, &PAIR, PAIR_DUMP)?;
+    if buf.unit_len() < 2 {
         return Err(Failed::by(Wrong::Units));
     }
-    again.truncate_units(2);
-    expect_buf(alloc, &again, &FRONT, FRONT_DUMP)?;
-    again.clear();
-    expect_buf(alloc, &again, &[], "")
+    buf.truncate_units(2);
+    expect_front(alloc, buf)?;
+    buf.clear();
+    expect_buf(alloc, buf, &[], "")
+}
+
+/// Takes the string of the buffer of `PAIR` and makes a buffer of it again, with which `expect_shorter` must hold.
+fn expect_again(alloc: Global, buf: IndexedBuf<Lent<'_>>) -> Result<(), Failed> {
+    let mut again = IndexedBuf::from_buf(buf.into_buf());
+    expect_shorter(alloc, &mut again)
+}
+
+/// Fails unless an empty buffer has no bytes.
+fn expect_new(alloc: Global, heap: Lent<'_>) -> Result<(), Failed> {
+    let empty = IndexedBuf::new(heap);
+    expect_bytes(alloc, empty.as_wtf8(), "")
 }
 
 #[test]
@@ -663,9 +698,8 @@ fn calls_that_append_nothing_make_no_request(rt: HostRuntime) -> Result<(), Fail
     let heap = Refusing::new(rt.alloc(), 9);
     let buf = made(IndexedBuf::from_units(&heap, &PAIR))?;
     heap.grant(0);
-    let empty = IndexedBuf::new(&heap);
-    expect_bytes(rt.alloc(), empty.as_wtf8(), "")?;
-    expect_shorter(rt.alloc(), buf)?;
+    expect_again(rt.alloc(), buf)?;
+    expect_new(rt.alloc(), &heap)?;
     expect(heap.requests() == 0, Wrong::Requests)
 }
 

@@ -347,7 +347,6 @@ impl<A: Allocator> Wtf8Buf<A> {
     /// Appends a 16-bit code unit. A trail surrogate after a lead surrogate completes the pair. If memory is refused,
     /// the string is unchanged. Amortized constant.
     #[inline(always)]
-    #[tactic(auto, using(crate::proofs::lemmas::codec::Readings::units_one))]
     pub fn push_unit(&mut self, unit: u16) -> Result<(), AllocError>
         ensures ok { OnOk result (AppendsUnits self.old (unit ∷ []) self.new) }
         ensures kept { OnErr result (KeepsContents self.old self.new) }

@@ -1,0 +1,11 @@
+use Rattle.wtf8.proofs.Common.{arith}
+use Rattle.wtf8.proofs.lemmas.codec.Readings.{units_one}
+use Rattle.wtf8.proofs.buffers.buf.Wtf8Buf.push_unit.Goals as goal
+
+-- Both goals are proved without an answer too, but a body that breaks them is refused ten seconds later then.
+
+pub returns-clause-ok : goal.returns-clause-ok
+returns-clause-ok g c = grind (arith, units_one)
+
+pub returns-clause-room : goal.returns-clause-room
+returns-clause-room g c = grind (arith, units_one)
