@@ -7,10 +7,10 @@ pub returns-in-Some-clause-last : goal.returns-in-Some-clause-last
 returns-in-Some-clause-last g c h =
     let view = c.from_well_formed-view in
     let same = same_points view.result.well_formed h (view.ensures.bytes ∙ c.as_slice.ensures.value) in
-    subst (λ p. IfSome c.final_lead_surrogate.result (λ l. (f : List ℕ) × (p ≡ f ++ l ∷ []))) same c.final_lead_surrogate.ensures.last
+    subst (λ p. IfSome c.lead_at_end.result (λ l. (f : List ℕ) × (p ≡ f ++ l ∷ []))) same c.lead_at_end.ensures.last
 
 pub returns-in-Some-clause-none : goal.returns-in-Some-clause-none
 returns-in-Some-clause-none g c h =
     let view = c.from_well_formed-view in
     let same = same_points h view.result.well_formed (sym (view.ensures.bytes ∙ c.as_slice.ensures.value)) in
-    lead_before_units c.final_lead_surrogate.result c.args.v.now h same c.final_lead_surrogate.ensures.none
+    lead_before_units c.lead_at_end.result c.args.v.now h same c.lead_at_end.ensures.none
