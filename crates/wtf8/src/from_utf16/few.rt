@@ -45,7 +45,10 @@ fn write_encoding(out: &mut [u8], at: usize, code_point: CodePoint) -> usize
     } else if value < 0x800 {
         write_array(out, at, two_bytes(value))
     } else if value < 0x10000 {
-        write_array(out, at, three_bytes(value))
+        // Four bytes take one store, and three take three. The fourth is overwritten or cut off.
+        let [first, second, third] = three_bytes(value);
+        write_array(out, at, [first, second, third, 0]);
+        at + 3
     } else {
         write_array(out, at, four_bytes(value))
     }

@@ -324,13 +324,13 @@ fn push_utf16<A: Allocator>(
     }
 }
 
-/// Whether the first of the units is a trail, without which they form no pair with what is before them.
+/// Whether there are units and the first is no trail, so that they form no pair with what is before them.
 #[inline(always)]
-fn begins_with_trail(v: &[u16]) -> bool
-    ensures { (c : List ℕ) → MeetsAsPair c v.now → IsTrue result }
+fn begins_unpaired(v: &[u16]) -> bool
+    ensures { IsTrue result → (c : List ℕ) → ¬ (MeetsAsPair c v.now) }
 {
     match v.first() {
-        Some(unit) => is_trail(u32::from(*unit)),
+        Some(unit) => !is_trail(u32::from(*unit)),
         None => false,
     }
 }
@@ -372,7 +372,7 @@ pub(crate) fn push_units<A: Allocator>(
     ensures scalar { length bytes.old.items < utf8_prefix.new.len → OnOk result ((c : List ℕ) → Reads c v.now → AreScalar c) }
 {
     // In this order, so that more units take only the first test.
-    if v.len() <= FEW_UNITS && FEW_BYTES <= spare_capacity(bytes) && !begins_with_trail(v) {
+    if v.len() <= FEW_UNITS && FEW_BYTES <= spare_capacity(bytes) && begins_unpaired(v) {
         return push_few(bytes, v, utf8_prefix);
     }
     push_utf16(bytes, v, utf8_prefix)
