@@ -222,14 +222,19 @@ fn lead_at_end(view: Wtf8<'_>) -> Option<u32>
     view.final_lead_surrogate()
 }
 
-/// Returns the lead surrogate that ends `bytes`, if the first of the units completes it.
-fn lead_before<A: Allocator>(bytes: &Vec<u8, A>, v: &[u16]) -> Option<u32>
-    requires { IsWellFormed bytes.now.items }
+/// Returns the lead surrogate that ends `bytes`, if the first of the units completes it. There is none if `is_utf8` says
+/// that they hold no surrogate.
+fn lead_before<A: Allocator>(bytes: &Vec<u8, A>, is_utf8: bool, v: &[u16]) -> Option<u32>
+    requires well_formed { IsWellFormed bytes.now.items }
+    requires scalar { (h : IsWellFormed bytes.now.items) → IsTrue is_utf8 → AreScalar h.points }
     ensures trail { OnSome result ((0 < length v.now) × IsTrail (slice_index v.now 0)) }
     ensures lead { IfSome result (λ l. IsLead l) }
     ensures last { (h : IsWellFormed bytes.now.items) → IfSome result (λ l. (f : List ℕ) × (h.points ≡ f ++ l ∷ [])) }
     ensures none { (h : IsWellFormed bytes.now.items) → IfNone result (¬ (MeetsAsPair h.points v.now)) }
 {
+    if is_utf8 {
+        return None;
+    }
     let view = Wtf8::from_well_formed(bytes.as_slice());
     match v.first() {
         Some(unit) if is_trail(u32::from(*unit)) => lead_at_end(view),
@@ -309,8 +314,9 @@ fn push_utf16<A: Allocator>(
     let len = bytes.len();
     // Each unit adds at least one byte.
     bytes.reserve(v.len())?;
-    let lead = lead_before(bytes, v);
-    match append_utf16(bytes, len <= utf8_prefix.len, lead, v) {
+    let is_utf8 = len <= utf8_prefix.len;
+    let lead = lead_before(bytes, is_utf8, v);
+    match append_utf16(bytes, is_utf8, lead, v) {
         Ok(is_utf8) => {
             if !is_utf8 {
                 *utf8_prefix = utf8_prefix.up_to(len);
@@ -324,13 +330,13 @@ fn push_utf16<A: Allocator>(
     }
 }
 
-/// Whether there are units and the first is no trail, so that they form no pair with what is before them.
+/// Whether the first of the units is a trail, without which they form no pair with what is before them.
 #[inline(always)]
-fn begins_unpaired(v: &[u16]) -> bool
-    ensures { IsTrue result → (c : List ℕ) → ¬ (MeetsAsPair c v.now) }
+fn begins_with_trail(v: &[u16]) -> bool
+    ensures { (c : List ℕ) → MeetsAsPair c v.now → IsTrue result }
 {
     match v.first() {
-        Some(unit) => !is_trail(u32::from(*unit)),
+        Some(unit) => is_trail(u32::from(*unit)),
         None => false,
     }
 }
@@ -344,7 +350,7 @@ fn push_few<A: Allocator>(
 ) -> Result<(), AllocError>
     requires well_formed { IsWellFormed bytes.old.items }
     requires scalar_prefix { (h : IsWellFormed bytes.old.items) → AreScalarTo utf8_prefix.old.len h.points }
-    requires no_pair { (c : List ℕ) → ¬ (MeetsAsPair c v.now) }
+    requires no_pair { (h : IsWellFormed bytes.old.items) → ¬ (MeetsAsPair h.points v.now) }
     requires few { length v.now ≤ FEW_UNITS }
     requires room { length bytes.old.items + FEW_BYTES ≤ vec_capacity bytes.old }
     ensures extends { ExtendsFormOrKeeps bytes.old v.now bytes.new result }
@@ -372,8 +378,11 @@ pub(crate) fn push_units<A: Allocator>(
     ensures scalar { length bytes.old.items < utf8_prefix.new.len → OnOk result ((c : List ℕ) → Reads c v.now → AreScalar c) }
 {
     // In this order, so that more units take only the first test.
-    if v.len() <= FEW_UNITS && FEW_BYTES <= spare_capacity(bytes) && begins_unpaired(v) {
-        return push_few(bytes, v, utf8_prefix);
+    if v.len() <= FEW_UNITS && FEW_BYTES <= spare_capacity(bytes) {
+        // A string without surrogates has no lead at its end.
+        if bytes.len() <= utf8_prefix.len || !begins_with_trail(v) {
+            return push_few(bytes, v, utf8_prefix);
+        }
     }
     push_utf16(bytes, v, utf8_prefix)
 }

@@ -1,7 +1,11 @@
 use Rattle.wtf8.proofs.Common.{◌≡◌, ◌∷◌, [], ◌++◌, ◌∙◌, List, ℕ, IfSome, subst, sym}
 use Rattle.wtf8.proofs.lemmas.codec.Readings.{same_points}
 use Rattle.wtf8.proofs.lemmas.strings.PushedUnits.{lead_before_units}
+use Rattle.wtf8.proofs.lemmas.strings.ExtendedForms.{scalar_front_unpaired}
 use Rattle.wtf8.proofs.strings.appending.lead_before.Goals as goal
+
+pub returns-then-is_utf8-clause-none : goal.returns-then-is_utf8-clause-none
+returns-then-is_utf8-clause-none g c h = scalar_front_unpaired (c.requires.scalar h c.if-is_utf8.true)
 
 pub returns-in-Some-clause-last : goal.returns-in-Some-clause-last
 returns-in-Some-clause-last g c h =

@@ -10,7 +10,7 @@ begun : (g : _) (c : After-append g) → IsReadTo c.args.bytes.now.items (units 
 begun g c =
     let own = c.requires.well_formed in
     let prefix = c.args.utf8_prefix.now.len in
-    read_start None own refl (c.requires.no_pair own.points) (λ within.
+    read_start None own refl (c.requires.no_pair own) (λ within.
     let all : c.len-len.result ≤ prefix = leb-true c.len-len.result prefix within in
     all_scalar own.points prefix (c.requires.scalar_prefix own)
     (omega (arith, all, c.len-len.ensures, ap length own.encoded, c.args.bytes.now.ok.0)))
