@@ -11,7 +11,7 @@ use crate::from_utf16::decode;
 use crate::from_utf16::kernel::Progress;
 use std::alloc::{AllocError, Allocator};
 
-/// The most units that are encoded one by one: 12 of three bytes take as many instructions as a block of 16.
+/// The most units that are encoded one by one: 12 of three bytes take 279 instructions, as a block with zeros 298.
 pub(crate) const FEW_UNITS: usize = 12;
 
 /// The bytes that a string must have room for: at least three for each unit, and four for the last code point. A

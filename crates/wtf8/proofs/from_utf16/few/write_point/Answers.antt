@@ -1,5 +1,5 @@
-use Rattle.wtf8.proofs.Common.{◌+◌, ◌∙◌, arith, number}
-use Rattle.wtf8.proofs.lemmas.from_utf16.Decoding.{IsFirstRead, IsFirstRead-length, IsFirstRead-low}
+use Rattle.wtf8.proofs.Common.{arith, number}
+use Rattle.wtf8.proofs.lemmas.from_utf16.Decoding.{IsFirstRead-length, IsFirstRead-low}
 use Rattle.wtf8.proofs.lemmas.from_utf16.Decoding.{IsReadTo-low_written, IsReadTo-written}
 use Rattle.wtf8.proofs.from_utf16.few.write_point.Goals as goal
 
