@@ -341,7 +341,7 @@ impl<A: Allocator> Wtf8Buf<A> {
         ensures room_left { length self.old.bytes + 3 * length v.now ≤ self.old.capacity → IsOk result }
         ensures nothing { v.now ≡ [] → KeepsContents self.old self.new }
     {
-        appending::push_utf16(&mut self.bytes, &mut self.utf8_prefix, v)
+        appending::push_units(&mut self.bytes, v, &mut self.utf8_prefix)
     }
 
     /// Appends a 16-bit code unit. A trail surrogate after a lead surrogate completes the pair. If memory is refused,

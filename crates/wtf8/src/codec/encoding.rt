@@ -18,7 +18,7 @@ fn continuation_byte(value: u32) -> u8
 }
 
 #[tactic(auto, using(crate::proofs::lemmas::codec::Encoding::encoding_two))]
-fn two_bytes(value: u32) -> [u8; 2]
+pub(crate) fn two_bytes(value: u32) -> [u8; 2]
     requires low { 0x80 ≤ value }
     requires high { value < 0x800 }
     ensures { result ≡ encoding value }
@@ -27,7 +27,7 @@ fn two_bytes(value: u32) -> [u8; 2]
 }
 
 #[tactic(auto, using(crate::proofs::lemmas::codec::Encoding::encoding_three))]
-fn three_bytes(value: u32) -> [u8; 3]
+pub(crate) fn three_bytes(value: u32) -> [u8; 3]
     requires low { 0x800 ≤ value }
     requires high { value < 0x10000 }
     ensures { result ≡ encoding value }

@@ -12,6 +12,7 @@ ghost use Rattle.wtf8.specs.View.{view_points, view_units};
 
 use crate::codec::code_point::{CodePoint, FIRST_TRAIL, code_point_of_pair, is_trail};
 use crate::codec::encoding;
+use crate::from_utf16::few::{self, FEW_BYTES, FEW_UNITS};
 use crate::from_utf16::kernel::Progress;
 use crate::from_utf16::transcode;
 use crate::strings::utf8_prefix::Utf8Prefix;
@@ -201,17 +202,32 @@ pub(crate) fn push_str<A: Allocator>(bytes: &mut Vec<u8, A>, other: &str) -> Res
     append_bytes(bytes, other.as_bytes())
 }
 
-/// Returns the lead surrogate that ends `bytes`, if the first of the units completes it.
-fn lead_before<A: Allocator>(bytes: &Vec<u8, A>, v: &[u16]) -> Option<u32>
-    requires { IsWellFormed bytes.now.items }
+/// `final_lead_surrogate`, not inlined, since few units begin with a trail: each push would test the length for it.
+#[inline(never)]
+fn lead_at_end(view: Wtf8<'_>) -> Option<u32>
+    ensures lead { IfSome result (λ l. IsLead l) }
+    ensures last { IfSome result (λ l. (f : List ℕ) × (view_points view.entry ≡ f ++ l ∷ [])) }
+    ensures none { IfNone result ((f : List ℕ) (l : ℕ) → IsLead l → view_points view.entry ≡ f ++ l ∷ [] → ⊥) }
+{
+    view.final_lead_surrogate()
+}
+
+/// Returns the lead surrogate that ends `bytes`, if the first of the units completes it. There is none if `is_utf8` says
+/// that they hold no surrogate.
+fn lead_before<A: Allocator>(bytes: &Vec<u8, A>, is_utf8: bool, v: &[u16]) -> Option<u32>
+    requires well_formed { IsWellFormed bytes.now.items }
+    requires scalar { (h : IsWellFormed bytes.now.items) → IsTrue is_utf8 → AreScalar h.points }
     ensures trail { OnSome result ((0 < length v.now) × IsTrail (slice_index v.now 0)) }
     ensures lead { IfSome result (λ l. IsLead l) }
     ensures last { (h : IsWellFormed bytes.now.items) → IfSome result (λ l. (f : List ℕ) × (h.points ≡ f ++ l ∷ [])) }
     ensures none { (h : IsWellFormed bytes.now.items) → IfNone result (¬ (MeetsAsPair h.points v.now)) }
 {
+    if is_utf8 {
+        return None;
+    }
     let view = Wtf8::from_well_formed(bytes.as_slice());
     match v.first() {
-        Some(unit) if is_trail(u32::from(*unit)) => view.final_lead_surrogate(),
+        Some(unit) if is_trail(u32::from(*unit)) => lead_at_end(view),
         _ => None,
     }
 }
@@ -268,11 +284,14 @@ pub(crate) fn take_back<A: Allocator>(bytes: &mut Vec<u8, A>, len: usize, lead: 
     }
 }
 
-/// A lone surrogate among the units, or a front that may hold one, cuts the UTF-8 prefix to at most the old length.
-pub(crate) fn push_utf16<A: Allocator>(
+/// Appends code units; a trail at their front completes a lead at the end. A lone surrogate among them, or a front that
+/// may hold one, cuts the UTF-8 prefix to at most the old length. Not inlined, so that `push_units` saves no registers
+/// before it chooses.
+#[inline(never)]
+fn push_utf16<A: Allocator>(
     bytes: &mut Vec<u8, A>,
-    utf8_prefix: &mut Utf8Prefix,
     v: &[u16],
+    utf8_prefix: &mut Utf8Prefix,
 ) -> Result<(), AllocError>
     requires well_formed { IsWellFormed bytes.old.items }
     requires scalar_prefix { (h : IsWellFormed bytes.old.items) → AreScalarTo utf8_prefix.old.len h.points }
@@ -283,8 +302,9 @@ pub(crate) fn push_utf16<A: Allocator>(
     let len = bytes.len();
     // Each unit adds at least one byte.
     bytes.reserve(v.len())?;
-    let lead = lead_before(bytes, v);
-    match append_utf16(bytes, len <= utf8_prefix.len, lead, v) {
+    let is_utf8 = len <= utf8_prefix.len;
+    let lead = lead_before(bytes, is_utf8, v);
+    match append_utf16(bytes, is_utf8, lead, v) {
         Ok(is_utf8) => {
             if !is_utf8 {
                 *utf8_prefix = utf8_prefix.up_to(len);
@@ -296,4 +316,61 @@ pub(crate) fn push_utf16<A: Allocator>(
             Err(error)
         }
     }
+}
+
+/// Whether the first of the units is a trail, without which they form no pair with what is before them.
+#[inline(always)]
+fn begins_with_trail(v: &[u16]) -> bool
+    ensures { (c : List ℕ) → MeetsAsPair c v.now → IsTrue result }
+{
+    match v.first() {
+        Some(unit) => is_trail(u32::from(*unit)),
+        None => false,
+    }
+}
+
+/// `push_utf16` of few units that form no pair with the bytes before them, within the spare capacity.
+#[inline(always)]
+fn push_few<A: Allocator>(
+    bytes: &mut Vec<u8, A>,
+    v: &[u16],
+    utf8_prefix: &mut Utf8Prefix,
+) -> Result<(), AllocError>
+    requires well_formed { IsWellFormed bytes.old.items }
+    requires scalar_prefix { (h : IsWellFormed bytes.old.items) → AreScalarTo utf8_prefix.old.len h.points }
+    requires no_pair { (h : IsWellFormed bytes.old.items) → ¬ (MeetsAsPair h.points v.now) }
+    requires few { length v.now ≤ FEW_UNITS }
+    requires room { length bytes.old.items + FEW_BYTES ≤ vec_capacity bytes.old }
+    ensures extends { ExtendsFormOrKeeps bytes.old v.now bytes.new result }
+    ensures order { utf8_prefix.new.len ≤ utf8_prefix.old.len }
+    ensures scalar { length bytes.old.items < utf8_prefix.new.len → OnOk result ((c : List ℕ) → Reads c v.now → AreScalar c) }
+{
+    let len = bytes.len();
+    let is_utf8 = few::append(bytes, v, len <= utf8_prefix.len)?;
+    if !is_utf8 {
+        *utf8_prefix = utf8_prefix.up_to(len);
+    }
+    Ok(())
+}
+
+/// Appends code units as `push_utf16` does. Few units that have room whatever they are take a shorter way.
+pub(crate) fn push_units<A: Allocator>(
+    bytes: &mut Vec<u8, A>,
+    v: &[u16],
+    utf8_prefix: &mut Utf8Prefix,
+) -> Result<(), AllocError>
+    requires well_formed { IsWellFormed bytes.old.items }
+    requires scalar_prefix { (h : IsWellFormed bytes.old.items) → AreScalarTo utf8_prefix.old.len h.points }
+    ensures extends { ExtendsFormOrKeeps bytes.old v.now bytes.new result }
+    ensures order { utf8_prefix.new.len ≤ utf8_prefix.old.len }
+    ensures scalar { length bytes.old.items < utf8_prefix.new.len → OnOk result ((c : List ℕ) → Reads c v.now → AreScalar c) }
+{
+    // In this order, so that more units take only the first test.
+    if v.len() <= FEW_UNITS && FEW_BYTES <= spare_capacity(bytes) {
+        // A string without surrogates has no lead at its end.
+        if bytes.len() <= utf8_prefix.len || !begins_with_trail(v) {
+            return push_few(bytes, v, utf8_prefix);
+        }
+    }
+    push_utf16(bytes, v, utf8_prefix)
 }

@@ -3,6 +3,7 @@ use Rattle.wtf8.proofs.Common.{◌≡◌, ◌+◌, ◌-◌, ◌<◌, length, tak
 use Rattle.wtf8.proofs.Common.{None, Some, Result, Ok, Err, refl, sym, ap, ◌∙◌, subst, arith, Drains, peekable_steps, peekable_peeked}
 use Rattle.wtf8.proofs.Common.{point_of_item, map, decode_steps, ReadsAll, IsClean, IsCodePoint, IsLead, IsTrail, IsReadTo, same_from_push}
 use Rattle.wtf8.proofs.Common.{IsSurrogate, MatchResult, units, pair, MatchOption, IfSome, Bool, IsTrue, AreScalar, IsKnownForm, bytes}
+use Rattle.wtf8.proofs.Common.{true, ◌*◌, length-take}
 use Rattle.wtf8.proofs.Common.{encoding, map-append, take-append-drop, ◌≤◌, append_assoc}
 use Rattle.wtf8.proofs.Common.{length-drop, take_all, DividesPair, copied_steps, iter_steps, iter_rest, common_steps}
 use Rattle.wtf8.proofs.Common.{get_or-drop, ◌&&◌, IsForm, MeetsAsPair, take-add, take_at}
@@ -13,6 +14,7 @@ use Rattle.std.specs.declared.iter.Copied.{Copied}
 use Rattle.std.specs.declared.slice.Iter.{Iter}
 use Rattle.std.proofs.Common.{option_copied}
 use Rattle.std.specs.Prelude.{IsSomeAnd}
+use Rattle.std.proofs.Math.Bool.{and-true}
 use Rattle.std.proofs.Math.Seq.{take-suc}
 use Rattle.std.specs.declared.iter.Ahead.{Ahead}
 use Rattle.wtf8.specs.Unicode.{units_of}
@@ -20,7 +22,7 @@ use Rattle.wtf8.specs.private.Decoding.{DecodesItem}
 use Rattle.wtf8.specs.declared.from_utf16.decode.DecodeUtf16.{DecodeUtf16}
 use Rattle.wtf8.proofs.lemmas.codec.Encoding.{bytes-append}
 use Rattle.wtf8.proofs.lemmas.from_utf16.Transcode.{IsKnownForm-append, IsReadTo-append, MeetsAsPair-take, undivided-after_no_lead}
-use Rattle.wtf8.proofs.lemmas.codec.Readings.{form_append-unpaired, units_one, units_pair}
+use Rattle.wtf8.proofs.lemmas.codec.Readings.{form_append-unpaired, lengths_of_one, units_one, units_pair}
 
 module _ {S A : Type 0} (steps : S → Option A → S → Type 0) where
   -- if each call from `t` is also a call from `s`, draining `t` is draining `s`
@@ -195,6 +197,39 @@ IsReadTo-point {p = p} x order first scalar = IsReadTo-append x order first.with
   form = record { points = p ∷ []; reads = first.reads; encoded = append-nil (encoding p) };
   scalar = λ t. (scalar t, tt);
 })
+
+-- Code points written to a slice.
+
+-- the first code point has at most three bytes for each of its units
+pub IsFirstRead-length : {v : List ℕ} {at end p : ℕ} → IsFirstRead v at end p → length (encoding p) ≤ 3 * (end - at)
+IsFirstRead-length {v} {at} {end} {p} first = omega (
+  arith,
+  (lengths_of_one p).2,
+  ap length first.reads.same_units,
+  ap length (append-nil (units_of p)),
+  length-take (end - at) (drop at v),
+)
+
+-- the first code point is encoded, if its encoding is written behind the bytes so far
+pub IsReadTo-written : (w old new : List ℕ) (len after : ℕ) {front v : List ℕ} {at end p : ℕ} {known scalar : Bool}
+    → IsReadTo (w ++ take len old) front v at known → at < end → IsFirstRead v at end p → (IsTrue scalar → ¬ (IsSurrogate p))
+    → take after new ≡ take len old ++ encoding p → IsReadTo (w ++ take after new) front v end (known && scalar)
+IsReadTo-written w old new len after {front} {v} {at} {end} {p} {known} {scalar} read order first no_surrogate written =
+    subst (λ z. IsReadTo z front v end (known && scalar)) (append_assoc w (take len old) (encoding p) ∙ ap (λ z. w ++ z) (sym written))
+    (IsReadTo-point read order first no_surrogate)
+
+-- a unit below D800 is read alone
+pub IsFirstRead-low : (v : List ℕ) (at p : ℕ) → at < length v → get_or v at 0 < 0xD800 → p ≡ get_or v at 0 → IsFirstRead v at (at + 1) p
+IsFirstRead-low v at p within low same =
+    rw same (IsFirstRead-unit v at within (omega (arith, low)) (λ l. omega (arith, l.0, low)))
+
+pub IsReadTo-low_written : (w old new : List ℕ) (len after : ℕ) {front v : List ℕ} {at p : ℕ} {known : Bool}
+    → IsReadTo (w ++ take len old) front v at known
+    → IsFirstRead v at (at + 1) p → p < 0xD800 → take after new ≡ take len old ++ encoding p
+    → IsReadTo (w ++ take after new) front v (at + 1) known
+IsReadTo-low_written w old new len after {front} {v} {at} {p} {known} read first low written =
+    subst (IsReadTo (w ++ take after new) front v (at + 1)) (and-true known)
+    (IsReadTo-written w old new len after {scalar = true} read (omega arith) first (λ _ s. omega (arith, s.0, low)) written)
 
 -- All items of a decoder over a slice.
 

@@ -3,12 +3,13 @@ use Rattle.wtf8.proofs.Common.{◌≡◌, ℕ, zero, suc, ◌-◌, ◌%◌, ◌^
 use Rattle.wtf8.proofs.Common.{replicate, Fits, refl, sym, ap, ◌∙◌, arith, and_parts, cases_Bool, Each1, zip2, mask_l, top}
 use Rattle.wtf8.proofs.Common.{AreAscii, IsSurrogate, ◌+◌, ◌/◌, ◌++◌, IsTrue, take, drop, get_or, subst, take-append-drop, common_steps}
 use Rattle.wtf8.proofs.Common.{append_assoc, append-nil, length-chunk, MeetsAsPair, IsKnownForm, DividesPair, w16, get_or-drop}
-use Rattle.wtf8.proofs.Common.{length-take, take-add, AreScalarUnits}
+use Rattle.wtf8.proofs.Common.{length-take, take-add, take_at, AreScalarUnits}
 use Rattle.wtf8.proofs.Common.{take-append-add, min, length-map, take-take, zip2_splat, IsLead, IsReadTo}
 use Rattle.wtf8.proofs.Common.{IsForm, ReadsOn, HasRoomFrom, take_all, vec_capacity}
 use Rattle.std.specs.declared.vec.Vec.{Vec}
 use Rattle.wtf8.specs.declared.from_utf16.kernel.Progress.{Progress}
 use Rattle.std.proofs.Math.Bool.{and-true}
+use Rattle.std.proofs.lemmas.List.{take-append-le}
 use Rattle.std.proofs.Math.Seq.{take-suc}
 use Rattle.wtf8.proofs.lemmas.lanes.AsciiFronts.{saturated_front}
 use Rattle.std.proofs.lemmas.Bool.{eqb-false}
@@ -168,3 +169,15 @@ pub begins_after : {a b : List ℕ} (c : List ℕ) → take (length a) b ≡ a �
 begins_after {a} {b} c x y =
     let short : length a ≤ length b = omega (arith, ap length x, length-take (length a) b) in
     sym (take-take (length a) (length b) c short) ∙ ap (take (length a)) y ∙ x
+
+-- bytes were written behind the old ones, and all bytes but the first `n` of them cut off
+pub front_written : (old out zeros rest more : List ℕ) (n : ℕ) {now : List ℕ} {start total : ℕ} → start ≡ length old → now ≡ old ++ zeros
+    → n ≤ length out → start + n ≤ total → take (start + n) (take total ((take start now ++ (out ++ rest)) ++ more)) ≡ old ++ take n out
+front_written old out zeros rest more n {now} {start} {total} begin added within fits =
+    let kept : take start now ≡ old = ap (take start) added ∙ take_at old zeros start (sym begin) in
+    let back = out ++ (rest ++ more) in
+    let joined : (old ++ (out ++ rest)) ++ more ≡ old ++ back =
+    append_assoc old (out ++ rest) more ∙ ap (λ z. old ++ z) (append_assoc out rest more) in
+    take-take (start + n) total _ fits ∙ ap (λ z. take (start + n) ((z ++ (out ++ rest)) ++ more)) kept ∙ ap (take (start + n)) joined
+    ∙ ap (λ k. take (k + n) (old ++ back)) begin ∙ take-append-add old back n
+    ∙ ap (λ z. old ++ z) (take-append-le n out (rest ++ more) within)

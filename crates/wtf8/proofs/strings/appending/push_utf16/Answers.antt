@@ -16,6 +16,14 @@ returns-in_err-reserve-clause-extends g c =
     (omega (arith, fits, whole_form-longer own c.args.v.now all, c.args.bytes.now.ok.0)))))
     (λ ok. grind (arith, c.from_residual.ensures.0)) c.reserve.ensures.capacity
 
+pub lead_before-lead-requires-clause-scalar : goal.lead_before-lead-requires-clause-scalar
+lead_before-lead-requires-clause-scalar g c h within =
+    let own = c.requires.well_formed in
+    let prefix = c.args.utf8_prefix.now.len in
+    let all : c.len-len.result ≤ prefix = leb-true c.len-len.result prefix within in
+    scalar-equal_bytes own h c.reserve.ensures.items (all_scalar own.points prefix (c.requires.scalar_prefix own)
+    (omega (arith, all, c.len-len.ensures, ap length own.encoded, c.args.bytes.now.ok.0)))
+
 pub append_utf16-requires-clause-scalar : goal.append_utf16-requires-clause-scalar
 append_utf16-requires-clause-scalar g c h within =
     let own = c.requires.well_formed in

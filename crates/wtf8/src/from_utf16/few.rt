@@ -1,0 +1,131 @@
+// Encodes a few code units straight into the string. It has room for them whatever they are, so that no unit asks for it:
+// bytes are appended as zeros first, overwritten, and those behind the last unit cut off.
+ghost use Rattle.std.specs.Prelude.{◌≡◌, ℕ, List, ◌++◌, ◌+◌, ◌-◌, ◌*◌, ◌<◌, ◌≤◌, length, take, vec_capacity, IfOk, IsOk};
+ghost use Rattle.wtf8.specs.CodePoint.{number};
+ghost use Rattle.wtf8.specs.Form.{encoding};
+ghost use Rattle.wtf8.specs.private.Prefixes.{IsKnownForm, IsReadTo, ReadsOn};
+
+use crate::codec::code_point::{CodePoint, FIRST_LEAD};
+use crate::codec::encoding::{four_bytes, three_bytes, two_bytes};
+use crate::from_utf16::decode;
+use crate::from_utf16::kernel::Progress;
+use std::alloc::{AllocError, Allocator};
+
+/// The most units that are encoded one by one: 12 of three bytes take 279 instructions, as a block with zeros 298.
+pub(crate) const FEW_UNITS: usize = 12;
+
+/// The bytes that a string must have room for: at least three for each unit, and four for the last code point. A
+/// multiple of 16, so that few stores zero them.
+pub(crate) const FEW_BYTES: usize = 48;
+
+/// Writes an array at index `at`. Returns the index after it.
+#[inline(always)]
+fn write_array<const N: usize>(out: &mut [u8], at: usize, array: [u8; N]) -> usize
+    requires { at + N ≤ length out.old }
+    ensures end { result ≡ at + N }
+    ensures bytes { take result out.new ≡ take at out.old ++ array.entry }
+{
+    for k in 0..N {
+        out[at + k] = array[k];
+    }
+    at + N
+}
+
+/// Writes the encoding of a code point at index `at`. Returns the index after it.
+#[inline(always)]
+#[tactic(auto, using(crate::proofs::lemmas::codec::Encoding::encoding_one))]
+fn write_encoding(out: &mut [u8], at: usize, code_point: CodePoint) -> usize
+    requires { at + 4 ≤ length out.old }
+    ensures end { result ≡ at + length (encoding (number code_point)) }
+    ensures bytes { take result out.new ≡ take at out.old ++ encoding (number code_point) }
+{
+    let value = code_point.to_u32();
+    if value < 0x80 {
+        write_array(out, at, [value as u8])
+    } else if value < 0x800 {
+        write_array(out, at, two_bytes(value))
+    } else if value < 0x10000 {
+        // Four bytes take one store, and three take three. The fourth is overwritten or cut off.
+        let [first, second, third] = three_bytes(value);
+        write_array(out, at, [first, second, third, 0]);
+        at + 3
+    } else {
+        write_array(out, at, four_bytes(value))
+    }
+}
+
+/// Encodes the code point at `from.at` at index `len`. Returns the index after its bytes, and how far units are encoded.
+#[inline(always)]
+fn write_point(v: &[u16], from: Progress, out: &mut [u8], len: usize) -> (usize, Progress)
+    requires within { from.at < length v.now }
+    requires room { len + 4 ≤ length out.old }
+    ensures order { (from.at < result.1.at) × (result.1.at ≤ length v.now) }
+    ensures end { result.0 ≤ len + 3 * (result.1.at - from.at) }
+    ensures read { (w : List ℕ) → ReadsOn (w ++ take len out.old) (w ++ take result.0 out.new) v.now from.at from.is_utf8 result.1.at result.1.is_utf8 }
+{
+    let unit = v[from.at];
+    // Each branch has its own call, in which the compiler knows the encoded length.
+    if unit < 0x800 {
+        let end = write_encoding(out, len, CodePoint::from_unit(unit));
+        return (
+            end,
+            Progress {
+                at: from.at + 1,
+                is_utf8: from.is_utf8,
+            },
+        );
+    }
+    if unit < FIRST_LEAD {
+        let end = write_encoding(out, len, CodePoint::from_unit(unit));
+        return (
+            end,
+            Progress {
+                at: from.at + 1,
+                is_utf8: from.is_utf8,
+            },
+        );
+    }
+    let (code_point, at, is_scalar) = decode::read_point(v, from.at);
+    let end = write_encoding(out, len, code_point);
+    let is_utf8 = from.is_utf8 & is_scalar;
+    (end, Progress { at, is_utf8 })
+}
+
+/// Encodes units at the front of `out`. Returns the number of their bytes, and whether `is_utf8` and none of them is a
+/// lone surrogate.
+#[inline(always)]
+fn write_few(v: &[u16], is_utf8: bool, out: &mut [u8]) -> (usize, bool)
+    requires few { length v.now ≤ FEW_UNITS }
+    requires room { FEW_BYTES ≤ length out.old }
+    ensures within { result.0 ≤ length out.new }
+    ensures short { result.0 ≤ FEW_BYTES }
+    ensures read { (w : List ℕ) → ReadsOn w (w ++ take result.0 out.new) v.now 0 is_utf8 (length v.now) result.1 }
+{
+    let mut len = 0;
+    let mut read = Progress { at: 0, is_utf8 };
+    while read.at < v.len() {
+        (len, read) = write_point(v, read, out, len);
+    }
+    (len, read.is_utf8)
+}
+
+/// Appends the bytes of at most `FEW_UNITS` units, after bytes with which they form no pair. Returns whether `is_utf8` and
+/// none of them is a lone surrogate.
+#[inline(always)]
+pub(crate) fn append<A: Allocator>(
+    bytes: &mut Vec<u8, A>,
+    v: &[u16],
+    is_utf8: bool,
+) -> Result<bool, AllocError>
+    requires few { length v.now ≤ FEW_UNITS }
+    requires room { length bytes.old.items + FEW_BYTES ≤ vec_capacity bytes.old }
+    ensures ok { IfOk result (λ known. (front : List ℕ) → IsReadTo bytes.old.items front v.now 0 is_utf8 → IsKnownForm bytes.new.items (front ++ v.now) known) }
+    ensures done { IsOk result }
+    ensures capacity { vec_capacity bytes.old ≤ vec_capacity bytes.new }
+{
+    let start = bytes.len();
+    bytes.extend_from_slice(&[0; FEW_BYTES])?;
+    let (len, is_utf8) = write_few(v, is_utf8, &mut bytes[start..]);
+    bytes.truncate(start + len);
+    Ok(is_utf8)
+}
