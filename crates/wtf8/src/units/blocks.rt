@@ -122,10 +122,10 @@ fn read_eight_threes(front: u8x16, back: u8x16) -> (u16x8, [u16; 8])
     (firsts, (high + middle + low).to_array())
 }
 
-impl EncodedLength<16, 1, 16> for OneByte {
+impl EncodedLength<8, 1, 8> for OneByte {
     #[inline(always)]
-    fn read(bytes: &[u8]) -> ([u16; 16], usize) {
-        let block = u8x16::from_slice(bytes);
+    fn read(bytes: &[u8]) -> ([u16; 8], usize) {
+        let block = u8x8::from_slice(bytes);
         (widen(block), count_leading_with_prefix(block, 128, 0))
     }
 }

@@ -1,6 +1,6 @@
 // Decodes 32 bytes of any kinds of code points at once. The unit whose encoding ends at a byte is computed from that
 // byte and the three before it, in 8-bit lanes; where none ends, what is computed is dropped when lanes are packed.
-ghost use Rattle.std.specs.Prelude.{◌≡◌, ◌<◌, List, Bool, length, take, drop, IsTrue};
+ghost use Rattle.std.specs.Prelude.{◌≡◌, ◌<◌, ◌≤◌, List, Bool, length, take, drop, IsTrue};
 ghost use lib.Lanes.{Each1, mask_l};
 ghost use Rattle.wtf8.specs.private.UnitEnds.{by_position, bytes_one_before, bytes_two_before, bytes_three_before, low_byte, high_of_two, high_byte, low_of_any, high_of_any};
 ghost use Rattle.wtf8.specs.private.UnitEnds.{set_lanes, words, joined_words, picked};
@@ -10,6 +10,9 @@ use std::simd::prelude::*;
 
 /// The number of positions that are decoded together.
 pub(crate) const POSITIONS: usize = 32;
+
+/// The least lead byte of a supplementary code point.
+pub(crate) const FIRST_OF_FOUR: u8 = 0xF0;
 
 /// Moves each byte up by one lane, by two and by three. Lane 32 is the first of another vector.
 const UP_BY_ONE: [usize; 32] = [
@@ -69,12 +72,18 @@ fn bytes_before(bytes: u8x32) -> (u8x32, u8x32, u8x32)
     )
 }
 
-/// Whether all bytes are less than `limit`: below E0 no lead byte of three or four bytes, below F0 none of four.
+/// Whether all bytes are less than `limit`: below E0 no lead byte of three or four bytes, below F0 none of four. Tested
+/// by the differences that the positions of ends are computed from: a comparison takes one to three instructions more.
 #[inline(always)]
 fn are_below(bytes: u8x32, limit: u8) -> bool
+    requires { 0x80 ≤ limit }
     ensures { IsTrue result → Each1 (λ b. b < limit) bytes }
 {
-    bytes.simd_ge(u8x32::splat(limit)).to_bitmask() == 0
+    bytes
+        .saturating_sub(u8x32::splat(limit - 0x80))
+        .simd_ge(u8x32::splat(0x80))
+        .to_bitmask()
+        == 0
 }
 
 /// The low and the high byte of the unit of one or two bytes that ends at each position.
@@ -121,8 +130,12 @@ fn units_of_four(
     ensures low { result.0 ≡ by_position (λ z y x b. low_of_any y x b) 0 0 0 bytes }
     ensures high { result.1 ≡ by_position high_of_any 0 0 0 bytes }
 {
-    let leads = two_before.simd_ge(u8x32::splat(0xF0));
-    let trails = three_before.simd_ge(u8x32::splat(0xF0));
+    let leads = two_before
+        .saturating_sub(u8x32::splat(FIRST_OF_FOUR - 0x80))
+        .simd_ge(u8x32::splat(0x80));
+    let trails = three_before
+        .saturating_sub(u8x32::splat(FIRST_OF_FOUR - 0x80))
+        .simd_ge(u8x32::splat(0x80));
     let offset = high.saturating_sub(u8x32::splat(4));
     let lead_low = low / u8x32::splat(16) + offset * u8x32::splat(16);
     let lead_high = u8x32::splat(0xD8) + offset / u8x32::splat(16);
@@ -138,7 +151,7 @@ fn units_of_four(
 /// the greater of the byte less 0x40 and the byte before less 0x60, each at least 0, is 0x80 or more.
 #[inline(always)]
 pub(crate) fn end_positions(bytes: u8x32) -> u64
-    ensures { Each1 (λ b. b < 0xF0) bytes → result ≡ mask_l (set_lanes 0 0 bytes) }
+    ensures { Each1 (λ b. b < 0xF0) (bytes_two_before bytes) → result ≡ mask_l (set_lanes 0 0 bytes) }
 {
     let (one_before, _, _) = bytes_before(bytes);
     bytes
@@ -175,7 +188,7 @@ pub(crate) fn unit_ends(bytes: u8x32) -> UnitEnds
 {
     let (one_before, two_before, three_before) = bytes_before(bytes);
     let (low, high) = units_of_two(bytes, one_before);
-    if are_below(bytes, 0xE0) {
+    if are_below(one_before, 0xE0) {
         return UnitEnds {
             low,
             high,
@@ -183,7 +196,7 @@ pub(crate) fn unit_ends(bytes: u8x32) -> UnitEnds
         };
     }
     let high = high_of_three(bytes, two_before, high);
-    if are_below(bytes, 0xF0) {
+    if are_below(two_before, 0xF0) {
         return UnitEnds {
             low,
             high,
