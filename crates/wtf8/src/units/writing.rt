@@ -232,7 +232,8 @@ fn store_packed(units: &mut [u16], at: usize, lanes: u8x16, index: usize) -> usi
 #[inline(always)]
 fn last_group(at: usize, ends: u64) -> usize
     requires { at < 2 ^ 63 }
-    ensures { result ≡ at + ones (ends % 0x100) + ones (ends / 0x100 % 0x100) + ones (ends / 0x1_0000 % 0x100) }
+    ensures within { result ≤ at + 24 }
+    ensures index { result ≡ at + ones (ends % 0x100) + ones (ends / 0x100 % 0x100) + ones (ends / 0x1_0000 % 0x100) }
 {
     let ends = ends as usize;
     let first = (ends % 0x100).count_ones() as usize;
@@ -281,7 +282,7 @@ fn decode_positions<'a>(units: &mut [u16], left: Undecoded<'a>, bytes: u8x32) ->
     ensures shorter { length result.view.bytes.now < length left.entry.view.bytes.now }
 {
     let block = unit_ends(bytes);
-    if units.len() < last_group(left.at, block.ends) + 8 {
+    if units.len() - left.at < POSITIONS && units.len() < last_group(left.at, block.ends) + 8 {
         return decode_points(units, left);
     }
     let at = store_block(units, left.at, block);
@@ -360,12 +361,13 @@ fn decode_next<'a>(units: &mut [u16], left: Undecoded<'a>) -> Undecoded<'a>
     if count == POSITIONS {
         return write_front(units, left, widen(block), POSITIONS, POSITIONS);
     }
-    let has_room = POSITIONS <= units.len() - left.at;
-    if has_room && LEAST_ASCII_FRONT <= count {
-        return decode_ascii_front(units, left, block, count);
-    }
-    if has_room && 0 < count && FIRST_OF_FOUR <= bytes[count] {
-        return decode_ascii_front(units, left, block, count);
+    if POSITIONS <= units.len() - left.at {
+        if LEAST_ASCII_FRONT <= count {
+            return decode_ascii_front(units, left, block, count);
+        }
+        if 0 < count && FIRST_OF_FOUR <= bytes[count] {
+            return decode_ascii_front(units, left, block, count);
+        }
     }
     let ends = end_positions(block);
     if ends == ENDS_OF_TWOS {

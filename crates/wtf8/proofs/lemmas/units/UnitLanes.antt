@@ -6,7 +6,7 @@ use Rattle.wtf8.proofs.Common.{tops_compared, eqb, eqb-true, IsTrue}
 use Rattle.std.proofs.lemmas.Simd.{zip2_splat_left}
 use lib.Lanes.{pick_l}
 use Rattle.std.specs.List.{range_with_len}
-use Rattle.wtf8.specs.private.UnitEnds.{by_position, bytes_one_before, bytes_two_before, bytes_three_before, low_byte, high_of_two}
+use Rattle.wtf8.specs.private.UnitEnds.{by_position, bytes_one_before, bytes_two_before, low_byte, high_of_two}
 use Rattle.wtf8.specs.private.UnitEnds.{high_byte, low_of_any, high_of_any}
 use Rattle.wtf8.specs.private.UnitEnds.{unit_at_end, ends_in_block, set_lanes, words, joined_words}
 
@@ -23,9 +23,6 @@ shuffled-one u l = of_32 (λ u. shuffled u (32 ∷ range_with_len 0 31) ≡ byte
 
 pub shuffled-two : (u : List ℕ) → length u ≡ 32 → shuffled u (32 ∷ 33 ∷ range_with_len 0 30) ≡ bytes_two_before u
 shuffled-two u l = of_32 (λ u. shuffled u (32 ∷ 33 ∷ range_with_len 0 30) ≡ bytes_two_before u) u l refl
-
-pub shuffled-three : (u : List ℕ) → length u ≡ 32 → shuffled u (32 ∷ 33 ∷ 34 ∷ range_with_len 0 29) ≡ bytes_three_before u
-shuffled-three u l = of_32 (λ u. shuffled u (32 ∷ 33 ∷ 34 ∷ range_with_len 0 29) ≡ bytes_three_before u) u l refl
 
 -- Operations on lanes of eight bits, and on one.
 
@@ -112,78 +109,95 @@ pub high_lanes-block : (u : List ℕ) → length u ≡ 32 → Each1 (Fits w8) u
 high_lanes-block u l f = subst (λ n. high_lanes n (bytes_two_before u) (by_position (λ z y x b. high_of_two x b) 0 0 0 u)
     ≡ by_position (λ z y x b. high_byte y x b) 0 0 0 u) l (high_lanes-by_position 0 0 0 u (omega arith) (omega arith) f)
 
-abbrev leading_four : ℕ → List ℕ → List Bool
-leading_four n u = are_at_least n 0x80 (less_by n u 0x70)
+-- by how much the byte two positions before exceeds 70
+abbrev pub excess : List ℕ → List ℕ
+excess u = by_position (λ z y x b. y - 0x70) 0 0 0 u
 
--- whether a byte leads four bytes
-leads_four : ℕ → Bool
-leads_four b = flag (leb 0x80 ((cond (flag (ltb b 0x70)) 0x70 b + (256 - 0x70)) % 256))
+excess-by_position : (z y x : ℕ) (u : List ℕ) → y < 256 → x < 256 → Each1 (Fits w8) u
+    → less_by (length u) (by_position (λ z y x b. y) z y x u) 0x70 ≡ by_position (λ z y x b. y - 0x70) z y x u
+excess-by_position z y x [] l m f = refl
+excess-by_position z y x (b ∷ u) l m f =
+    λ i. less_by_lane 0x70 y (omega arith) l i ∷ excess-by_position y x b u m f.0.fits f.1 i
 
-leads_four-not : (b : ℕ) → b < 0xF0 → leads_four b ≡ false
-unfolding leads_four
-leads_four-not b l = grind (arith, nat_tests, cases_lt)
+pub excess-block : (u : List ℕ) → length u ≡ 32 → Each1 (Fits w8) u → less_by 32 (bytes_two_before u) 0x70 ≡ excess u
+excess-block u l f = subst (λ n. less_by n (bytes_two_before u) 0x70 ≡ excess u) l (excess-by_position 0 0 0 u (omega arith) (omega arith) f)
 
-leads_four-so : (b : ℕ) → 0xF0 ≤ b → b < 256 → leads_four b ≡ true
-unfolding leads_four
-leads_four-so b l m = grind (arith, nat_tests, cases_lt)
+excess-one_before : (a c d z y x : ℕ) (u : List ℕ) → d ≡ z - 0x70
+    → by_position (λ z y x b. x) a c d (by_position (λ z y x b. y - 0x70) z y x u) ≡ by_position (λ z y x b. z - 0x70) z y x u
+excess-one_before a c d z y x [] e = refl
+excess-one_before a c d z y x (b ∷ u) e = λ i. e i ∷ excess-one_before c d (y - 0x70) y x b u refl i
+
+length-by_position : {A : Type 0} (f : ℕ → ℕ → ℕ → ℕ → A) (z y x : ℕ) (u : List ℕ) → length (by_position f z y x u) ≡ length u
+length-by_position f z y x [] = refl
+length-by_position f z y x (b ∷ u) = ap suc (length-by_position f y x b u)
+
+-- the excess one lane up, so of the byte three positions before
+excess-shuffled : (u : List ℕ) → length u ≡ 32
+    → shuffled (excess u) (32 ∷ range_with_len 0 31) ≡ by_position (λ z y x b. z - 0x70) 0 0 0 u
+excess-shuffled u l = shuffled-one (excess u) (length-by_position (λ z y x b. y - 0x70) 0 0 0 u ∙ l)
+    ∙ excess-one_before 0 0 0 0 0 0 u refl
 
 abbrev pub any_low_lanes : ℕ → List ℕ → List ℕ → List ℕ → List ℕ
-any_low_lanes n two low high = sel_l (leading_four n two) (add (over n low 16) (times n (less_by n high 4) 16)) low
+any_low_lanes n two low high = sel_l (are_at_least n 0x80 two) (add (over n low 16) (times n (less_by n high 4) 16)) low
 
-any_low_lane : (y low high : ℕ) → y < 256 → high < 256
-    → cond (leads_four y) ((low / 16 + (cond (flag (ltb high 4)) 4 high + (256 - 4)) % 256 * 16 % 256) % 256) low
+any_low_lane : (y low high : ℕ) → high < 256
+    → cond (flag (leb 0x80 (y - 0x70))) ((low / 16 + (cond (flag (ltb high 4)) 4 high + (256 - 4)) % 256 * 16 % 256) % 256) low
     ≡ cond (ltb y 0xF0) low ((low / 16 + (high - 4) * 16 % 256) % 256)
-any_low_lane y low high k l = elim (cases_lt y 0xF0) [
-  | inl h ↦ rw (leads_four-not y h, lt-ltb y 0xF0 h) refl
-  | inr h ↦ rw (leads_four-so y h k, le-ltb y 0xF0 h) (λ i. (low / 16 + less_by_lane 4 high (omega arith) l i * 16 % 256) % 256)
+any_low_lane y low high l = elim (cases_lt y 0xF0) [
+  | inl h ↦ rw (lt-leb 0x80 (y - 0x70) (omega (arith, h)), lt-ltb y 0xF0 h) refl
+  | inr h ↦ rw (le-leb 0x80 (y - 0x70) (omega (arith, h)), le-ltb y 0xF0 h)
+    (λ i. (low / 16 + less_by_lane 4 high (omega arith) l i * 16 % 256) % 256)
 ]
 
-any_low_lanes-by_position : (z y x : ℕ) (u : List ℕ) → y < 256 → x < 256 → Each1 (Fits w8) u
-    → any_low_lanes (length u) (by_position (λ z y x b. y) z y x u) (by_position (λ z y x b. low_byte x b) z y x u)
+any_low_lanes-by_position : (z y x : ℕ) (u : List ℕ)
+    → any_low_lanes (length u) (by_position (λ z y x b. y - 0x70) z y x u) (by_position (λ z y x b. low_byte x b) z y x u)
     (by_position (λ z y x b. high_byte y x b) z y x u) ≡ by_position (λ z y x b. low_of_any y x b) z y x u
-unfolding leads_four
-any_low_lanes-by_position z y x [] l m f = refl
-any_low_lanes-by_position z y x (b ∷ u) l m f =
-    let here = any_low_lane y (low_byte x b) (high_byte y x b) l (omega arith) in
-    λ i. here i ∷ any_low_lanes-by_position y x b u m f.0.fits f.1 i
+any_low_lanes-by_position z y x [] = refl
+any_low_lanes-by_position z y x (b ∷ u) =
+    let here = any_low_lane y (low_byte x b) (high_byte y x b) (omega arith) in
+    λ i. here i ∷ any_low_lanes-by_position y x b u i
 
-pub any_low_lanes-block : (u : List ℕ) → length u ≡ 32 → Each1 (Fits w8) u
-    → any_low_lanes 32 (bytes_two_before u) (by_position (λ z y x b. low_byte x b) 0 0 0 u) (by_position (λ z y x b. high_byte y x b) 0 0 0 u)
+pub any_low_lanes-block : (u : List ℕ) → length u ≡ 32
+    → any_low_lanes 32 (excess u) (by_position (λ z y x b. low_byte x b) 0 0 0 u) (by_position (λ z y x b. high_byte y x b) 0 0 0 u)
     ≡ by_position (λ z y x b. low_of_any y x b) 0 0 0 u
-any_low_lanes-block u l f = subst (λ n. any_low_lanes n (bytes_two_before u) (by_position (λ z y x b. low_byte x b) 0 0 0 u)
+any_low_lanes-block u l = subst (λ n. any_low_lanes n (excess u) (by_position (λ z y x b. low_byte x b) 0 0 0 u)
     (by_position (λ z y x b. high_byte y x b) 0 0 0 u) ≡ by_position (λ z y x b. low_of_any y x b) 0 0 0 u) l
-    (any_low_lanes-by_position 0 0 0 u (omega arith) (omega arith) f)
+    (any_low_lanes-by_position 0 0 0 u)
 
 abbrev pub any_high_lanes : ℕ → List ℕ → List ℕ → List ℕ → List ℕ
-any_high_lanes n two three high = sel_l (leading_four n two) (add (replicate n 0xD8) (over n (less_by n high 4) 16))
-    (sel_l (leading_four n three) (add (replicate n 0xDC) (modulo n high 4)) high)
+any_high_lanes n two three high = sel_l (are_at_least n 0x80 two) (add (replicate n 0xD8) (over n (less_by n high 4) 16))
+    (sel_l (are_at_least n 0x80 three) (add (replicate n 0xDC) (modulo n high 4)) high)
 
-any_high_lane : (z y high : ℕ) → z < 256 → y < 256 → high < 256
-    → cond (leads_four y) ((0xD8 + (cond (flag (ltb high 4)) 4 high + (256 - 4)) % 256 / 16) % 256)
-    (cond (leads_four z) ((0xDC + high % 4) % 256) high)
+any_high_lane : (z y high : ℕ) → high < 256
+    → cond (flag (leb 0x80 (y - 0x70))) ((0xD8 + (cond (flag (ltb high 4)) 4 high + (256 - 4)) % 256 / 16) % 256)
+    (cond (flag (leb 0x80 (z - 0x70))) ((0xDC + high % 4) % 256) high)
     ≡ cond (ltb y 0xF0) (cond (ltb z 0xF0) high ((0xDC + high % 4) % 256)) ((0xD8 + (high - 4) / 16) % 256)
-any_high_lane z y high n m l = elim (cases_lt y 0xF0) [
-  | inl h ↦ rw (leads_four-not y h, lt-ltb y 0xF0 h) (elim (cases_lt z 0xF0) [
-    | inl k ↦ rw (leads_four-not z k, lt-ltb z 0xF0 k) refl
-    | inr k ↦ rw (leads_four-so z k n, le-ltb z 0xF0 k) refl
+any_high_lane z y high l = elim (cases_lt y 0xF0) [
+  | inl h ↦ rw (lt-leb 0x80 (y - 0x70) (omega (arith, h)), lt-ltb y 0xF0 h) (elim (cases_lt z 0xF0) [
+    | inl k ↦ rw (lt-leb 0x80 (z - 0x70) (omega (arith, k)), lt-ltb z 0xF0 k) refl
+    | inr k ↦ rw (le-leb 0x80 (z - 0x70) (omega (arith, k)), le-ltb z 0xF0 k) refl
   ])
-  | inr h ↦ rw (leads_four-so y h m, le-ltb y 0xF0 h) (λ i. (0xD8 + less_by_lane 4 high (omega arith) l i / 16) % 256)
+  | inr h ↦ rw (le-leb 0x80 (y - 0x70) (omega (arith, h)), le-ltb y 0xF0 h)
+    (λ i. (0xD8 + less_by_lane 4 high (omega arith) l i / 16) % 256)
 ]
 
-any_high_lanes-by_position : (z y x : ℕ) (u : List ℕ) → z < 256 → y < 256 → x < 256 → Each1 (Fits w8) u
-    → any_high_lanes (length u) (by_position (λ z y x b. y) z y x u) (by_position (λ z y x b. z) z y x u)
+any_high_lanes-by_position : (z y x : ℕ) (u : List ℕ)
+    → any_high_lanes (length u) (by_position (λ z y x b. y - 0x70) z y x u) (by_position (λ z y x b. z - 0x70) z y x u)
     (by_position (λ z y x b. high_byte y x b) z y x u) ≡ by_position high_of_any z y x u
-unfolding leads_four
-any_high_lanes-by_position z y x [] k l m f = refl
-any_high_lanes-by_position z y x (b ∷ u) k l m f =
-    let here = any_high_lane z y (high_byte y x b) k l (omega arith) in
-    λ i. here i ∷ any_high_lanes-by_position y x b u l m f.0.fits f.1 i
+any_high_lanes-by_position z y x [] = refl
+any_high_lanes-by_position z y x (b ∷ u) =
+    let here = any_high_lane z y (high_byte y x b) (omega arith) in
+    λ i. here i ∷ any_high_lanes-by_position y x b u i
 
-pub any_high_lanes-block : (u : List ℕ) → length u ≡ 32 → Each1 (Fits w8) u
-    → any_high_lanes 32 (bytes_two_before u) (bytes_three_before u) (by_position (λ z y x b. high_byte y x b) 0 0 0 u)
+pub any_high_lanes-block : (u e : List ℕ) → length u ≡ 32 → e ≡ excess u
+    → any_high_lanes 32 e (shuffled e (32 ∷ range_with_len 0 31)) (by_position (λ z y x b. high_byte y x b) 0 0 0 u)
     ≡ by_position high_of_any 0 0 0 u
-any_high_lanes-block u l f = subst (λ n. any_high_lanes n (bytes_two_before u) (bytes_three_before u) (by_position (λ z y x b. high_byte y x b) 0 0 0 u)
-    ≡ by_position high_of_any 0 0 0 u) l (any_high_lanes-by_position 0 0 0 u (omega arith) (omega arith) (omega arith) f)
+any_high_lanes-block u e l same =
+    let high = by_position (λ z y x b. high_byte y x b) 0 0 0 u in
+    let own = subst (λ n. any_high_lanes n (excess u) (by_position (λ z y x b. z - 0x70) 0 0 0 u) high ≡ by_position high_of_any 0 0 0 u) l
+    (any_high_lanes-by_position 0 0 0 u) in
+    subst (λ e. any_high_lanes 32 e (shuffled e (32 ∷ range_with_len 0 31)) high ≡ by_position high_of_any 0 0 0 u) (sym same)
+    (subst (λ t. any_high_lanes 32 (excess u) t high ≡ by_position high_of_any 0 0 0 u) (sym (excess-shuffled u l)) own)
 
 -- without lead bytes of three or four bytes, and of four, before them, the bytes of units are those of shorter ones
 pub high_byte-short : (z y x : ℕ) (u : List ℕ) → y < 0xE0 → Each1 (λ b. b < 0xE0) (by_position (λ z y x b. x) z y x u)
