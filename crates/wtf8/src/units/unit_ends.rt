@@ -128,9 +128,7 @@ fn units_of_four(bytes: u8x32, excess: u8x32, low: u8x32, high: u8x32) -> (u8x32
 {
     let least = u8x32::splat(0x80);
     let leads = excess.simd_ge(least);
-    let trails = excess
-        .shuffle(u8x32::splat(0), UP_BY_ONE)
-        .simd_ge(least);
+    let trails = excess.shuffle(u8x32::splat(0), UP_BY_ONE).simd_ge(least);
     let offset = high.saturating_sub(u8x32::splat(4));
     let lead_low = low / u8x32::splat(16) + offset * u8x32::splat(16);
     let lead_high = u8x32::splat(0xD8) + offset / u8x32::splat(16);

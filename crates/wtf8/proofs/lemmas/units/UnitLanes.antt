@@ -146,7 +146,7 @@ any_low_lane : (y low high : ℕ) → high < 256
 any_low_lane y low high l = elim (cases_lt y 0xF0) [
   | inl h ↦ rw (lt-leb 0x80 (y - 0x70) (omega (arith, h)), lt-ltb y 0xF0 h) refl
   | inr h ↦ rw (le-leb 0x80 (y - 0x70) (omega (arith, h)), le-ltb y 0xF0 h)
-    (λ i. (low / 16 + less_by_lane 4 high (omega arith) l i * 16 % 256) % 256)
+      (λ i. (low / 16 + less_by_lane 4 high (omega arith) l i * 16 % 256) % 256)
 ]
 
 any_low_lanes-by_position : (z y x : ℕ) (u : List ℕ)
@@ -178,7 +178,7 @@ any_high_lane z y high l = elim (cases_lt y 0xF0) [
     | inr k ↦ rw (le-leb 0x80 (z - 0x70) (omega (arith, k)), le-ltb z 0xF0 k) refl
   ])
   | inr h ↦ rw (le-leb 0x80 (y - 0x70) (omega (arith, h)), le-ltb y 0xF0 h)
-    (λ i. (0xD8 + less_by_lane 4 high (omega arith) l i / 16) % 256)
+      (λ i. (0xD8 + less_by_lane 4 high (omega arith) l i / 16) % 256)
 ]
 
 any_high_lanes-by_position : (z y x : ℕ) (u : List ℕ)
