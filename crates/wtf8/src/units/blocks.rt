@@ -37,13 +37,12 @@ pub(crate) struct TwoBytes;
 /// Code points of three bytes, surrogates included.
 pub(crate) struct ThreeBytes;
 
-/// Whether `byte` begins a code point of `width` bytes, at most three.
+/// Whether `byte` begins a code point of `width` bytes, one or two.
 #[inline(always)]
 pub(crate) fn is_lead_byte(byte: u8, width: usize) -> bool {
     match width {
         1 => byte < 0x80,
-        2 => byte / 32 == 6,
-        _ => byte / 16 == 14,
+        _ => byte / 32 == 6,
     }
 }
 

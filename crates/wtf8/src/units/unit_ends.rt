@@ -116,8 +116,8 @@ fn excess_before(bytes: u8x32, two_before: u8x32) -> u8x32
 }
 
 /// The low and the high byte of the unit that ends at each position, from those of one to three bytes. The third of
-/// four bytes ends a lead, the fourth a trail. The difference is an argument, since LLVM makes a comparison of its own
-/// of one that is computed here: 3% more instructions for supplementary code points.
+/// four bytes ends a lead, the fourth a trail. The excess is an argument, since LLVM replaces one that is computed here
+/// by two comparisons: 4 to 8% more instructions for supplementary code points.
 #[inline(always)]
 fn units_of_four(bytes: u8x32, excess: u8x32, low: u8x32, high: u8x32) -> (u8x32, u8x32)
     requires excess { excess ≡ by_position (λ z y x b. y - 0x70) 0 0 0 bytes }

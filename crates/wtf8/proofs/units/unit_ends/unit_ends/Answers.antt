@@ -1,4 +1,4 @@
-use Rattle.wtf8.proofs.Common.{◌≡◌, ◌∙◌, ◌<◌, List, ℕ, arith, Each1, subst}
+use Rattle.wtf8.proofs.Common.{◌∙◌, ◌<◌, List, ℕ, arith, Each1, subst}
 use Rattle.wtf8.proofs.lemmas.units.UnitLanes.{high_byte-short, low_of_any-short, high_of_any-short, below_two}
 use Rattle.wtf8.specs.private.UnitEnds.{bytes_one_before, bytes_two_before}
 use Rattle.wtf8.proofs.units.unit_ends.unit_ends.Goals as goal

@@ -1,4 +1,4 @@
-use Rattle.wtf8.proofs.Common.{◌≡◌, ◌≤◌, ◌∙◌, AreAscii, arith, subst, take}
+use Rattle.wtf8.proofs.Common.{◌≤◌, ◌∙◌, AreAscii, arith, subst, take}
 use Rattle.wtf8.proofs.lemmas.units.Blocks.{begins_with_front}
 use Rattle.wtf8.proofs.units.writing.decode_ascii_front.Goals as goal
 

@@ -1,4 +1,4 @@
-use Rattle.wtf8.proofs.Common.{◌≡◌, ℕ, ◌*◌, ◌/◌, ◌+◌, ◌<◌, ◌≤◌, List, ap, arith, length, length-append, length-drop, length-take, subst, take, units}
+use Rattle.wtf8.proofs.Common.{◌≡◌, ◌+◌, ◌≤◌, ap, arith, length, length-append, length-drop, length-take, subst, take, units}
 use Rattle.wtf8.proofs.Common.{AreAscii}
 use Rattle.wtf8.proofs.lemmas.units.Blocks.{begins_with_front}
 use Rattle.wtf8.proofs.units.writing.decode_next.Goals as goal
