@@ -8,15 +8,12 @@ abbrev pub by_position : {A : Type 0} → (ℕ → ℕ → ℕ → ℕ → A) �
 by_position f z y x [] = []
 by_position f z y x (b ∷ w) = f z y x b ∷ by_position f y x b w
 
--- For each byte of a block, the byte one, two and three positions before it, or 0.
+-- For each byte of a block, the byte one position before it, or 0; below, two positions.
 abbrev pub bytes_one_before : List ℕ → List ℕ
 bytes_one_before w = by_position (λ z y x b. x) 0 0 0 w
 
 abbrev pub bytes_two_before : List ℕ → List ℕ
 bytes_two_before w = by_position (λ z y x b. y) 0 0 0 w
-
-abbrev pub bytes_three_before : List ℕ → List ℕ
-bytes_three_before w = by_position (λ z y x b. z) 0 0 0 w
 
 -- The byte `x` before `b`, or 0 if `b` is ASCII, which is an encoding of its own (Unicode 3.9, "UTF-8", Table 3-6).
 abbrev pub lead_or_none : ℕ → ℕ → ℕ

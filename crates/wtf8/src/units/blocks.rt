@@ -34,13 +34,12 @@ pub(crate) struct TwoBytes;
 /// Code points of three bytes, surrogates included.
 pub(crate) struct ThreeBytes;
 
-/// Whether `byte` begins a code point of `width` bytes, at most three.
+/// Whether `byte` begins a code point of `width` bytes, one or two.
 #[inline(always)]
 pub(crate) fn is_lead_byte(byte: u8, width: usize) -> bool {
     match width {
         1 => byte < 0x80,
-        2 => byte / 32 == 6,
-        _ => byte / 16 == 14,
+        _ => byte / 32 == 6,
     }
 }
 
@@ -116,10 +115,10 @@ fn read_eight_threes(front: u8x16, back: u8x16) -> (u16x8, [u16; 8])
     (firsts, (high + middle + low).to_array())
 }
 
-impl EncodedLength<16, 1, 16> for OneByte {
+impl EncodedLength<8, 1, 8> for OneByte {
     #[inline(always)]
-    fn read(bytes: &[u8]) -> ([u16; 16], usize) {
-        let block = u8x16::from_slice(bytes);
+    fn read(bytes: &[u8]) -> ([u16; 8], usize) {
+        let block = u8x8::from_slice(bytes);
         (widen(block), count_leading_with_prefix(block, 128, 0))
     }
 }

@@ -1,8 +1,8 @@
 // Decodes 32 bytes of any kinds of code points at once. The unit whose encoding ends at a byte is computed from that
 // byte and the three before it, in 8-bit lanes; where none ends, what is computed is dropped when lanes are packed.
-ghost use Rattle.std.specs.Prelude.{◌≡◌, ◌<◌, List, Bool, length, take, drop, IsTrue};
+ghost use Rattle.std.specs.Prelude.{◌≡◌, ◌-◌, ◌<◌, ◌≤◌, List, Bool, length, take, drop, IsTrue};
 ghost use lib.Lanes.{Each1, mask_l};
-ghost use Rattle.wtf8.specs.private.UnitEnds.{by_position, bytes_one_before, bytes_two_before, bytes_three_before, low_byte, high_of_two, high_byte, low_of_any, high_of_any};
+ghost use Rattle.wtf8.specs.private.UnitEnds.{by_position, bytes_one_before, bytes_two_before, low_byte, high_of_two, high_byte, low_of_any, high_of_any};
 ghost use Rattle.wtf8.specs.private.UnitEnds.{set_lanes, words, joined_words, picked};
 
 use crate::units::packing_table::packing_row;
@@ -11,7 +11,10 @@ use std::simd::prelude::*;
 /// The number of positions that are decoded together.
 pub(crate) const POSITIONS: usize = 32;
 
-/// Moves each byte up by one lane, by two and by three. Lane 32 is the first of another vector.
+/// The least lead byte of a supplementary code point.
+pub(crate) const FIRST_OF_FOUR: u8 = 0xF0;
+
+/// Moves each byte up by one lane; below, by two. Lane 32 is the first of another vector.
 const UP_BY_ONE: [usize; 32] = [
     32, 0, 1, 2, 3, 4, 5, 6, 7, 8, 9, 10, 11, 12, 13, 14, 15, 16, 17, 18, 19, 20, 21, 22, 23, 24,
     25, 26, 27, 28, 29, 30,
@@ -20,11 +23,6 @@ const UP_BY_ONE: [usize; 32] = [
 const UP_BY_TWO: [usize; 32] = [
     32, 33, 0, 1, 2, 3, 4, 5, 6, 7, 8, 9, 10, 11, 12, 13, 14, 15, 16, 17, 18, 19, 20, 21, 22, 23,
     24, 25, 26, 27, 28, 29,
-];
-
-const UP_BY_THREE: [usize; 32] = [
-    32, 33, 34, 0, 1, 2, 3, 4, 5, 6, 7, 8, 9, 10, 11, 12, 13, 14, 15, 16, 17, 18, 19, 20, 21, 22,
-    23, 24, 25, 26, 27, 28,
 ];
 
 const LAST_LANE: [u8; 32] = [
@@ -54,25 +52,29 @@ pub(crate) struct UnitEnds {
 }
 
 #[inline(always)]
-fn bytes_before(bytes: u8x32) -> (u8x32, u8x32, u8x32)
+fn bytes_before(bytes: u8x32) -> (u8x32, u8x32)
     ensures one { result.0 ≡ bytes_one_before bytes }
     ensures two { result.1 ≡ bytes_two_before bytes }
-    ensures three { result.2 ≡ bytes_three_before bytes }
 {
     let none = u8x32::splat(0);
     (
         bytes.shuffle(none, UP_BY_ONE),
         bytes.shuffle(none, UP_BY_TWO),
-        bytes.shuffle(none, UP_BY_THREE),
     )
 }
 
-/// Whether all bytes are less than `limit`: below E0 no lead byte of three or four bytes, below F0 none of four.
+/// Whether all bytes are less than `limit`: below E0 no lead byte of three or four bytes, below F0 none of four. Tested
+/// by the differences that the positions of ends are computed from: a comparison takes one to three instructions more.
 #[inline(always)]
 fn are_below(bytes: u8x32, limit: u8) -> bool
+    requires { 0x80 ≤ limit }
     ensures { IsTrue result → Each1 (λ b. b < limit) bytes }
 {
-    bytes.simd_ge(u8x32::splat(limit)).to_bitmask() == 0
+    bytes
+        .saturating_sub(u8x32::splat(limit - 0x80))
+        .simd_ge(u8x32::splat(0x80))
+        .to_bitmask()
+        == 0
 }
 
 /// The low and the high byte of the unit of one or two bytes that ends at each position.
@@ -101,24 +103,29 @@ fn high_of_three(bytes: u8x32, two_before: u8x32, high: u8x32) -> u8x32
     high + two_before.saturating_sub(u8x32::splat(0xE0)) * u8x32::splat(16)
 }
 
-/// Takes the low and high bytes of units of up to three bytes. The third of four ends a lead, the fourth a trail.
+/// By how much the byte two positions before each byte exceeds 0x70: 0x80 or more where it leads four bytes.
 #[inline(always)]
-fn units_of_four(
-    bytes: u8x32,
-    two_before: u8x32,
-    three_before: u8x32,
-    low: u8x32,
-    high: u8x32,
-) -> (u8x32, u8x32)
-    requires two { two_before ≡ bytes_two_before bytes }
-    requires three { three_before ≡ bytes_three_before bytes }
+fn excess_before(bytes: u8x32, two_before: u8x32) -> u8x32
+    requires { two_before ≡ bytes_two_before bytes }
+    ensures { result ≡ by_position (λ z y x b. y - 0x70) 0 0 0 bytes }
+{
+    two_before.saturating_sub(u8x32::splat(FIRST_OF_FOUR - 0x80))
+}
+
+/// Takes the low and high bytes of units of up to three bytes. The third of four ends a lead, the fourth a trail. The
+/// excess is an argument, since LLVM replaces one that is computed here by two comparisons: 4 to 8% more instructions
+/// for supplementary code points.
+#[inline(always)]
+fn units_of_four(bytes: u8x32, excess: u8x32, low: u8x32, high: u8x32) -> (u8x32, u8x32)
+    requires excess { excess ≡ by_position (λ z y x b. y - 0x70) 0 0 0 bytes }
     requires low { low ≡ by_position (λ z y x b. low_byte x b) 0 0 0 bytes }
     requires high { high ≡ by_position (λ z y x b. high_byte y x b) 0 0 0 bytes }
     ensures low { result.0 ≡ by_position (λ z y x b. low_of_any y x b) 0 0 0 bytes }
     ensures high { result.1 ≡ by_position high_of_any 0 0 0 bytes }
 {
-    let leads = two_before.simd_ge(u8x32::splat(0xF0));
-    let trails = three_before.simd_ge(u8x32::splat(0xF0));
+    let least = u8x32::splat(0x80);
+    let leads = excess.simd_ge(least);
+    let trails = excess.shuffle(u8x32::splat(0), UP_BY_ONE).simd_ge(least);
     let offset = high.saturating_sub(u8x32::splat(4));
     let lead_low = low / u8x32::splat(16) + offset * u8x32::splat(16);
     let lead_high = u8x32::splat(0xD8) + offset / u8x32::splat(16);
@@ -134,9 +141,9 @@ fn units_of_four(
 /// the greater of the byte less 0x40 and the byte before less 0x60, each at least 0, is 0x80 or more.
 #[inline(always)]
 pub(crate) fn end_positions(bytes: u8x32) -> u64
-    ensures { Each1 (λ b. b < 0xF0) bytes → result ≡ mask_l (set_lanes 0 0 bytes) }
+    ensures { Each1 (λ b. b < 0xF0) (bytes_two_before bytes) → result ≡ mask_l (set_lanes 0 0 bytes) }
 {
-    let (one_before, _, _) = bytes_before(bytes);
+    let (one_before, _) = bytes_before(bytes);
     bytes
         .saturating_sub(u8x32::splat(0x40))
         .simd_max(one_before.saturating_sub(u8x32::splat(0x60)))
@@ -169,9 +176,9 @@ pub(crate) fn unit_ends(bytes: u8x32) -> UnitEnds
     ensures high { result.high ≡ by_position high_of_any 0 0 0 bytes }
     ensures ends { result.ends ≡ mask_l (set_lanes 0 0 bytes) }
 {
-    let (one_before, two_before, three_before) = bytes_before(bytes);
+    let (one_before, two_before) = bytes_before(bytes);
     let (low, high) = units_of_two(bytes, one_before);
-    if are_below(bytes, 0xE0) {
+    if are_below(one_before, 0xE0) {
         return UnitEnds {
             low,
             high,
@@ -179,14 +186,15 @@ pub(crate) fn unit_ends(bytes: u8x32) -> UnitEnds
         };
     }
     let high = high_of_three(bytes, two_before, high);
-    if are_below(bytes, 0xF0) {
+    if are_below(two_before, 0xF0) {
         return UnitEnds {
             low,
             high,
             ends: end_positions(bytes),
         };
     }
-    let (low, high) = units_of_four(bytes, two_before, three_before, low, high);
+    let excess = excess_before(bytes, two_before);
+    let (low, high) = units_of_four(bytes, excess, low, high);
     UnitEnds {
         low,
         high,

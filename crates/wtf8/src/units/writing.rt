@@ -1,5 +1,6 @@
 // Appends the code units of a view to a vector.
-ghost use Rattle.std.specs.Prelude.{◌≡◌, ℕ, List, Bool, ◌++◌, ◌+◌, ◌*◌, ◌<◌, ◌≤◌, length, take, drop, IsOk, IsTrue, OnOk, OnErr, false, vec_len, vec_capacity};
+ghost use Rattle.std.specs.Prelude.{◌≡◌, ℕ, List, Bool, ◌++◌, ◌+◌, ◌*◌, ◌/◌, ◌%◌, ◌^◌, ◌<◌, ◌≤◌, length, take, drop, IsOk, IsTrue, OnOk, OnErr, false, vec_len, vec_capacity};
+ghost use lib.Count.{ones};
 ghost use lib.Lanes.{mask_l};
 ghost use Rattle.wtf8.specs.private.Prefixes.{AreAscii};
 ghost use Rattle.wtf8.specs.private.UnitEnds.{picked, words, joined_words};
@@ -17,7 +18,7 @@ use crate::lanes::ascii::{ascii_run_len, is_ascii_overlapping};
 use crate::strings::view::Wtf8;
 use crate::units::blocks::{EncodedLength, OneByte, ThreeBytes, TwoBytes, is_lead_byte, widen};
 use crate::units::unit_ends::{
-    POSITIONS, UnitEnds, end_positions, interleave, pack_words, unit_ends,
+    FIRST_OF_FOUR, POSITIONS, UnitEnds, end_positions, interleave, pack_words, unit_ends,
 };
 use crate::vec::push_block;
 use std::alloc::{AllocError, Allocator};
@@ -36,8 +37,9 @@ const ENDS_OF_TWOS: u64 = 0xAAAA_AAAA;
 
 const ENDS_OF_THREES: u64 = 0x92_4924;
 
-/// The least lead byte of a supplementary code point.
-const FIRST_OF_FOUR: u8 = 0xF0;
+/// From this many ASCII bytes on at the front of a block it is cheaper to decode them and one other code point than the
+/// whole block by positions: with 16, English takes 1.12 to 1.16 of the instructions.
+const LEAST_ASCII_FRONT: usize = 4;
 
 /// The most lanes of a vector, so the most units that one store writes.
 const MOST_LANES: usize = 64;
@@ -209,7 +211,7 @@ fn decode_run<
 fn store_packed(units: &mut [u16], at: usize, lanes: u8x16, index: usize) -> usize
     requires index { index < 256 }
     requires room { at + 8 ≤ length units.old }
-    ensures within { result ≤ at + 8 }
+    ensures count { result ≡ at + ones index }
     ensures len { length units.new ≡ length units.old }
     ensures written { (s : List Bool) (rest : List ℕ) → length s ≡ 8 → index ≡ mask_l s
         → Writes units.old at (picked (words lanes) s ++ rest) units.new result rest }
@@ -218,9 +220,23 @@ fn store_packed(units: &mut [u16], at: usize, lanes: u8x16, index: usize) -> usi
     at + index.count_ones() as usize
 }
 
+/// The index of the units that end in the last of the four groups of eight positions, if those of the first begin at
+/// `at`.
+#[inline(always)]
+fn last_group(at: usize, ends: u64) -> usize
+    requires { at < 2 ^ 63 }
+    ensures within { result ≤ at + 24 }
+    ensures index { result ≡ at + ones (ends % 0x100) + ones (ends / 0x100 % 0x100) + ones (ends / 0x1_0000 % 0x100) }
+{
+    let ends = ends as usize;
+    let first = (ends % 0x100).count_ones() as usize;
+    let second = (ends / 0x100 % 0x100).count_ones() as usize;
+    at + first + second + (ends / 0x1_0000 % 0x100).count_ones() as usize
+}
+
 #[inline(always)]
 fn store_block(units: &mut [u16], at: usize, block: UnitEnds) -> usize
-    requires room { at + POSITIONS ≤ length units.old }
+    requires room { at + ones (block.ends % 0x100) + ones (block.ends / 0x100 % 0x100) + ones (block.ends / 0x1_0000 % 0x100) + 8 ≤ length units.old }
     ensures { (s : List Bool) (rest : List ℕ) → length s ≡ POSITIONS → block.ends ≡ mask_l s
         → Writes units.old at (picked (joined_words block.low block.high) s ++ rest) units.new result rest }
 {
@@ -246,7 +262,7 @@ fn decode_points<'a>(units: &mut [u16], left: Undecoded<'a>) -> Undecoded<'a>
     rest
 }
 
-/// Near the end, without room for `POSITIONS` units, decodes code points one by one.
+/// Without room for the eight units that the last store writes, so near the end, decodes code points one by one.
 #[inline(always)]
 fn decode_positions<'a>(units: &mut [u16], left: Undecoded<'a>, bytes: u8x32) -> Undecoded<'a>
     requires room { left.at + length (view_units left.view) ≤ length units.old }
@@ -255,10 +271,10 @@ fn decode_positions<'a>(units: &mut [u16], left: Undecoded<'a>, bytes: u8x32) ->
     ensures written { Writes units.old left.entry.at (view_units left.entry.view) units.new result.at (view_units result.view) }
     ensures shorter { length result.view.bytes.now < length left.entry.view.bytes.now }
 {
-    if units.len() - left.at < POSITIONS {
+    let block = unit_ends(bytes);
+    if units.len() - left.at < POSITIONS && units.len() < last_group(left.at, block.ends) + 8 {
         return decode_points(units, left);
     }
-    let block = unit_ends(bytes);
     let at = store_block(units, left.at, block);
     let width = (u64::BITS - block.ends.leading_zeros()) as usize;
     Undecoded {
@@ -296,10 +312,32 @@ fn decode_full_blocks<
     decode_point(units, rest)
 }
 
+/// Decodes the ASCII bytes at the front of a block and the code point after them.
+#[inline(always)]
+fn decode_ascii_front<'a>(
+    units: &mut [u16],
+    left: Undecoded<'a>,
+    block: u8x32,
+    count: usize,
+) -> Undecoded<'a>
+    requires room { left.at + length (view_units left.view) ≤ length units.old }
+    requires block_room { left.at + POSITIONS ≤ length units.old }
+    requires least { LONGEST_LOAD ≤ length left.view.bytes.now }
+    requires front { block ≡ take LONGEST_LOAD left.view.bytes.now }
+    requires few { count < POSITIONS }
+    requires ascii { AreAscii (take count block) }
+    ensures written { Writes units.old left.entry.at (view_units left.entry.view) units.new result.at (view_units result.view) }
+    ensures shorter { length result.view.bytes.now < length left.entry.view.bytes.now }
+{
+    let after = write_front(units, left, widen(block), count, count);
+    decode_point(units, after)
+}
+
 /// Decodes 32 ASCII bytes, in 0.78 of the time that blocks of 16 take; or the ASCII bytes at the front and one other
-/// code point, if at least 16 are ASCII or a supplementary one follows, since by positions English takes 1.06 of the
-/// time and emoji in ASCII 1.18; or full blocks of two- or three-byte code points, which take 1.7 to 1.9 by positions;
-/// or all whole code points in 32 bytes. The positions of unit ends only choose: each way is right for any bytes.
+/// code point, if at least `LEAST_ASCII_FRONT` are ASCII or a supplementary one follows; two conditions, since one that
+/// joins them takes 1.08 of the instructions of emoji in ASCII; or full blocks of two- or three-byte code points, which
+/// take 1.7 to 1.9 by positions; or all whole code points in 32 bytes. The positions of unit ends only choose: each way
+/// is right for any bytes.
 #[inline(always)]
 fn decode_next<'a>(units: &mut [u16], left: Undecoded<'a>) -> Undecoded<'a>
     requires room { left.at + length (view_units left.view) ≤ length units.old }
@@ -313,11 +351,13 @@ fn decode_next<'a>(units: &mut [u16], left: Undecoded<'a>) -> Undecoded<'a>
     if count == POSITIONS {
         return write_front(units, left, widen(block), POSITIONS, POSITIONS);
     }
-    if POSITIONS <= units.len() - left.at
-        && ((0 < count && FIRST_OF_FOUR <= bytes[count]) || VECTOR <= count)
-    {
-        let after = write_front(units, left, widen(block), count, count);
-        return decode_point(units, after);
+    if POSITIONS <= units.len() - left.at {
+        if LEAST_ASCII_FRONT <= count {
+            return decode_ascii_front(units, left, block, count);
+        }
+        if 0 < count && FIRST_OF_FOUR <= bytes[count] {
+            return decode_ascii_front(units, left, block, count);
+        }
     }
     let ends = end_positions(block);
     if ends == ENDS_OF_TWOS {
@@ -330,6 +370,7 @@ fn decode_next<'a>(units: &mut [u16], left: Undecoded<'a>) -> Undecoded<'a>
 }
 
 /// `decode_next` for fewer than `LONGEST_LOAD` bytes: by blocks if the first two code points have one byte each or two.
+/// By ASCII blocks of eight bytes 40 ASCII units take 0.67 of the instructions that they take by blocks of 16.
 #[inline(always)]
 fn decode_next_of_tail<'a>(units: &mut [u16], left: Undecoded<'a>) -> Undecoded<'a>
     requires room { left.at + length (view_units left.view) ≤ length units.old }
@@ -339,11 +380,11 @@ fn decode_next_of_tail<'a>(units: &mut [u16], left: Undecoded<'a>) -> Undecoded<
 {
     let bytes = left.view.bytes;
     // The length is compared once here, since each of the patterns would compare it.
-    if bytes.len() < VECTOR {
+    if bytes.len() < VECTOR / 2 {
         return decode_point(units, left);
     }
     match bytes {
-        [0x00..=0x7F, 0x00..=0x7F, ..] => decode_run::<16, 1, 16, OneByte>(units, left),
+        [0x00..=0x7F, 0x00..=0x7F, ..] => decode_run::<8, 1, 8, OneByte>(units, left),
         [0xC0..=0xDF, _, 0xC0..=0xDF, ..] => decode_run::<8, 2, 16, TwoBytes>(units, left),
         _ => decode_point(units, left),
     }

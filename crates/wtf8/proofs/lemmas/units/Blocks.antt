@@ -2,7 +2,7 @@
 use Rattle.wtf8.proofs.Common.{◌≡◌, ℕ, zero, suc, ◌<◌, ◌≤◌, List, [], ◌∷◌, ◌++◌, length, take, drop, get_or, refl, sym, ap, ◌∙◌, arith}
 use Rattle.wtf8.proofs.Common.{IsWellFormed, units, encoding, length-append, units_of, ◌+◌, ◌*◌, subst, Each1, drop-drop, length-drop}
 use Rattle.wtf8.proofs.Common.{length-take, take-append-drop, get_or_append_left, drop-append-le, FirstPointIs}
-use Rattle.wtf8.proofs.Common.{BeginsWithUnits, unit_of_two, unit_of_three, ◌/◌}
+use Rattle.wtf8.proofs.Common.{BeginsWithUnits, unit_of_two, unit_of_three, ◌/◌, AreAscii, Each1-weaker}
 use Rattle.wtf8.proofs.lemmas.codec.Encoding.{encoding_cases, length-encoding_bounds, encoding-from_ascii_byte}
 use native.Mathlib.Nat.{mul-suc}
 use Rattle.wtf8.specs.private.EncodedBytes.{map_run}
@@ -86,6 +86,14 @@ begins_with_ascii n w count block long le e =
     let own = one_byte_run (take n w) in
     begins_with_run 1 (length (take n w)) n lead_byte DecodesRun-one_byte w count (take n w) block (omega (arith, fits)) long
     (omega (arith, le, fits)) own (e ∙ own)
+
+-- the ASCII bytes at the front of a block are the next units
+pub begins_with_front : (w block : List ℕ) (count : ℕ) → 32 ≤ length w → count ≤ 32 → block ≡ take 32 w → AreAscii (take count (take 32 w))
+    → BeginsWithUnits w (take count block) count
+begins_with_front w block count least few same ascii =
+    let one : 1 * count ≡ count = omega arith in
+    subst (BeginsWithUnits w (take count block)) one (begins_with_ascii 32 w count block least few same
+    (Each1-weaker (λ b. b < 0x80) (λ b. b / 128 ≡ 0) (λ b l. omega arith) (take count (take 32 w)) ascii))
 
 -- a code point `p` that was decoded from `n` bytes gives the next units
 pub record ReadUnits (w : List ℕ) (p n : ℕ) : Type 0 where

@@ -1,12 +1,12 @@
 -- The lanes that compute the units of a block.
-use Rattle.wtf8.proofs.Common.{◌≡◌, ℕ, zero, suc, ◌+◌, ◌-◌, ◌*◌, ◌/◌, ◌%◌, ◌^◌, ◌<◌, List, [], ◌∷◌, ◌++◌, Bool, true, false, length}
+use Rattle.wtf8.proofs.Common.{◌≡◌, ℕ, zero, suc, ◌+◌, ◌-◌, ◌*◌, ◌/◌, ◌%◌, ◌^◌, ◌<◌, ◌≤◌, List, [], ◌∷◌, ◌++◌, Bool, true, false, length}
 use Rattle.wtf8.proofs.Common.{take, drop, map, cond, refl, sym, ap, ◌∙◌, subst, arith, Each1, Fits, w8, mask_l, top, sel_l, zip2, ltb, leb}
 use Rattle.wtf8.proofs.Common.{replicate, nat_tests, cases_lt, inl, inr, lt-ltb, le-ltb, le-leb, lt-leb, mask_l-mod, length-map, pick_l_whole}
 use Rattle.wtf8.proofs.Common.{tops_compared, eqb, eqb-true, IsTrue}
 use Rattle.std.proofs.lemmas.Simd.{zip2_splat_left}
 use lib.Lanes.{pick_l}
 use Rattle.std.specs.List.{range_with_len}
-use Rattle.wtf8.specs.private.UnitEnds.{by_position, bytes_one_before, bytes_two_before, bytes_three_before, low_byte, high_of_two}
+use Rattle.wtf8.specs.private.UnitEnds.{by_position, bytes_one_before, bytes_two_before, low_byte, high_of_two}
 use Rattle.wtf8.specs.private.UnitEnds.{high_byte, low_of_any, high_of_any}
 use Rattle.wtf8.specs.private.UnitEnds.{unit_at_end, ends_in_block, set_lanes, words, joined_words}
 
@@ -23,9 +23,6 @@ shuffled-one u l = of_32 (λ u. shuffled u (32 ∷ range_with_len 0 31) ≡ byte
 
 pub shuffled-two : (u : List ℕ) → length u ≡ 32 → shuffled u (32 ∷ 33 ∷ range_with_len 0 30) ≡ bytes_two_before u
 shuffled-two u l = of_32 (λ u. shuffled u (32 ∷ 33 ∷ range_with_len 0 30) ≡ bytes_two_before u) u l refl
-
-pub shuffled-three : (u : List ℕ) → length u ≡ 32 → shuffled u (32 ∷ 33 ∷ 34 ∷ range_with_len 0 29) ≡ bytes_three_before u
-shuffled-three u l = of_32 (λ u. shuffled u (32 ∷ 33 ∷ 34 ∷ range_with_len 0 29) ≡ bytes_three_before u) u l refl
 
 -- Operations on lanes of eight bits, and on one.
 
@@ -112,19 +109,48 @@ pub high_lanes-block : (u : List ℕ) → length u ≡ 32 → Each1 (Fits w8) u
 high_lanes-block u l f = subst (λ n. high_lanes n (bytes_two_before u) (by_position (λ z y x b. high_of_two x b) 0 0 0 u)
     ≡ by_position (λ z y x b. high_byte y x b) 0 0 0 u) l (high_lanes-by_position 0 0 0 u (omega arith) (omega arith) f)
 
+-- by how much the byte two positions before exceeds 70
+abbrev pub excess : List ℕ → List ℕ
+excess u = by_position (λ z y x b. y - 0x70) 0 0 0 u
+
+excess-by_position : (z y x : ℕ) (u : List ℕ) → y < 256 → x < 256 → Each1 (Fits w8) u
+    → less_by (length u) (by_position (λ z y x b. y) z y x u) 0x70 ≡ by_position (λ z y x b. y - 0x70) z y x u
+excess-by_position z y x [] l m f = refl
+excess-by_position z y x (b ∷ u) l m f =
+    λ i. less_by_lane 0x70 y (omega arith) l i ∷ excess-by_position y x b u m f.0.fits f.1 i
+
+pub excess-block : (u : List ℕ) → length u ≡ 32 → Each1 (Fits w8) u → less_by 32 (bytes_two_before u) 0x70 ≡ excess u
+excess-block u l f = subst (λ n. less_by n (bytes_two_before u) 0x70 ≡ excess u) l (excess-by_position 0 0 0 u (omega arith) (omega arith) f)
+
+excess-one_before : (a c d z y x : ℕ) (u : List ℕ) → d ≡ z - 0x70
+    → by_position (λ z y x b. x) a c d (by_position (λ z y x b. y - 0x70) z y x u) ≡ by_position (λ z y x b. z - 0x70) z y x u
+excess-one_before a c d z y x [] e = refl
+excess-one_before a c d z y x (b ∷ u) e = λ i. e i ∷ excess-one_before c d (y - 0x70) y x b u refl i
+
+length-by_position : {A : Type 0} (f : ℕ → ℕ → ℕ → ℕ → A) (z y x : ℕ) (u : List ℕ) → length (by_position f z y x u) ≡ length u
+length-by_position f z y x [] = refl
+length-by_position f z y x (b ∷ u) = ap suc (length-by_position f y x b u)
+
+-- the excess one lane up, so of the byte three positions before
+excess-shuffled : (u : List ℕ) → length u ≡ 32
+    → shuffled (excess u) (32 ∷ range_with_len 0 31) ≡ by_position (λ z y x b. z - 0x70) 0 0 0 u
+excess-shuffled u l = shuffled-one (excess u) (length-by_position (λ z y x b. y - 0x70) 0 0 0 u ∙ l)
+    ∙ excess-one_before 0 0 0 0 0 0 u refl
+
 abbrev pub any_low_lanes : ℕ → List ℕ → List ℕ → List ℕ → List ℕ
-any_low_lanes n two low high = sel_l (are_at_least n 0xF0 two) (add (over n low 16) (times n (less_by n high 4) 16)) low
+any_low_lanes n two low high = sel_l (are_at_least n 0x80 two) (add (over n low 16) (times n (less_by n high 4) 16)) low
 
 any_low_lane : (y low high : ℕ) → high < 256
-    → cond (flag (leb 0xF0 y)) ((low / 16 + (cond (flag (ltb high 4)) 4 high + (256 - 4)) % 256 * 16 % 256) % 256) low
+    → cond (flag (leb 0x80 (y - 0x70))) ((low / 16 + (cond (flag (ltb high 4)) 4 high + (256 - 4)) % 256 * 16 % 256) % 256) low
     ≡ cond (ltb y 0xF0) low ((low / 16 + (high - 4) * 16 % 256) % 256)
 any_low_lane y low high l = elim (cases_lt y 0xF0) [
-  | inl h ↦ rw (lt-leb 0xF0 y h, lt-ltb y 0xF0 h) refl
-  | inr h ↦ rw (le-leb 0xF0 y h, le-ltb y 0xF0 h) (λ i. (low / 16 + less_by_lane 4 high (omega arith) l i * 16 % 256) % 256)
+  | inl h ↦ rw (lt-leb 0x80 (y - 0x70) (omega (arith, h)), lt-ltb y 0xF0 h) refl
+  | inr h ↦ rw (le-leb 0x80 (y - 0x70) (omega (arith, h)), le-ltb y 0xF0 h)
+      (λ i. (low / 16 + less_by_lane 4 high (omega arith) l i * 16 % 256) % 256)
 ]
 
 any_low_lanes-by_position : (z y x : ℕ) (u : List ℕ)
-    → any_low_lanes (length u) (by_position (λ z y x b. y) z y x u) (by_position (λ z y x b. low_byte x b) z y x u)
+    → any_low_lanes (length u) (by_position (λ z y x b. y - 0x70) z y x u) (by_position (λ z y x b. low_byte x b) z y x u)
     (by_position (λ z y x b. high_byte y x b) z y x u) ≡ by_position (λ z y x b. low_of_any y x b) z y x u
 any_low_lanes-by_position z y x [] = refl
 any_low_lanes-by_position z y x (b ∷ u) =
@@ -132,64 +158,75 @@ any_low_lanes-by_position z y x (b ∷ u) =
     λ i. here i ∷ any_low_lanes-by_position y x b u i
 
 pub any_low_lanes-block : (u : List ℕ) → length u ≡ 32
-    → any_low_lanes 32 (bytes_two_before u) (by_position (λ z y x b. low_byte x b) 0 0 0 u) (by_position (λ z y x b. high_byte y x b) 0 0 0 u)
+    → any_low_lanes 32 (excess u) (by_position (λ z y x b. low_byte x b) 0 0 0 u) (by_position (λ z y x b. high_byte y x b) 0 0 0 u)
     ≡ by_position (λ z y x b. low_of_any y x b) 0 0 0 u
-any_low_lanes-block u l = subst (λ n. any_low_lanes n (bytes_two_before u) (by_position (λ z y x b. low_byte x b) 0 0 0 u)
+any_low_lanes-block u l = subst (λ n. any_low_lanes n (excess u) (by_position (λ z y x b. low_byte x b) 0 0 0 u)
     (by_position (λ z y x b. high_byte y x b) 0 0 0 u) ≡ by_position (λ z y x b. low_of_any y x b) 0 0 0 u) l
     (any_low_lanes-by_position 0 0 0 u)
 
 abbrev pub any_high_lanes : ℕ → List ℕ → List ℕ → List ℕ → List ℕ
-any_high_lanes n two three high = sel_l (are_at_least n 0xF0 two) (add (replicate n 0xD8) (over n (less_by n high 4) 16))
-    (sel_l (are_at_least n 0xF0 three) (add (replicate n 0xDC) (modulo n high 4)) high)
+any_high_lanes n two three high = sel_l (are_at_least n 0x80 two) (add (replicate n 0xD8) (over n (less_by n high 4) 16))
+    (sel_l (are_at_least n 0x80 three) (add (replicate n 0xDC) (modulo n high 4)) high)
 
 any_high_lane : (z y high : ℕ) → high < 256
-    → cond (flag (leb 0xF0 y)) ((0xD8 + (cond (flag (ltb high 4)) 4 high + (256 - 4)) % 256 / 16) % 256)
-    (cond (flag (leb 0xF0 z)) ((0xDC + high % 4) % 256) high)
+    → cond (flag (leb 0x80 (y - 0x70))) ((0xD8 + (cond (flag (ltb high 4)) 4 high + (256 - 4)) % 256 / 16) % 256)
+    (cond (flag (leb 0x80 (z - 0x70))) ((0xDC + high % 4) % 256) high)
     ≡ cond (ltb y 0xF0) (cond (ltb z 0xF0) high ((0xDC + high % 4) % 256)) ((0xD8 + (high - 4) / 16) % 256)
 any_high_lane z y high l = elim (cases_lt y 0xF0) [
-  | inl h ↦ rw (lt-leb 0xF0 y h, lt-ltb y 0xF0 h) (elim (cases_lt z 0xF0) [
-    | inl k ↦ rw (lt-leb 0xF0 z k, lt-ltb z 0xF0 k) refl
-    | inr k ↦ rw (le-leb 0xF0 z k, le-ltb z 0xF0 k) refl
+  | inl h ↦ rw (lt-leb 0x80 (y - 0x70) (omega (arith, h)), lt-ltb y 0xF0 h) (elim (cases_lt z 0xF0) [
+    | inl k ↦ rw (lt-leb 0x80 (z - 0x70) (omega (arith, k)), lt-ltb z 0xF0 k) refl
+    | inr k ↦ rw (le-leb 0x80 (z - 0x70) (omega (arith, k)), le-ltb z 0xF0 k) refl
   ])
-  | inr h ↦ rw (le-leb 0xF0 y h, le-ltb y 0xF0 h) (λ i. (0xD8 + less_by_lane 4 high (omega arith) l i / 16) % 256)
+  | inr h ↦ rw (le-leb 0x80 (y - 0x70) (omega (arith, h)), le-ltb y 0xF0 h)
+      (λ i. (0xD8 + less_by_lane 4 high (omega arith) l i / 16) % 256)
 ]
 
 any_high_lanes-by_position : (z y x : ℕ) (u : List ℕ)
-    → any_high_lanes (length u) (by_position (λ z y x b. y) z y x u) (by_position (λ z y x b. z) z y x u)
+    → any_high_lanes (length u) (by_position (λ z y x b. y - 0x70) z y x u) (by_position (λ z y x b. z - 0x70) z y x u)
     (by_position (λ z y x b. high_byte y x b) z y x u) ≡ by_position high_of_any z y x u
 any_high_lanes-by_position z y x [] = refl
 any_high_lanes-by_position z y x (b ∷ u) =
     let here = any_high_lane z y (high_byte y x b) (omega arith) in
     λ i. here i ∷ any_high_lanes-by_position y x b u i
 
-pub any_high_lanes-block : (u : List ℕ) → length u ≡ 32
-    → any_high_lanes 32 (bytes_two_before u) (bytes_three_before u) (by_position (λ z y x b. high_byte y x b) 0 0 0 u)
+pub any_high_lanes-block : (u e : List ℕ) → length u ≡ 32 → e ≡ excess u
+    → any_high_lanes 32 e (shuffled e (32 ∷ range_with_len 0 31)) (by_position (λ z y x b. high_byte y x b) 0 0 0 u)
     ≡ by_position high_of_any 0 0 0 u
-any_high_lanes-block u l = subst (λ n. any_high_lanes n (bytes_two_before u) (bytes_three_before u) (by_position (λ z y x b. high_byte y x b) 0 0 0 u)
-    ≡ by_position high_of_any 0 0 0 u) l (any_high_lanes-by_position 0 0 0 u)
+any_high_lanes-block u e l same =
+    let high = by_position (λ z y x b. high_byte y x b) 0 0 0 u in
+    let own = subst (λ n. any_high_lanes n (excess u) (by_position (λ z y x b. z - 0x70) 0 0 0 u) high ≡ by_position high_of_any 0 0 0 u) l
+    (any_high_lanes-by_position 0 0 0 u) in
+    subst (λ e. any_high_lanes 32 e (shuffled e (32 ∷ range_with_len 0 31)) high ≡ by_position high_of_any 0 0 0 u) (sym same)
+    (subst (λ t. any_high_lanes 32 (excess u) t high ≡ by_position high_of_any 0 0 0 u) (sym (excess-shuffled u l)) own)
 
--- without lead bytes of three or four bytes, and of four, the bytes of units are those of shorter ones
-pub high_byte-short : (z y x : ℕ) (u : List ℕ) → y < 0xE0 → x < 0xE0 → Each1 (λ b. b < 0xE0) u
+-- without lead bytes of three or four bytes, and of four, before them, the bytes of units are those of shorter ones
+pub high_byte-short : (z y x : ℕ) (u : List ℕ) → y < 0xE0 → Each1 (λ b. b < 0xE0) (by_position (λ z y x b. x) z y x u)
     → by_position (λ z y x b. high_of_two x b) z y x u ≡ by_position (λ z y x b. high_byte y x b) z y x u
-high_byte-short z y x [] l m e = refl
-high_byte-short z y x (b ∷ u) l m e =
+high_byte-short z y x [] l e = refl
+high_byte-short z y x (b ∷ u) l e =
     let none : y - 0xE0 ≡ 0 = omega (arith, l) in
     let here : high_of_two x b ≡ high_byte y x b = omega (arith, none) in
-    λ i. here i ∷ high_byte-short y x b u m e.0 e.1 i
+    λ i. here i ∷ high_byte-short y x b u e.0 e.1 i
 
-pub low_of_any-short : (z y x : ℕ) (u : List ℕ) → y < 0xF0 → x < 0xF0 → Each1 (λ b. b < 0xF0) u
+pub low_of_any-short : (z y x : ℕ) (u : List ℕ) → Each1 (λ b. b < 0xF0) (by_position (λ z y x b. y) z y x u)
     → by_position (λ z y x b. low_byte x b) z y x u ≡ by_position (λ z y x b. low_of_any y x b) z y x u
-low_of_any-short z y x [] l m e = refl
-low_of_any-short z y x (b ∷ u) l m e =
-    let here : low_byte x b ≡ low_of_any y x b = rw (lt-ltb y 0xF0 l) refl in
-    λ i. here i ∷ low_of_any-short y x b u m e.0 e.1 i
+low_of_any-short z y x [] e = refl
+low_of_any-short z y x (b ∷ u) e =
+    let here : low_byte x b ≡ low_of_any y x b = rw (lt-ltb y 0xF0 e.0) refl in
+    λ i. here i ∷ low_of_any-short y x b u e.1 i
 
-pub high_of_any-short : (z y x : ℕ) (u : List ℕ) → z < 0xF0 → y < 0xF0 → x < 0xF0 → Each1 (λ b. b < 0xF0) u
+pub high_of_any-short : (z y x : ℕ) (u : List ℕ) → z < 0xF0 → Each1 (λ b. b < 0xF0) (by_position (λ z y x b. y) z y x u)
     → by_position (λ z y x b. high_byte y x b) z y x u ≡ by_position high_of_any z y x u
-high_of_any-short z y x [] k l m e = refl
-high_of_any-short z y x (b ∷ u) k l m e =
-    let here : high_byte y x b ≡ high_of_any z y x b = rw (lt-ltb y 0xF0 l, lt-ltb z 0xF0 k) refl in
-    λ i. here i ∷ high_of_any-short y x b u l m e.0 e.1 i
+high_of_any-short z y x [] l e = refl
+high_of_any-short z y x (b ∷ u) l e =
+    let here : high_byte y x b ≡ high_of_any z y x b = rw (lt-ltb y 0xF0 e.0, lt-ltb z 0xF0 l) refl in
+    λ i. here i ∷ high_of_any-short y x b u e.0 e.1 i
+
+-- if the bytes one before are below E0, those two before are below F0
+pub below_two : (z y x : ℕ) (u : List ℕ) → y < 0xE0 → Each1 (λ b. b < 0xE0) (by_position (λ z y x b. x) z y x u)
+    → Each1 (λ b. b < 0xF0) (by_position (λ z y x b. y) z y x u)
+below_two z y x [] l e = tt
+below_two z y x (b ∷ u) l e = (omega (arith, l), below_two y x b u e.0 e.1)
 
 -- The mask of the positions at which a unit ends.
 
@@ -210,13 +247,13 @@ unfolding short_end_lane
 short_end_lane-ends y x b [] l m k = grind (arith, nat_tests, cases_lt)
 short_end_lane-ends y x b (c ∷ w) l m k = grind (arith, nat_tests, cases_lt)
 
-short_end_lanes-by_position : (z y x : ℕ) (u : List ℕ) → y < 0xF0 → x < 0xF0 → Each1 (λ b. b < 0xF0) u
+short_end_lanes-by_position : (z y x : ℕ) (u : List ℕ) → x < 256 → Each1 (Fits w8) u → Each1 (λ b. b < 0xF0) (by_position (λ z y x b. y) z y x u)
     → are_less (short_end_lanes (length u) (by_position (λ z y x b. x) z y x u) u) (replicate (length u) 0x80) ≡ set_lanes y x u
 unfolding short_end_lane
-short_end_lanes-by_position z y x [] l m e = refl
-short_end_lanes-by_position z y x (b ∷ u) l m e =
-    let here = short_end_lane-ends y x b u l (omega (arith, m)) (omega (arith, e.0)) in
-    λ i. here i ∷ short_end_lanes-by_position y x b u m e.0 e.1 i
+short_end_lanes-by_position z y x [] l f e = refl
+short_end_lanes-by_position z y x (b ∷ u) l f e =
+    let here = short_end_lane-ends y x b u e.0 l f.0.fits in
+    λ i. here i ∷ short_end_lanes-by_position y x b u f.0.fits f.1 e.1 i
 
 pub length-set_lanes : (y x : ℕ) (u : List ℕ) → length (set_lanes y x u) ≡ length u
 length-set_lanes y x [] = refl
@@ -227,10 +264,10 @@ mask-set_lanes : (lanes : List Bool) (u : List ℕ) → length u ≡ 32 → lane
 mask-set_lanes lanes u l e =
     ap (λ s. mask_l s % 2 ^ 64) e ∙ mask_l-mod (set_lanes 0 0 u) 64 (omega (arith, length-set_lanes 0 0 u, l))
 
-pub short_ends-mask : (u : List ℕ) → length u ≡ 32 → Each1 (λ b. b < 0xF0) u
+pub short_ends-mask : (u : List ℕ) → length u ≡ 32 → Each1 (Fits w8) u → Each1 (λ b. b < 0xF0) (bytes_two_before u)
     → ends_mask (short_end_lanes 32 (bytes_one_before u) u) 32 ≡ mask_l (set_lanes 0 0 u)
-short_ends-mask u l e = mask-set_lanes _ u l (subst (λ n. are_less (short_end_lanes n (bytes_one_before u) u) (replicate n 0x80) ≡ set_lanes 0 0 u) l
-    (short_end_lanes-by_position 0 0 0 u (omega arith) (omega arith) e))
+short_ends-mask u l f e = mask-set_lanes _ u l (subst (λ n. are_less (short_end_lanes n (bytes_one_before u) u) (replicate n 0x80) ≡ set_lanes 0 0 u) l
+    (short_end_lanes-by_position 0 0 0 u (omega arith) f e))
 
 -- 255 in the last of `n` lanes
 abbrev last_lane : ℕ → List ℕ
@@ -284,12 +321,32 @@ below_all k (x ∷ xs) e = elim (cases_lt x k) [
   | inr g ↦ absurd (omega (arith, rw (le-leb k x g) at e))
 ]
 
--- if the mask of the bytes from `k` on is 0, all are below `k`
-pub below_if_none : (k : ℕ) (xs : List ℕ) → length xs ≡ 32 → IsTrue (eqb (mask_l (are_at_least 32 k xs) % 2 ^ 64) 0) → Each1 (λ b. b < k) xs
-below_if_none k xs long t =
-    let lanes = tops_compared w8 leb (replicate 32 k) xs ∙ zip2_splat_left leb k 32 xs long in
-    below_all k xs (sym (mask_l-mod (map (leb k) xs) 64 (omega (arith, length-map xs (leb k), long)))
+-- if the mask of the lanes from 80 on is 0, all are below 80
+below_if_none : (xs : List ℕ) → length xs ≡ 32 → IsTrue (eqb (mask_l (are_at_least 32 0x80 xs) % 2 ^ 64) 0) → Each1 (λ b. b < 0x80) xs
+below_if_none xs long t =
+    let lanes = tops_compared w8 leb (replicate 32 0x80) xs ∙ zip2_splat_left leb 0x80 32 xs long in
+    below_all 0x80 xs (sym (mask_l-mod (map (leb 0x80) xs) 64 (omega (arith, length-map xs (leb 0x80), long)))
     ∙ (ap (λ ms. mask_l ms % 2 ^ 64) (sym lanes) ∙ eqb-true _ 0 t))
+
+length-less_by : (n : ℕ) (xs : List ℕ) → length (less_by (length xs) xs n) ≡ length xs
+length-less_by n [] = refl
+length-less_by n (b ∷ xs) = ap suc (length-less_by n xs)
+
+below_more : (n : ℕ) (xs : List ℕ) → n < 256 → Each1 (Fits w8) xs → Each1 (λ b. b < 0x80) (less_by (length xs) xs n)
+    → Each1 (λ b. b < n + 0x80) xs
+below_more n [] l f e = tt
+below_more n (b ∷ xs) l f e = (omega (arith, e.0, less_by_lane n b l f.0.fits), below_more n xs l f.1 e.1)
+
+-- if no byte is 80 or more after `k - 0x80` is taken from it, all are below `k`
+pub below_if_no_more : (k : ℕ) (xs : List ℕ) → length xs ≡ 32 → Each1 (Fits w8) xs → 0x80 ≤ k → k < 256
+    → IsTrue (eqb (mask_l (are_at_least 32 0x80 (less_by 32 xs (k - 0x80))) % 2 ^ 64) 0) → Each1 (λ b. b < k) xs
+below_if_no_more k xs long f l m t =
+    let n = k - 0x80 in
+    let long_less : length (less_by 32 xs n) ≡ 32 = subst (λ m. length (less_by m xs n) ≡ m) long (length-less_by n xs) in
+    let sum : n + 0x80 ≡ k = omega (arith, l) in
+    let below : Each1 (λ b. b < 0x80) (less_by (length xs) xs n) =
+    subst (λ m. Each1 (λ b. b < 0x80) (less_by m xs n)) (sym long) (below_if_none (less_by 32 xs n) long_less t) in
+    subst (λ k. Each1 (λ b. b < k) xs) sum (below_more n xs (omega (arith, m)) f below)
 
 -- The words of eight positions each.
 

@@ -13,7 +13,7 @@ pub nonzero_rem-trail_high : goal.nonzero_rem-trail_high
 nonzero_rem-trail_high c = Each2-splat _ c.args.high 32 4 (Each1-all _ (λ x. omega arith) c.args.high)
 
 pub returns-clause-low : goal.returns-clause-low
-returns-clause-low c = rw (c.requires.two, c.requires.low, c.requires.high) (any_low_lanes-block c.args.bytes c.fits-bytes.0)
+returns-clause-low c = rw (c.requires.excess, c.requires.low, c.requires.high) (any_low_lanes-block c.args.bytes c.fits-bytes.0)
 
 pub returns-clause-high : goal.returns-clause-high
-returns-clause-high c = rw (c.requires.two, c.requires.three, c.requires.high) (any_high_lanes-block c.args.bytes c.fits-bytes.0)
+returns-clause-high c = rw c.requires.high (any_high_lanes-block c.args.bytes c.args.excess c.fits-bytes.0 c.requires.excess)
