@@ -24,7 +24,8 @@ impl Model for Wtf8String {
 }
 
 impl Wtf8String {
-    /// Whether the string has a buffer.
+    /// Whether the string has a buffer. By `&mut`, since a field of a struct that owns memory is read only by functions
+    /// that are proved by hand, and this proof serves the calls that take a buffer out.
     pub(crate) fn is_full(&mut self) -> bool
         ensures value { result ≡ self.old.full }
         ensures kept { self.new ≡ self.old }
