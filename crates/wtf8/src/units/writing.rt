@@ -25,8 +25,8 @@ use std::alloc::{AllocError, Allocator};
 use std::simd::prelude::*;
 
 /// Strings of fewer bytes than this, except ASCII ones of 1 to 15 bytes, are decoded into a buffer on the stack, so
-/// that their units need not be counted before memory is requested. With 32 in place of 64, 40 ASCII units take 313
-/// instructions for 232; with 128, 12 units of CJK take 247 for 239, though 30 take 398 for 569.
+/// that their units need not be counted before memory is requested. Before ASCII tails went by eight, 40 ASCII units
+/// took 313 instructions for 232 with 32 in place of 64, and with 128 12 of CJK 247 for 239, though 30 took 398 for 569.
 const SCRATCH_UNITS: usize = 4 * VECTOR;
 
 /// From this many bytes on a block of any kind can be loaded, so that the length is compared once for all kinds.
