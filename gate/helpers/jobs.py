@@ -7,7 +7,8 @@ import pathlib
 import re
 import sys
 
-MEMORY_A_JOB = 3_000_000_000
+# Half of what the two greatest checks, the tests of `unit_text` and `compare_scripts`, take together: 7.2 GB.
+MEMORY_A_JOB = 3_600_000_000
 
 
 def jobs(processors, memory):
