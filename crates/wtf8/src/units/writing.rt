@@ -37,9 +37,10 @@ const ENDS_OF_TWOS: u64 = 0xAAAA_AAAA;
 
 const ENDS_OF_THREES: u64 = 0x92_4924;
 
-/// From this many ASCII bytes on at the front of a block it is cheaper to decode them and one other code point than the
-/// whole block by positions: with 16, English takes 1.12 to 1.16 of the instructions.
-const LEAST_ASCII_FRONT: usize = 4;
+/// From this number of ASCII bytes at the front of a block on it is cheaper to decode them and one other code point than
+/// the whole block by positions. With 4, texts that do not repeat, so that a processor cannot foresee how long a front
+/// is, take longer: French 1.2 to 1.3, one accent in six 1.3 to 1.5 of the time.
+const LEAST_ASCII_FRONT: usize = VECTOR;
 
 /// The most lanes of a vector, so the most units that one store writes.
 const MOST_LANES: usize = 64;
@@ -334,10 +335,10 @@ fn decode_ascii_front<'a>(
 }
 
 /// Decodes 32 ASCII bytes, in 0.78 of the time that blocks of 16 take; or the ASCII bytes at the front and one other
-/// code point, if at least `LEAST_ASCII_FRONT` are ASCII or a supplementary one follows; two conditions, since one that
-/// joins them takes 1.08 of the instructions of emoji in ASCII; or full blocks of two- or three-byte code points, which
-/// take 1.7 to 1.9 by positions; or all whole code points in 32 bytes. The positions of unit ends only choose: each way
-/// is right for any bytes.
+/// code point, if a supplementary one follows or at least `LEAST_ASCII_FRONT` are ASCII (joined in one condition, emoji
+/// in ASCII take 1.08 of the instructions; in the other order, 1.16 of the time); or full blocks of two- or three-byte
+/// code points, which take 1.7 to 1.9 by positions; or all whole code points in 32 bytes. The positions of unit ends
+/// only choose: each way is right for any bytes.
 #[inline(always)]
 fn decode_next<'a>(units: &mut [u16], left: Undecoded<'a>) -> Undecoded<'a>
     requires room { left.at + length (view_units left.view) ≤ length units.old }
@@ -352,10 +353,10 @@ fn decode_next<'a>(units: &mut [u16], left: Undecoded<'a>) -> Undecoded<'a>
         return write_front(units, left, widen(block), POSITIONS, POSITIONS);
     }
     if POSITIONS <= units.len() - left.at {
-        if LEAST_ASCII_FRONT <= count {
+        if 0 < count && FIRST_OF_FOUR <= bytes[count] {
             return decode_ascii_front(units, left, block, count);
         }
-        if 0 < count && FIRST_OF_FOUR <= bytes[count] {
+        if LEAST_ASCII_FRONT <= count {
             return decode_ascii_front(units, left, block, count);
         }
     }
@@ -385,7 +386,9 @@ fn decode_next_of_tail<'a>(units: &mut [u16], left: Undecoded<'a>) -> Undecoded<
     }
     match bytes {
         [0x00..=0x7F, 0x00..=0x7F, ..] => decode_run::<8, 1, 8, OneByte>(units, left),
-        [0xC0..=0xDF, _, 0xC0..=0xDF, ..] => decode_run::<8, 2, 16, TwoBytes>(units, left),
+        [0xC0..=0xDF, _, 0xC0..=0xDF, ..] if VECTOR <= bytes.len() => {
+            decode_run::<8, 2, 16, TwoBytes>(units, left)
+        }
         _ => decode_point(units, left),
     }
 }
