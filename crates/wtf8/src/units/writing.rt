@@ -25,8 +25,8 @@ use std::alloc::{AllocError, Allocator};
 use std::simd::prelude::*;
 
 /// Strings of fewer bytes than this, except ASCII ones of 1 to 15 bytes, are decoded into a buffer on the stack, so
-/// that their units need not be counted before memory is requested. Before ASCII tails went by eight, 40 ASCII units
-/// took 313 instructions for 232 with 32 in place of 64, and with 128 12 of CJK 247 for 239, though 30 took 398 for 569.
+/// that their units need not be counted before memory is requested. Before ASCII tails went by eight, with 32 in place
+/// of 64, 40 ASCII took 313 instructions for 232; with 128, 12 CJK 247 for 239, though 30 took 398 for 569.
 const SCRATCH_UNITS: usize = 4 * VECTOR;
 
 /// From this many bytes on a block of any kind can be loaded, so that the length is compared once for all kinds.
@@ -37,7 +37,7 @@ const ENDS_OF_TWOS: u64 = 0xAAAA_AAAA;
 
 const ENDS_OF_THREES: u64 = 0x92_4924;
 
-/// From this number of ASCII bytes at the front of a block on it is cheaper to decode them and one other code point than
+/// From this number of ASCII bytes at the front of a block on it is cheaper to decode them and one code point more than
 /// the whole block by positions. With 4, texts that do not repeat, so that a processor cannot foresee how long a front
 /// is, take longer: French 1.2 to 1.3, one accent in six 1.3 to 1.5 of the time.
 const LEAST_ASCII_FRONT: usize = VECTOR;
