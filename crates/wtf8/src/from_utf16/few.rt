@@ -1,5 +1,5 @@
-// Encodes a few code units straight into the string. It has room for them whatever they are, so that no unit asks for it:
-// bytes are appended as zeros first, overwritten, and those behind the last unit cut off.
+// Encodes a few code units straight into the string. It has room for them whatever they are, so that no unit asks for
+// it: zeros are appended first and overwritten, and those after the last unit's bytes cut off.
 ghost use Rattle.std.specs.Prelude.{◌≡◌, ℕ, List, ◌++◌, ◌+◌, ◌-◌, ◌*◌, ◌<◌, ◌≤◌, length, take, vec_capacity, IfOk, IsOk};
 ghost use Rattle.wtf8.specs.CodePoint.{number};
 ghost use Rattle.wtf8.specs.Form.{encoding};
@@ -54,7 +54,7 @@ fn write_encoding(out: &mut [u8], at: usize, code_point: CodePoint) -> usize
     }
 }
 
-/// Encodes the code point at `from.at` at index `len`. Returns the index after its bytes, and how far units are encoded.
+/// Encodes the code point at `from.at` at index `len`. Returns the index after its bytes and how far units are encoded.
 #[inline(always)]
 fn write_point(v: &[u16], from: Progress, out: &mut [u8], len: usize) -> (usize, Progress)
     requires within { from.at < length v.now }
@@ -109,8 +109,8 @@ fn write_few(v: &[u16], is_utf8: bool, out: &mut [u8]) -> (usize, bool)
     (len, read.is_utf8)
 }
 
-/// Appends the bytes of at most `FEW_UNITS` units, after bytes with which they form no pair. Returns whether `is_utf8` and
-/// none of them is a lone surrogate.
+/// Appends the bytes of at most `FEW_UNITS` units, after bytes with which they form no pair. Returns whether `is_utf8`
+/// and none of them is a lone surrogate.
 #[inline(always)]
 pub(crate) fn append<A: Allocator>(
     bytes: &mut Vec<u8, A>,

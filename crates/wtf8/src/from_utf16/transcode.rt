@@ -76,8 +76,8 @@ fn append_point<A: Allocator>(
     Ok(Progress { at, is_utf8 })
 }
 
-/// Appends the ASCII run in the next `N` units, or nothing if the spare capacity is less than `N`. Returns how far units
-/// are encoded, and the mask of the units that are not ASCII, or 0 if there is no room.
+/// Appends the ASCII run in the next `N` units, or nothing if the spare capacity is less. Returns how far units are
+/// encoded, and the mask of the units that are not ASCII, or 0 if there is no room.
 #[inline(always)]
 fn append_front<const N: usize, A: Allocator>(
     bytes: &mut Vec<u8, A>,

@@ -212,8 +212,8 @@ fn lead_at_end(view: Wtf8<'_>) -> Option<u32>
     view.final_lead_surrogate()
 }
 
-/// Returns the lead surrogate that ends `bytes`, if the first of the units completes it. There is none if `is_utf8` says
-/// that they hold no surrogate.
+/// Returns the lead surrogate that ends `bytes`, if the first of the units completes it. There is none if `is_utf8`
+/// says that they hold no surrogate.
 fn lead_before<A: Allocator>(bytes: &Vec<u8, A>, is_utf8: bool, v: &[u16]) -> Option<u32>
     requires well_formed { IsWellFormed bytes.now.items }
     requires scalar { (h : IsWellFormed bytes.now.items) → IsTrue is_utf8 → AreScalar h.points }
