@@ -26,7 +26,9 @@ pub extern "C" fn wtf8_set_units(alloc: Global, string: &mut Wtf8String, units: 
     ensures ok { result ≡ OK → (contents string.new).units ≡ units.now }
     ensures kept { result ≡ NO_MEMORY → contents string.new ≡ contents string.old }
     ensures room { IsTrue string.old.full → 3 * length units.now ≤ (contents string.old).capacity → result ≡ OK }
+    ensures again { IsTrue string.old.full → length units.now ≤ ROOMY_UNITS → result ≡ OK → 3 * length units.now ≤ (contents string.new).capacity }
 {
+    let is_again = string.is_full();
     match string.take_if_fits(alloc, 3 * units.len()) {
         Some(mut buf) => {
             buf.clear();
@@ -35,7 +37,7 @@ pub extern "C" fn wtf8_set_units(alloc: Global, string: &mut Wtf8String, units: 
             code_of(pushed)
         }
         None => {
-            let made = if string.is_full() {
+            let made = if is_again {
                 with_room_for_others(alloc, units)
             } else {
                 IndexedBuf::from_units(alloc, units)
@@ -51,7 +53,8 @@ pub extern "C" fn wtf8_set_units(alloc: Global, string: &mut Wtf8String, units: 
 /// Makes a buffer of units that replaces another. If there are at most `ROOMY_UNITS`, any units of that number will fit
 /// it, so that a string which is set again and again asks for memory once.
 fn with_room_for_others(alloc: Global, units: &[u16]) -> Result<IndexedBuf<Global>, AllocError>
-    ensures { IfOk result (λ b. b.units ≡ units.now) }
+    ensures units { IfOk result (λ b. b.units ≡ units.now) }
+    ensures room { length units.now ≤ ROOMY_UNITS → IfOk result (λ b. 3 * length units.now ≤ b.capacity) }
 {
     if ROOMY_UNITS < units.len() {
         return IndexedBuf::from_units(alloc, units);
@@ -210,6 +213,7 @@ pub extern "C" fn wtf8_mark(alloc: Global, string: &mut Wtf8String) -> i32
 /// Replaces the string's buffer. Needs no memory if there is one.
 pub(crate) fn replace(alloc: Global, string: &mut Wtf8String, made: IndexedBuf<Global>) -> i32
     ensures code { (result ≡ OK) ⊎ (result ≡ NO_MEMORY) }
+    ensures full { IsTrue string.old.full → result ≡ OK }
     ensures ok { result ≡ OK → contents string.new ≡ made }
     ensures kept { result ≡ NO_MEMORY → contents string.new ≡ contents string.old }
 {

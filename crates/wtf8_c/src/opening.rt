@@ -13,6 +13,7 @@ impl Wtf8String {
     /// Takes the buffer out, if there is one.
     pub(crate) fn take(&mut self, alloc: Global) -> Option<Box<IndexedBuf<Global>, Global>>
         ensures contents { buffer_contents result ≡ contents self.old }
+        ensures full { IsTrue self.old.full → IsSome result }
         ensures empty { IsFalse self.new.full }
     {
         if self.is_full() {

@@ -52,7 +52,7 @@ pub(crate) fn widen<const N: usize>(block: Simd<u8, N>) -> [u16; N]
 }
 
 /// Returns the number of lanes before the first with `byte / size != prefix`. Size and prefix are 128 and 0 for ASCII,
-/// 32 and 6 for lead bytes of two-byte code points, 16 and 14 for those of three (Unicode 3.9, "UTF-8", Table 3-6).
+/// 32 and 6 for lead bytes of two-byte code points (Unicode 3.9, "UTF-8", Table 3-6).
 #[inline(always)]
 fn count_leading_with_prefix<const N: usize>(bytes: Simd<u8, N>, size: u8, prefix: u8) -> usize
     requires lanes { N ≤ u64.BITS }

@@ -221,7 +221,7 @@ fn store_packed(units: &mut [u16], at: usize, lanes: u8x16, index: usize) -> usi
     at + index.count_ones() as usize
 }
 
-/// The index of the units that end in the last of the four groups of eight positions, if those of the first begin at
+/// The index of the first unit that ends in the last eight of the 32 positions, if the block's first unit has index
 /// `at`.
 #[inline(always)]
 fn last_group(at: usize, ends: u64) -> usize

@@ -210,7 +210,7 @@ IsFirstRead-length {v} {at} {end} {p} first = omega (
   length-take (end - at) (drop at v),
 )
 
--- the first code point is encoded, if its encoding is written behind the bytes so far
+-- the first code point is encoded, if its encoding is written after the bytes so far
 pub IsReadTo-written : (w old new : List ℕ) (len after : ℕ) {front v : List ℕ} {at end p : ℕ} {known scalar : Bool}
     → IsReadTo (w ++ take len old) front v at known → at < end → IsFirstRead v at end p → (IsTrue scalar → ¬ (IsSurrogate p))
     → take after new ≡ take len old ++ encoding p → IsReadTo (w ++ take after new) front v end (known && scalar)

@@ -170,7 +170,7 @@ begins_after {a} {b} c x y =
     let short : length a ≤ length b = omega (arith, ap length x, length-take (length a) b) in
     sym (take-take (length a) (length b) c short) ∙ ap (take (length a)) y ∙ x
 
--- bytes were written behind the old ones, and all bytes but the first `n` of them cut off
+-- bytes were written after the old ones, and all but the first `n` cut off
 pub front_written : (old out zeros rest more : List ℕ) (n : ℕ) {now : List ℕ} {start total : ℕ} → start ≡ length old → now ≡ old ++ zeros
     → n ≤ length out → start + n ≤ total → take (start + n) (take total ((take start now ++ (out ++ rest)) ++ more)) ≡ old ++ take n out
 front_written old out zeros rest more n {now} {start} {total} begin added within fits =

@@ -199,7 +199,8 @@ any_high_lanes-block u e l same =
     subst (λ e. any_high_lanes 32 e (shuffled e (32 ∷ range_with_len 0 31)) high ≡ by_position high_of_any 0 0 0 u) (sym same)
     (subst (λ t. any_high_lanes 32 (excess u) t high ≡ by_position high_of_any 0 0 0 u) (sym (excess-shuffled u l)) own)
 
--- without lead bytes of three or four bytes, and of four, before them, the bytes of units are those of shorter ones
+-- where no byte before leads three bytes or more, a unit's high byte is that of at most two bytes; below, where none
+-- leads four, its low byte that of at most three
 pub high_byte-short : (z y x : ℕ) (u : List ℕ) → y < 0xE0 → Each1 (λ b. b < 0xE0) (by_position (λ z y x b. x) z y x u)
     → by_position (λ z y x b. high_of_two x b) z y x u ≡ by_position (λ z y x b. high_byte y x b) z y x u
 high_byte-short z y x [] l e = refl

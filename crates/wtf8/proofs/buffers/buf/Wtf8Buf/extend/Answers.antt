@@ -2,7 +2,7 @@ use Rattle.wtf8.proofs.Common.{arith, rules, common_steps, ◌∙◌}
 use Rattle.std.specs.Iterator.{Yields}
 use Rattle.wtf8.proofs.buffers.buf.Wtf8Buf.extend.Goals as goal
 
--- Both goals are proved without an answer too, but a body that breaks them is refused 17 seconds later then.
+-- Search proves both goals too, but takes 17 seconds more to refuse a body that breaks them.
 
 pub loop-code_point-preserved : goal.loop-code_point-preserved
 loop-code_point-preserved g c = grind (arith, common_steps)
