@@ -1,8 +1,9 @@
 //! Interpreter of short scripts of calls on strings: writes a transcript of what each call returns.
 //!
 //! A script is bytes: one call after another, each an opcode and its operands. It works on four strings, two
-//! `UnitText`s and one `IndexedBuf`, the indexed string, all empty at the start. `opcodes` lists the calls. A transcript
-//! is lines of text, at least one for each call but `apply` of an empty list, and none from a call of `Silence` on.
+//! `UnitText`s and one `IndexedBuf`, the indexed string, all empty at the start. `opcodes` lists the calls. A
+//! transcript is lines of text, at least one for each call but `apply` of an empty list, and none from a call of
+//! `Silence` on.
 #![tactic(auto)]
 
 mod build_calls;

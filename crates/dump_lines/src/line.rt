@@ -80,14 +80,14 @@ fn parse_calls<A: Allocator>(
     Ok(true)
 }
 
-/// Returns the output for one line, without a newline: the bytes, in hexadecimal, of the string that the words of the line
-/// build; then, if truncations were refused, `!` and their number, after a space if there are bytes. If a word is
+/// Returns the output for one line, without a newline: the bytes, in hexadecimal, of the string that the words of the
+/// line build; then, if truncations were refused, `!` and their number, after a space if there are bytes. If a word is
 /// malformed, the output is `?` alone, and no word has an effect.
 ///
-/// A word is 4 to 6 hexadecimal digits of either case, which push the code point of that value, at most 0x10FFFF; `-` and
-/// 1 to 9 decimal digits, which truncate to that number of bytes; or `/` and 1 to 9 decimal digits, which truncate to that
-/// number of 16-bit units. Words are separated by one space each. A newline inside the line makes its word malformed.
-/// Returns an error only if memory is refused.
+/// A word is 4 to 6 hexadecimal digits of either case, which push the code point of that value, at most 0x10FFFF; `-`
+/// and 1 to 9 decimal digits, which truncate to that number of bytes; or `/` and 1 to 9 decimal digits, which truncate
+/// to that number of 16-bit units. Words are separated by one space each. A newline inside the line makes its word
+/// malformed. Returns an error only if memory is refused.
 pub fn dump_line<A: Allocator + Copy>(alloc: A, line: &[u8]) -> Result<Vec<u8, A>, AllocError>
     ensures output { IfOk result (λ output. IsOutput line.now output.items) }
 {

@@ -9,8 +9,8 @@ ghost use Rattle.dump_lines.specs.Word.{bounded_number, number_after, point_of, 
 use crate::split::split_first_part;
 use wtf8::{Build, CodePoint};
 
-/// The number of digits of a code point below 0x10000, as most words are. If a space or the end of the line follows that
-/// many digits, the end of the word is not searched for.
+/// The number of digits of a code point below 0x10000, as most words are. If a space or the end of the line follows
+/// that many digits, the end of the word is not searched for.
 const BMP_DIGITS: usize = 4;
 
 /// Parses the first word: its call, or `None` if it is malformed, and the bytes after its space, if there is one.

@@ -1,5 +1,5 @@
-// Inputs without a last newline, a line with a newline inside, and the faults' statuses and texts. The program's stored run
-// has the other lines.
+// Inputs without a last newline, a line with a newline inside, and the faults' statuses and texts. The program's stored
+// run has the other lines.
 use crate::lengths::expect_output;
 use dump_lines::{Fault, dump_line};
 use std::test::Fail;

@@ -1,5 +1,5 @@
-//! A caller of `dump_lines`, and tests of it: readers, writers and memory that fail, long inputs, and what a stored run of
-//! the program cannot hold.
+//! A caller of `dump_lines`, and tests of it: readers, writers and memory that fail, long inputs, and what a stored run
+//! of the program cannot hold.
 #![tactic(auto)]
 
 pub mod callers;

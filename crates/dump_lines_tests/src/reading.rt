@@ -30,8 +30,8 @@ impl<'a> Read for FailingReader<'a> {
     }
 }
 
-/// A run on a reader of `given` that fails at call `failing`, with `granted` requests for memory granted and the next one
-/// refused: its result, whether nothing was written, and the number of calls of the reader.
+/// A run on a reader of `given` that fails at call `failing`, with `granted` requests for memory granted and the next
+/// one refused: its result, whether nothing was written, and the number of calls of the reader.
 fn run_from(
     alloc: Global,
     given: &str,

@@ -13,7 +13,8 @@ enum Failing {
     TakesNothing,
 }
 
-/// Takes at most `most` bytes a call, and fails at one call, counted from 1, or at its flush; later calls would succeed.
+/// Takes at most `most` bytes a call, and fails at one call, counted from 1, or at its flush; later calls would
+/// succeed.
 #[derive(Drop)]
 struct FailingWriter {
     taken: Vec<u8>,

@@ -18,8 +18,8 @@ use std::alloc::{AllocError, Allocator};
 use std::marker::Model;
 use wtf8::{CodePoint, IllFormedUtf16CodeUnits, UnitMark, UnitSlice, Wtf8, Wtf8Buf, laws};
 
-/// A `Wtf8Buf` that knows the number of its code units, and finds any of them. `mark_units` adds marks, from which a unit
-/// is found without counting from the front; an ASCII string needs none.
+/// A `Wtf8Buf` that knows the number of its code units, and finds any of them. `mark_units` adds marks, from which a
+/// unit is found without counting from the front; an ASCII string needs none.
 ///
 /// Contracts see what they see of a `Wtf8Buf`.
 #[derive(Drop)]
@@ -114,9 +114,9 @@ impl<A: Allocator> IndexedBuf<A> {
     }
 
     /// Keeps marks of the string, allocated by `alloc`, from which units are found; from then on each call that appends
-    /// adds marks of what it appends. If memory for a mark is refused, it and those after it are missing, and units there
-    /// are counted from the last mark that is kept, until a later append finds memory for them. A short string or an
-    /// ASCII one needs none.
+    /// adds marks of what it appends. If memory for a mark is refused, it and those after it are missing, and units
+    /// there are counted from the last mark that is kept, until a later append finds memory for them. A short string or
+    /// an ASCII one needs none.
     pub fn mark_units(&mut self, alloc: A)
         ensures { self.new ≡ self.old }
     {
@@ -148,9 +148,9 @@ impl<A: Allocator> IndexedBuf<A> {
         self.text.as_wtf8()
     }
 
-    /// The code unit at index `i`, or `None` at or past the end. Constant in an ASCII string. In others it counts the units
-    /// from the last mark that is kept, or from the start; if more than 128 units are held, from the end if that is nearer
-    /// and at most 128 units away.
+    /// The code unit at index `i`, or `None` at or past the end. Constant in an ASCII string. In others it counts the
+    /// units from the last mark that is kept, or from the start; if more than 128 units are held, from the end if that
+    /// is nearer and at most 128 units away.
     pub fn unit_at(&self, i: usize) -> Option<u16>
         ensures unit { result ≡ slice_get self.now.units i }
         ensures none { IsNone result ↔ (length self.now.units ≤ i) }
@@ -231,10 +231,10 @@ impl<A: Allocator> IndexedBuf<A> {
         units
     }
 
-    /// The byte position of the code point boundary before the code unit at index `i`, or of the end if `i` is the length,
-    /// which it must not exceed. If `i` splits a surrogate pair, that is the position of the pair. Constant in an ASCII
-    /// string. In others it counts the units from the last mark that is kept, or from the start, or from the end if that
-    /// is nearer and at most 128 units away.
+    /// The byte position of the code point boundary before the code unit at index `i`, or of the end if `i` is the
+    /// length, which it must not exceed. If `i` splits a surrogate pair, that is the position of the pair. Constant in
+    /// an ASCII string. In others it counts the units from the last mark that is kept, or from the start, or from the
+    /// end if that is nearer and at most 128 units away.
     pub fn position_at(&self, i: usize) -> usize
         requires { i ≤ length self.now.units }
         ensures whole { ¬ (DividesPair self.now.units i) → IsFront self.now.units result (take i self.now.units) }
@@ -271,8 +271,9 @@ impl<A: Allocator> IndexedBuf<A> {
         self.text.reserve(additional)
     }
 
-    /// Releases spare capacity, that of the marks too, if the allocator agrees, else keeps it. An empty string releases all
-    /// of it. The units and bytes of the string never change, and its marks are kept. Linear in the length if it allocates.
+    /// Releases spare capacity, that of the marks too, if the allocator agrees, else keeps it. An empty string releases
+    /// all of it. The units and bytes of the string never change, and its marks are kept. Linear in the length if it
+    /// allocates.
     pub fn shrink_to_fit(&mut self)
         ensures units { self.new.units ≡ self.old.units }
         ensures bytes { self.new.bytes ≡ self.old.bytes }
@@ -283,8 +284,8 @@ impl<A: Allocator> IndexedBuf<A> {
         marks::shrink_kept(&mut self.marks);
     }
 
-    /// Appends a code point. A trail surrogate after a lead surrogate completes the pair. If memory is refused, the string is
-    /// unchanged. No push is refused for a mark.
+    /// Appends a code point. A trail surrogate after a lead surrogate completes the pair. If memory is refused, the
+    /// string is unchanged. No push is refused for a mark.
     pub fn push(&mut self, code_point: CodePoint) -> Result<(), AllocError>
         ensures ok { OnOk result (AppendsUnits self.old (units_of (number code_point)) self.new) }
         ensures kept { OnErr result (KeepsContents self.old self.new) }
@@ -431,9 +432,10 @@ impl<A: Allocator> IndexedBuf<A> {
         Ok(())
     }
 
-    /// Appends a part that was cut at code units, and counts its units: its whole code points between the halves of pairs
-    /// that the cuts split. A string that is cut at any unit, even inside a pair, is whole again after the second part is
-    /// appended to the first. If memory is refused, the string is unchanged. Amortized linear in the length of the part.
+    /// Appends a part that was cut at code units, and counts its units: its whole code points between the halves of
+    /// pairs that the cuts split. A string that is cut at any unit, even inside a pair, is whole again after the second
+    /// part is appended to the first. If memory is refused, the string is unchanged. Amortized linear in the length of
+    /// the part.
     pub fn push_unit_slice(&mut self, slice: UnitSlice<'_>) -> Result<(), AllocError>
         ensures ok { OnOk result (AppendsUnits self.old (units_of_slice slice.entry) self.new) }
         ensures kept { OnErr result (KeepsContents self.old self.new) }
@@ -451,8 +453,8 @@ impl<A: Allocator> IndexedBuf<A> {
         Ok(())
     }
 
-    /// Shortens the string to `n` code units, which must be at most the number of code units. If that splits a surrogate
-    /// pair, its lead stays as a lone surrogate. Does not allocate. Counts the units as `position_at` does.
+    /// Shortens the string to `n` code units, which must be at most the number of code units. If that splits a
+    /// surrogate pair, its lead stays as a lone surrogate. Does not allocate. Counts the units as `position_at` does.
     pub fn truncate_units(&mut self, n: usize)
         requires { n ≤ length self.old.units }
         ensures units { self.new.units ≡ take n self.old.units }

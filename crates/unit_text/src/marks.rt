@@ -184,8 +184,8 @@ fn last_or_start(view: Wtf8<'_>, marks: &[UnitMark]) -> UnitMark
     marks[marks.len() - 1]
 }
 
-/// The mark with `units` code units before it, or with one fewer if that splits a pair, found from the end. Not inlined,
-/// so that a text whose marks are nearer costs little.
+/// The mark with `units` code units before it, or with one fewer if that splits a pair, found from the end. Not
+/// inlined, so that a text whose marks are nearer costs little.
 #[inline(never)]
 pub(crate) fn mark_from_end(text: CountedView<'_>, units: usize) -> UnitMark
     requires { units ≤ text.count }
@@ -337,8 +337,8 @@ impl<'a> MarkedView<'a> {
         marks[low - 1]
     }
 
-    /// Returns the rest of the text after a mark at or before unit index `units`, and the offset of `units` in it. A text
-    /// of at most `SPACING` units is returned whole, unless it is ASCII and `units` is at least `FRONT`.
+    /// Returns the rest of the text after a mark at or before unit index `units`, and the offset of `units` in it. A
+    /// text of at most `SPACING` units is returned whole, unless it is ASCII and `units` is at least `FRONT`.
     #[inline(always)]
     fn rest_from_mark(&self, units: usize) -> (Wtf8<'a>, usize)
         requires within { units ≤ self.now.text.count }

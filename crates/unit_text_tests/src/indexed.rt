@@ -699,8 +699,8 @@ fn expect_from<A: Allocator>(
     expect_cut_near_end(buf, units, i)
 }
 
-/// Fails unless a long buffer without marks has its units and positions from each of `last_indexes` on, and if it is cut
-/// there.
+/// Fails unless a long buffer without marks has its units and positions from each of `last_indexes` on, and if it is
+/// cut there.
 fn expect_end(alloc: Global, kind: Kind) -> Result<(), Failed> {
     let units = made(long_units(alloc, kind))?;
     let mut buf = made(IndexedBuf::from_units(alloc, &units))?;

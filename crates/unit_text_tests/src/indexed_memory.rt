@@ -429,8 +429,8 @@ fn long_with_room<'a>(
     Ok(buf)
 }
 
-/// Releases the spare capacity of the long buffer of `PAIR`. Fails unless that makes a request for the bytes and one for
-/// the marks, and the capacity is the length if `is_granted` and else as before.
+/// Releases the spare capacity of the long buffer of `PAIR`. Fails unless that makes a request for the bytes and one
+/// for the marks, and the capacity is the length if `is_granted` and else as before.
 fn shrink<'a>(
     heap: Lent<'a>,
     marks: Lent<'a>,
@@ -494,8 +494,8 @@ fn expect_shrunk<'a>(
     expect(buf_has_units(buf, &units), Wrong::Units)
 }
 
-/// Fails unless `shrink_to_fit` of a long buffer releases the spare capacity of its bytes and of its marks, each if that
-/// is granted.
+/// Fails unless `shrink_to_fit` of a long buffer releases the spare capacity of its bytes and of its marks, each if
+/// that is granted.
 fn expect_each_shrunk(
     alloc: Global,
     (is_granted, is_full): (bool, bool),
@@ -564,7 +564,7 @@ enum Make {
 
 /// Calls that make a buffer, and the number of their requests. A buffer of six units of three bytes first has room for
 /// six bytes, then for the 18 of their block. One of 17 such units first has room for 17 bytes, then for the 48 of a
-/// block of sixteen, then for twice as many.
+/// block of sixteen, then for twice that number.
 fn makes() -> [(Make, u64); 6] {
     [
         (Make::Capacity(0), 0),

@@ -4,8 +4,8 @@ use std::alloc::{AllocError, Allocator, Global};
 use unit_text::UnitText;
 use wtf8_tests::wrong::{Failed, Wrong, expect, in_row, made};
 
-/// Lengths in units of a growing text, and the number of requests for its marks up to each. The text has a mark for each
-/// multiple of 128 below its length; the list of marks has room for four at first, and then for twice as many.
+/// Lengths in units of a growing text, and the number of requests for its marks up to each. The text has a mark for
+/// each multiple of 128 below its length; the list of marks has room for four at first, and then for twice that number.
 fn requests_by_length() -> [(usize, u64); 6] {
     [(128, 0), (129, 1), (640, 1), (641, 2), (1152, 2), (1153, 3)]
 }

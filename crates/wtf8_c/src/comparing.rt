@@ -49,7 +49,8 @@ pub extern "C" fn wtf8_compare_with_units(
     }
 }
 
-/// Whether the units of the string from `index` on begin with the units of `other`. An empty `other` is found at each index.
+/// Whether the units of the string from `index` on begin with the units of `other`. An empty `other` is found at each
+/// index.
 #[unsafe(no_mangle)]
 pub extern "C" fn wtf8_starts_with(
     alloc: Global,

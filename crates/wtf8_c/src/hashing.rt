@@ -56,8 +56,8 @@ fn seeded(seed_0: u64, seed_1: u64) -> DefaultHasher
     hasher
 }
 
-/// Writes the bytes of the code points from index `at` on to the front of `scratch`, until there is no room for four more.
-/// Returns the number of the bytes, and the index after the code points.
+/// Writes the bytes of the code points from index `at` on to the front of `scratch`, until there is no room for four
+/// more. Returns the number of the bytes, and the index after the code points.
 fn encode_some(units: &[u16], at: usize, scratch: &mut [u8; SCRATCH]) -> (usize, usize)
     requires { at < length units.now }
     ensures order { at < result.1 }
@@ -76,7 +76,8 @@ fn encode_some(units: &[u16], at: usize, scratch: &mut [u8; SCRATCH]) -> (usize,
     (len, end)
 }
 
-/// The bytes of the code point at index `at`, at the front of an array, their number, and the index after the code point.
+/// The bytes of the code point at index `at`, at the front of an array, their number, and the index after the code
+/// point.
 #[inline(always)]
 fn encode_at(units: &[u16], at: usize) -> ([u8; 4], usize, usize)
     requires { at < length units.now }

@@ -1,7 +1,7 @@
 // Calls that grow a string: the requests for memory that each makes, and what it leaves if one of them is refused.
 use crate::shared::{FULL, filled, full, push_letters, succeeds};
 use refusing::{Lent, REFUSALS, Refusal, Refusing};
-use std::alloc::{AllocError, Allocator, Global};
+use std::alloc::{AllocError, Global};
 use wtf8::{Build, CodePoint, Wtf8, Wtf8Buf};
 use wtf8_tests::examples::{TEXT, joined};
 use wtf8_tests::way::Way;
@@ -136,7 +136,7 @@ fn rows<'a>(
 }
 
 /// Fails unless a trail surrogate is refused, and the string of "a" and D83D is unchanged, also after an empty text.
-fn expect_trail_refused<A: Allocator>(alloc: Global, text: &mut Wtf8Buf<A>) -> Result<(), Failed> {
+fn expect_trail_refused(alloc: Global, text: &mut Wtf8Buf<Lent<'_>>) -> Result<(), Failed> {
     if text.push(CodePoint::from_unit(0xDCA9)).is_ok() {
         return Err(Failed::by(Wrong::Outcome));
     }
@@ -272,7 +272,7 @@ fn a_refused_request_leaves_the_string_unchanged(rt: HostRuntime) -> Result<(), 
 }
 
 /// Whether reserving 1,000 more bytes succeeds.
-fn reserves<A: Allocator>(text: &mut Wtf8Buf<A>, way: Way) -> bool {
+fn reserves(text: &mut Wtf8Buf<Lent<'_>>, way: Way) -> bool {
     match way {
         Way::Method => text.reserve(1000).is_ok(),
         Way::Apply => matches!(text.apply(Build::Reserve(1000)), Ok(true)),
@@ -319,9 +319,9 @@ fn reserving_usize_max_bytes_is_refused(rt: HostRuntime) -> Result<(), Failed> {
 }
 
 /// Calls `shrink_to_fit`. Fails unless the capacity is then `capacity` and the string is unchanged.
-fn expect_shrunk<A: Allocator>(
+fn expect_shrunk(
     alloc: Global,
-    text: &mut Wtf8Buf<A>,
+    text: &mut Wtf8Buf<Lent<'_>>,
     capacity: usize,
 ) -> Result<(), Failed> {
     text.shrink_to_fit();
@@ -332,7 +332,7 @@ fn expect_shrunk<A: Allocator>(
 }
 
 /// Clears and shrinks a string, and returns whether its capacity is then 0.
-fn releases<A: Allocator>(text: &mut Wtf8Buf<A>) -> bool {
+fn releases(text: &mut Wtf8Buf<Lent<'_>>) -> bool {
     text.clear();
     text.shrink_to_fit();
     text.capacity() == 0 && text.is_empty()

@@ -1,6 +1,6 @@
 // Iterators whose lower size hint is wrong, or whose upper one is far above it.
 use refusing::{Lent, REFUSALS, Refusing};
-use std::alloc::{AllocError, Allocator, Global};
+use std::alloc::{AllocError, Global};
 use std::cell::Cell;
 use wtf8::{CodePoint, Wtf8, Wtf8Buf};
 use wtf8_tests::examples::{expect_units, joined};
@@ -115,12 +115,7 @@ fn a_lower_hint_may_be_false(rt: HostRuntime) -> Result<(), Failed> {
 }
 
 /// Whether extending a string by `left` items, with the lower hint `hint`, succeeds.
-fn is_extended<A: Allocator>(
-    text: &mut Wtf8Buf<A>,
-    left: u32,
-    hint: usize,
-    taken: &Cell<u32>,
-) -> bool {
+fn is_extended(text: &mut Wtf8Buf<Lent<'_>>, left: u32, hint: usize, taken: &Cell<u32>) -> bool {
     text.extend(trails(left, hint, taken)).is_ok()
 }
 
@@ -233,20 +228,12 @@ fn items_of(row: Upper, taken: &Cell<u32>) -> Hinted<'_> {
 }
 
 /// The length in bytes of a string made of the items of a row.
-fn len_of_made<A: Allocator + Drop>(
-    heap: A,
-    row: Upper,
-    taken: &Cell<u32>,
-) -> Result<usize, AllocError> {
+fn len_of_made(heap: Lent<'_>, row: Upper, taken: &Cell<u32>) -> Result<usize, AllocError> {
     Ok(Wtf8Buf::from_iter(heap, items_of(row, taken))?.len())
 }
 
 /// The length in bytes of an empty string that is extended by the items of a row.
-fn len_of_extended<A: Allocator + Drop>(
-    heap: A,
-    row: Upper,
-    taken: &Cell<u32>,
-) -> Result<usize, AllocError> {
+fn len_of_extended(heap: Lent<'_>, row: Upper, taken: &Cell<u32>) -> Result<usize, AllocError> {
     let mut text = Wtf8Buf::new(heap);
     text.extend(items_of(row, taken))?;
     Ok(text.len())

@@ -1,7 +1,7 @@
 // Lists of building calls that stop at a refused request for memory.
 use crate::shared::{FULL, call_named, full};
 use refusing::{Lent, REFUSALS, Refusal, Refusing};
-use std::alloc::{AllocError, Allocator, Global};
+use std::alloc::{AllocError, Global};
 use wtf8::{Build, CodePoint, Wtf8, Wtf8Buf};
 use wtf8_tests::examples::{expect_made, joined};
 use wtf8_tests::wrong::{Failed, Wrong, expect_bytes, in_row};
@@ -77,7 +77,7 @@ fn before(alloc: Global, calls: &[Build<'_>], stop: Stop) -> Result<Wtf8Buf<Glob
 }
 
 /// Whether `apply_all` stops at the call with index `done`.
-fn stops_at<A: Allocator>(text: &mut Wtf8Buf<A>, calls: &[Build<'_>], done: usize) -> bool {
+fn stops_at(text: &mut Wtf8Buf<Lent<'_>>, calls: &[Build<'_>], done: usize) -> bool {
     match text.apply_all(calls) {
         Ok(_) => false,
         Err(stopped) => stopped.done == done,
@@ -117,7 +117,7 @@ fn expect_stops(alloc: Global, heap: Lent<'_>, calls: &[Build<'_>]) -> Result<()
 }
 
 /// Whether a list is applied to its end, with `refused` of its truncations refused.
-fn applies_all<A: Allocator>(text: &mut Wtf8Buf<A>, calls: &[Build<'_>], refused: usize) -> bool {
+fn applies_all(text: &mut Wtf8Buf<Lent<'_>>, calls: &[Build<'_>], refused: usize) -> bool {
     match text.apply_all(calls) {
         Ok(found) => found == refused,
         Err(_) => false,
@@ -216,7 +216,7 @@ fn a_list_stops_at_the_refused_push(rt: HostRuntime) -> Result<(), Failed> {
 }
 
 /// Fails unless an extension that needs more than the capacity stops, with the code points appended that fit.
-fn expect_part<A: Allocator>(text: &mut Wtf8Buf<A>, points: &[CodePoint]) -> Result<(), Failed> {
+fn expect_part(text: &mut Wtf8Buf<Lent<'_>>, points: &[CodePoint]) -> Result<(), Failed> {
     if !stops_at(text, &[Build::Extend(points)], 0) {
         return Err(Failed::by(Wrong::Outcome));
     }

@@ -3,7 +3,7 @@
 use crate::samples::{Call, Sample, expect_refused, sample_with, succeeds};
 use crate::shared::push_letters;
 use refusing::{Lent, Refusing};
-use std::alloc::{AllocError, Allocator, Global};
+use std::alloc::{AllocError, Global};
 use wtf8::Wtf8Buf;
 use wtf8_tests::examples::expect_units;
 use wtf8_tests::wrong::{Failed, Wrong, in_row};
@@ -137,7 +137,7 @@ fn rows() -> [Row; 18] {
 }
 
 /// Fails unless the call succeeds if all is granted, with the requests and bytes of the row.
-fn expect_granted<'a>(heap: Lent<'a>, row: Row, sample: &Sample<Lent<'a>>) -> Result<(), Failed> {
+fn expect_granted<'a>(heap: Lent<'a>, row: Row, sample: &Sample<'a>) -> Result<(), Failed> {
     heap.grant(9);
     let is_done = succeeds(heap, row.call, sample);
     if !is_done || heap.requests() != row.requests || heap.bytes() != row.bytes {
@@ -150,7 +150,7 @@ fn expect_granted<'a>(heap: Lent<'a>, row: Row, sample: &Sample<Lent<'a>>) -> Re
 fn expect_call<'a>(
     heap: Lent<'a>,
     row: Row,
-    sample: &Sample<Lent<'a>>,
+    sample: &Sample<'a>,
     is_refused: bool,
 ) -> Result<(), Failed> {
     if is_refused {
@@ -160,11 +160,7 @@ fn expect_call<'a>(
 }
 
 /// The sample of these units.
-fn sample_of<'a>(
-    alloc: Global,
-    heap: Lent<'a>,
-    units: &[u16],
-) -> Result<Sample<Lent<'a>>, AllocError> {
+fn sample_of<'a>(alloc: Global, heap: Lent<'a>, units: &[u16]) -> Result<Sample<'a>, AllocError> {
     heap.grant(9);
     sample_with(alloc, heap, Vec::from_slice(alloc, units)?)
 }
@@ -198,17 +194,13 @@ fn a_making_call_fails_at_each_refusal(rt: HostRuntime) -> Result<(), Failed> {
 }
 
 /// The capacity of a clone.
-fn cloned_capacity<A: Allocator + Drop + Copy>(text: &Wtf8Buf<A>) -> Result<usize, AllocError> {
+fn cloned_capacity(text: &Wtf8Buf<Lent<'_>>) -> Result<usize, AllocError> {
     let copy = text.clone()?;
     Ok(copy.capacity())
 }
 
 /// Fails unless a clone of the sample's text requests just its `letters` bytes, at once, and fails if that is refused.
-fn expect_clone<'a>(
-    heap: Lent<'a>,
-    sample: &Sample<Lent<'a>>,
-    letters: usize,
-) -> Result<(), Failed> {
+fn expect_clone<'a>(heap: Lent<'a>, sample: &Sample<'a>, letters: usize) -> Result<(), Failed> {
     heap.grant(9);
     let capacity = cloned_capacity(&sample.text);
     let requests = u64::from(0 < letters);
@@ -223,7 +215,7 @@ fn sample_of_letters<'a>(
     alloc: Global,
     heap: Lent<'a>,
     letters: usize,
-) -> Result<Sample<Lent<'a>>, AllocError> {
+) -> Result<Sample<'a>, AllocError> {
     let mut sample = sample_of(alloc, heap, &[])?;
     sample.text.reserve(200)?;
     push_letters(&mut sample.text, letters)?;

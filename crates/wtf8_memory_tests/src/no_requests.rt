@@ -2,7 +2,7 @@
 // all are left after them. The calls also succeed if every request is refused.
 use crate::shared::{Step, expect_step};
 use refusing::{Lent, Refusing};
-use std::alloc::{AllocError, Allocator, Global};
+use std::alloc::{AllocError, Global};
 use std::borrow::CowStr;
 use wtf8::{Build, CodePoint, Wtf8, Wtf8Buf};
 use wtf8_tests::examples::{TEXT, TEXT_DUMP, expect_made, expect_true, pushed};
@@ -33,7 +33,7 @@ fn with_room(heap: Lent<'_>, room: usize, grants: u64) -> Result<Wtf8Buf<Lent<'_
 }
 
 /// Appends nothing, by each call that appends.
-fn append_nothing<A: Allocator>(text: &mut Wtf8Buf<A>) -> Result<(), AllocError> {
+fn append_nothing(text: &mut Wtf8Buf<Lent<'_>>) -> Result<(), AllocError> {
     text.reserve(0)?;
     text.push_str("")?;
     text.push_wtf8(Wtf8::from_str(""))?;
@@ -41,24 +41,24 @@ fn append_nothing<A: Allocator>(text: &mut Wtf8Buf<A>) -> Result<(), AllocError>
 }
 
 /// Whether the hex dump is empty.
-fn is_dump_empty<A: Allocator + Drop>(heap: A, view: Wtf8<'_>) -> Result<bool, AllocError> {
+fn is_dump_empty(heap: Lent<'_>, view: Wtf8<'_>) -> Result<bool, AllocError> {
     let dump = view.hex_dump(heap)?;
     Ok(dump.as_str().is_empty())
 }
 
 /// Whether the lossy text is empty.
-fn is_lossy_text_empty<A: Allocator + Drop>(heap: A, view: Wtf8<'_>) -> Result<bool, AllocError> {
+fn is_lossy_text_empty(heap: Lent<'_>, view: Wtf8<'_>) -> Result<bool, AllocError> {
     let lossy = view.to_string_lossy(heap)?;
     Ok(lossy.as_str().is_empty())
 }
 
 /// Whether the hex dump and the lossy text are empty.
-fn has_no_texts<A: Allocator + Drop + Copy>(heap: A, view: Wtf8<'_>) -> Result<bool, AllocError> {
+fn has_no_texts(heap: Lent<'_>, view: Wtf8<'_>) -> Result<bool, AllocError> {
     Ok(is_dump_empty(heap, view)? && is_lossy_text_empty(heap, view)?)
 }
 
 /// Fails unless an empty string to which nothing is appended is empty, and so are its hex dump and lossy text.
-fn expect_nothing<A: Allocator + Drop + Copy>(alloc: Global, heap: A) -> Result<(), Failed> {
+fn expect_nothing(alloc: Global, heap: Lent<'_>) -> Result<(), Failed> {
     let mut text = Wtf8Buf::new(heap);
     append_nothing(&mut text)?;
     expect_bytes(alloc, text.as_wtf8(), "")?;
@@ -66,10 +66,7 @@ fn expect_nothing<A: Allocator + Drop + Copy>(alloc: Global, heap: A) -> Result<
 }
 
 /// Fails unless each call that makes a string of nothing makes an empty one.
-fn expect_made_of_nothing<A: Allocator + Drop + Copy>(
-    alloc: Global,
-    heap: A,
-) -> Result<(), Failed> {
+fn expect_made_of_nothing(alloc: Global, heap: Lent<'_>) -> Result<(), Failed> {
     expect_made(alloc, Wtf8Buf::with_capacity(heap, 0), "")?;
     expect_made(alloc, Wtf8Buf::from_str(heap, ""), "")?;
     expect_made(alloc, Wtf8Buf::from_ill_formed_utf16(heap, &[]), "")?;
@@ -77,11 +74,7 @@ fn expect_made_of_nothing<A: Allocator + Drop + Copy>(
 }
 
 /// Whether the lossy text is `text`, borrowed.
-fn is_lossy_text_borrowed<A: Allocator + Drop>(
-    heap: A,
-    view: Wtf8<'_>,
-    text: &str,
-) -> Result<bool, AllocError> {
+fn is_lossy_text_borrowed(heap: Lent<'_>, view: Wtf8<'_>, text: &str) -> Result<bool, AllocError> {
     let lossy = view.to_string_lossy(heap)?;
     Ok(matches!(lossy, CowStr::Borrowed(_)) && lossy.as_str() == text)
 }
@@ -101,20 +94,20 @@ fn nothing_and_borrowed_texts_make_no_request(rt: HostRuntime) -> Result<(), Fai
 }
 
 /// Appends the two surrogates of a pair.
-fn push_pair<A: Allocator>(text: &mut Wtf8Buf<A>) -> Result<(), AllocError> {
+fn push_pair(text: &mut Wtf8Buf<Lent<'_>>) -> Result<(), AllocError> {
     text.push(CodePoint::from_unit(LEAD))?;
     text.push(CodePoint::from_unit(TRAIL))
 }
 
 /// Empties a string and appends the pair as one character.
-fn push_anew<A: Allocator>(text: &mut Wtf8Buf<A>) -> Result<(), AllocError> {
+fn push_anew(text: &mut Wtf8Buf<Lent<'_>>) -> Result<(), AllocError> {
     text.reserve(0)?;
     text.clear();
     text.push_char('💩')
 }
 
 /// Fails unless two pushed surrogates become one code point, and it can be pushed again once the string is cleared.
-fn expect_pair<A: Allocator>(alloc: Global, text: &mut Wtf8Buf<A>) -> Result<(), Failed> {
+fn expect_pair(alloc: Global, text: &mut Wtf8Buf<Lent<'_>>) -> Result<(), Failed> {
     push_pair(text)?;
     expect_bytes(alloc, text.as_wtf8(), "F0 9F 92 A9")?;
     push_anew(text)?;
@@ -138,24 +131,21 @@ fn pushes_within_capacity_make_no_request(rt: HostRuntime) -> Result<(), Failed>
 }
 
 /// Appends `TEXT`, "a" and a lead surrogate.
-fn push_text_and_lead<A: Allocator>(text: &mut Wtf8Buf<A>) -> Result<(), AllocError> {
+fn push_text_and_lead(text: &mut Wtf8Buf<Lent<'_>>) -> Result<(), AllocError> {
     text.push_str(TEXT)?;
     text.push_char('a')?;
     text.push(CodePoint::from_unit(LEAD))
 }
 
 /// Appends a string and the two surrogates of a pair, and reserves two bytes.
-fn push_string_and_pair<A: Allocator>(
-    text: &mut Wtf8Buf<A>,
-    other: Wtf8<'_>,
-) -> Result<(), AllocError> {
+fn push_string_and_pair(text: &mut Wtf8Buf<Lent<'_>>, other: Wtf8<'_>) -> Result<(), AllocError> {
     text.push_wtf8(other)?;
     text.extend([CodePoint::from_unit(LEAD), CodePoint::from_unit(TRAIL)])?;
     text.reserve(2)
 }
 
 /// Makes each call that appends; `push_wtf8` appends a trail after a lead.
-fn push_each<A: Allocator>(alloc: Global, text: &mut Wtf8Buf<A>) -> Result<(), Failed> {
+fn push_each(alloc: Global, text: &mut Wtf8Buf<Lent<'_>>) -> Result<(), Failed> {
     let trail = pushed(alloc, &[0xDCA9, 0x62])?;
     push_text_and_lead(text)?;
     push_string_and_pair(text, trail.as_wtf8())?;
@@ -182,7 +172,7 @@ fn each_call_within_capacity_makes_no_request(rt: HostRuntime) -> Result<(), Fai
 
 /// Whether a list that appends the two surrogates of a pair, by an extension each with an empty push between them, is
 /// applied with no truncation refused.
-fn is_pair_applied<A: Allocator>(text: &mut Wtf8Buf<A>) -> bool {
+fn is_pair_applied(text: &mut Wtf8Buf<Lent<'_>>) -> bool {
     let lead = [CodePoint::from_unit(LEAD)];
     let trail = [CodePoint::from_unit(TRAIL)];
     let calls = [
@@ -233,9 +223,9 @@ fn applied_rows<'a>(lead: &'a [CodePoint; 1], piece: Wtf8<'a>) -> [Step<'a>; 10]
 }
 
 /// Fails unless each call of `applied_rows` in turn does what its row says; `piece` is pushed after a lead.
-fn expect_each_applied<A: Allocator>(
+fn expect_each_applied(
     alloc: Global,
-    text: &mut Wtf8Buf<A>,
+    text: &mut Wtf8Buf<Lent<'_>>,
     piece: Wtf8<'_>,
 ) -> Result<(), Failed> {
     let lead = [CodePoint::from_unit(LEAD)];
@@ -267,7 +257,7 @@ fn applied_calls_within_capacity_make_no_request(rt: HostRuntime) -> Result<(), 
 }
 
 /// Appends `TEXT`, and a lone lead surrogate if `has_lead`.
-fn push_text<A: Allocator>(text: &mut Wtf8Buf<A>, has_lead: bool) -> Result<(), AllocError> {
+fn push_text(text: &mut Wtf8Buf<Lent<'_>>, has_lead: bool) -> Result<(), AllocError> {
     text.push_str(TEXT)?;
     if has_lead {
         text.push(CodePoint::from_unit(0xD800))?;
@@ -283,12 +273,12 @@ fn text_of(heap: Lent<'_>, has_lead: bool, grants: u64) -> Result<Wtf8Buf<Lent<'
 }
 
 /// Whether the view is `TEXT` as a text, and as a lossy text, borrowed.
-fn is_text_borrowed<A: Allocator + Drop>(heap: A, view: Wtf8<'_>) -> Result<bool, AllocError> {
+fn is_text_borrowed(heap: Lent<'_>, view: Wtf8<'_>) -> Result<bool, AllocError> {
     Ok(view.as_str() == Some(TEXT) && is_lossy_text_borrowed(heap, view, TEXT)?)
 }
 
 /// Fails unless `owned` is `TEXT`, also as a string made of it and as that string's lossy text.
-fn expect_again<A: Allocator + Drop>(alloc: Global, owned: String<A>) -> Result<(), Failed> {
+fn expect_again(alloc: Global, owned: String<Lent<'_>>) -> Result<(), Failed> {
     if owned.as_str() != TEXT {
         return Err(Failed::by(Wrong::Outcome));
     }
@@ -301,7 +291,7 @@ fn expect_again<A: Allocator + Drop>(alloc: Global, owned: String<A>) -> Result<
 }
 
 /// Fails unless `into_string` succeeds, and its text makes the string and the lossy text again.
-fn expect_owned<A: Allocator + Drop>(alloc: Global, text: Wtf8Buf<A>) -> Result<(), Failed> {
+fn expect_owned(alloc: Global, text: Wtf8Buf<Lent<'_>>) -> Result<(), Failed> {
     match text.into_string() {
         Ok(owned) => expect_again(alloc, owned),
         Err(_) => Err(Failed::by(Wrong::Outcome)),
@@ -316,7 +306,7 @@ fn expect_text(alloc: Global, heap: Lent<'_>, grants: u64) -> Result<(), Failed>
 }
 
 /// Fails unless `back` is `TEXT` and a lead surrogate, which is U+FFFD in the lossy text.
-fn expect_lossy<A: Allocator + Drop>(alloc: Global, back: Wtf8Buf<A>) -> Result<(), Failed> {
+fn expect_lossy(alloc: Global, back: Wtf8Buf<Lent<'_>>) -> Result<(), Failed> {
     expect_bytes(alloc, back.as_wtf8(), "61 C3 A9 20 F0 9F 92 A9 ED A0 80")?;
     if back.into_string_lossy().as_str() != "aé 💩\u{FFFD}" {
         return Err(Failed::by(Wrong::Outcome));
@@ -325,9 +315,9 @@ fn expect_lossy<A: Allocator + Drop>(alloc: Global, back: Wtf8Buf<A>) -> Result<
 }
 
 /// Fails unless a string was made and is not UTF-8, and `into_string` returns it with its bytes.
-fn expect_no_text<A: Allocator + Drop>(
+fn expect_no_text(
     alloc: Global,
-    made: Result<Wtf8Buf<A>, AllocError>,
+    made: Result<Wtf8Buf<Lent<'_>>, AllocError>,
 ) -> Result<(), Failed> {
     let text = made?;
     if text.as_wtf8().as_str().is_some() {

@@ -2,7 +2,7 @@
 // turn.
 use crate::shared::{FULL, full};
 use refusing::{Lent, REFUSALS, Refusal, Refusing};
-use std::alloc::{AllocError, Allocator, Global};
+use std::alloc::{AllocError, Global};
 use wtf8::{Wtf8, Wtf8Buf};
 use wtf8_tests::examples::{expect_units, joining};
 use wtf8_tests::unit_lists::{lists, long_list};
@@ -34,7 +34,7 @@ fn byte_len(units: &[u16]) -> usize {
 }
 
 /// Appends units one by one.
-fn push_each<A: Allocator>(text: &mut Wtf8Buf<A>, units: &[u16]) -> Result<(), AllocError> {
+fn push_each(text: &mut Wtf8Buf<Lent<'_>>, units: &[u16]) -> Result<(), AllocError> {
     for unit in units {
         text.push_unit(*unit)?;
     }
@@ -158,8 +158,8 @@ struct Row {
     bytes: usize,
 }
 
-/// First a byte for each unit is reserved, then what a block of up to sixteen or one code point needs; each request is for the
-/// greatest of eight bytes, twice the capacity and what is needed.
+/// First a byte for each unit is reserved, then what a block of up to sixteen or one code point needs; each request is
+/// for the greatest of eight bytes, twice the capacity and what is needed.
 fn rows() -> [Row; 8] {
     [
         Row {
@@ -216,7 +216,7 @@ fn rows() -> [Row; 8] {
 }
 
 /// Pushes the units, by `push_unit` if there is one, and returns whether that succeeds both ways.
-fn pushes<A: Allocator>(text: &mut Wtf8Buf<A>, units: &[u16], is_single: bool) -> bool {
+fn pushes(text: &mut Wtf8Buf<Lent<'_>>, units: &[u16], is_single: bool) -> bool {
     match units {
         [unit] if is_single => text.push_unit(*unit).is_ok(),
         _ => text.push_ill_formed_utf16(units).is_ok(),

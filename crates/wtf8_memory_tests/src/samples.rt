@@ -1,31 +1,31 @@
 // A string, the units and the code points that it is made of, and each call that requests memory on them.
 use refusing::{Lent, REFUSALS};
-use std::alloc::{AllocError, Allocator, Global};
+use std::alloc::{AllocError, Global};
 use wtf8::{Build, CodePoint, Wtf8, Wtf8Buf};
 use wtf8_tests::examples::points_of_units;
 use wtf8_tests::wrong::{Failed, Wrong};
 
 /// A string with spare capacity, and the units and the code points that it is made of.
 #[derive(Drop)]
-pub struct Sample<A: Allocator> {
+pub struct Sample<'a> {
     pub units: Vec<u16>,
     pub points: Vec<CodePoint>,
-    pub text: Wtf8Buf<A>,
+    pub text: Wtf8Buf<Lent<'a>>,
 }
 
 /// The string of these units, with 64 more bytes reserved.
-fn text_of<A: Allocator + Drop>(heap: A, units: &[u16]) -> Result<Wtf8Buf<A>, AllocError> {
+fn text_of<'a>(heap: Lent<'a>, units: &[u16]) -> Result<Wtf8Buf<Lent<'a>>, AllocError> {
     let mut text = Wtf8Buf::from_ill_formed_utf16(heap, units)?;
     text.reserve(64)?;
     Ok(text)
 }
 
 /// The sample of these units.
-pub fn sample_with<A: Allocator + Drop>(
+pub fn sample_with<'a>(
     alloc: Global,
-    heap: A,
+    heap: Lent<'a>,
     units: Vec<u16>,
-) -> Result<Sample<A>, AllocError> {
+) -> Result<Sample<'a>, AllocError> {
     let points = points_of_units(alloc, &units)?;
     let text = text_of(heap, &units)?;
     Ok(Sample {
@@ -59,7 +59,7 @@ pub enum Call {
 }
 
 /// Pushes code points one by one.
-fn push_each<A: Allocator>(text: &mut Wtf8Buf<A>, points: &[CodePoint]) -> Result<(), AllocError> {
+fn push_each(text: &mut Wtf8Buf<Lent<'_>>, points: &[CodePoint]) -> Result<(), AllocError> {
     for point in points {
         text.push(*point)?;
     }
@@ -67,13 +67,13 @@ fn push_each<A: Allocator>(text: &mut Wtf8Buf<A>, points: &[CodePoint]) -> Resul
 }
 
 /// Appends a lead surrogate, then the string of the sample.
-fn join<A: Allocator>(text: &mut Wtf8Buf<A>, sample: &Sample<A>) -> Result<(), AllocError> {
+fn join(text: &mut Wtf8Buf<Lent<'_>>, sample: &Sample<'_>) -> Result<(), AllocError> {
     text.push(CodePoint::from_unit(0xD83D))?;
     text.push_wtf8(sample.text.as_wtf8())
 }
 
 /// Whether a list of calls that appends the sample as a view, then as code points, is applied.
-fn applies<A: Allocator>(text: &mut Wtf8Buf<A>, sample: &Sample<A>) -> bool {
+fn applies(text: &mut Wtf8Buf<Lent<'_>>, sample: &Sample<'_>) -> bool {
     let calls = [
         Build::PushWtf8(sample.text.as_wtf8()),
         Build::Extend(&sample.points),
@@ -82,7 +82,7 @@ fn applies<A: Allocator>(text: &mut Wtf8Buf<A>, sample: &Sample<A>) -> bool {
 }
 
 /// Whether the call on an empty string succeeds.
-fn appends<A: Allocator>(text: &mut Wtf8Buf<A>, call: Call, sample: &Sample<A>) -> bool {
+fn appends(text: &mut Wtf8Buf<Lent<'_>>, call: Call, sample: &Sample<'_>) -> bool {
     let view = sample.text.as_wtf8();
     match call {
         Call::Reserve => text.reserve(sample.units.len()).is_ok(),
@@ -97,18 +97,18 @@ fn appends<A: Allocator>(text: &mut Wtf8Buf<A>, call: Call, sample: &Sample<A>) 
 }
 
 /// Appends the units of a view to a vector twice.
-fn append_twice<A: Allocator>(units: &mut Vec<u16, A>, view: Wtf8<'_>) -> Result<(), AllocError> {
+fn append_twice(units: &mut Vec<u16, Lent<'_>>, view: Wtf8<'_>) -> Result<(), AllocError> {
     view.append_units(units)?;
     view.append_units(units)
 }
 
 /// Whether a string was made.
-fn is_made<A: Allocator + Drop>(made: Result<Wtf8Buf<A>, AllocError>) -> bool {
+fn is_made(made: Result<Wtf8Buf<Lent<'_>>, AllocError>) -> bool {
     made.is_ok()
 }
 
 /// Whether a call that makes a string succeeds.
-fn makes<A: Allocator + Drop + Copy>(heap: A, call: Call, sample: &Sample<A>) -> bool {
+fn makes(heap: Lent<'_>, call: Call, sample: &Sample<'_>) -> bool {
     let view = sample.text.as_wtf8();
     match call {
         Call::WithCapacity => is_made(Wtf8Buf::with_capacity(heap, sample.units.len())),
@@ -120,7 +120,7 @@ fn makes<A: Allocator + Drop + Copy>(heap: A, call: Call, sample: &Sample<A>) ->
 }
 
 /// Whether a call that writes a text or the units succeeds.
-fn writes<A: Allocator + Drop + Copy>(heap: A, call: Call, view: Wtf8<'_>) -> bool {
+fn writes(heap: Lent<'_>, call: Call, view: Wtf8<'_>) -> bool {
     match call {
         Call::ToStringLossy => view.to_string_lossy(heap).is_ok(),
         Call::HexDump => view.hex_dump(heap).is_ok(),
@@ -131,7 +131,7 @@ fn writes<A: Allocator + Drop + Copy>(heap: A, call: Call, view: Wtf8<'_>) -> bo
 }
 
 /// Whether the call succeeds.
-pub fn succeeds<A: Allocator + Drop + Copy>(heap: A, call: Call, sample: &Sample<A>) -> bool {
+pub fn succeeds(heap: Lent<'_>, call: Call, sample: &Sample<'_>) -> bool {
     match call {
         Call::WithCapacity | Call::FromStr | Call::FromUnits | Call::FromIter | Call::Clone => {
             makes(heap, call, sample)
@@ -146,10 +146,10 @@ pub fn succeeds<A: Allocator + Drop + Copy>(heap: A, call: Call, sample: &Sample
 }
 
 /// Refuses each request of the call in turn, for good and once. Fails unless the call fails and makes no more requests.
-pub fn expect_refused<'a>(
-    heap: Lent<'a>,
+pub fn expect_refused(
+    heap: Lent<'_>,
     call: Call,
-    sample: &Sample<Lent<'a>>,
+    sample: &Sample<'_>,
     requests: u64,
 ) -> Result<(), Failed> {
     for refusal in REFUSALS {

@@ -70,7 +70,7 @@ pub fn call_named<A: Allocator>(text: &mut Wtf8Buf<A>, call: Build<'_>) -> Resul
 }
 
 /// Makes a call, and returns whether it succeeded.
-pub fn succeeds<A: Allocator>(text: &mut Wtf8Buf<A>, call: Build<'_>, way: Way) -> bool {
+pub fn succeeds(text: &mut Wtf8Buf<Lent<'_>>, call: Build<'_>, way: Way) -> bool {
     match way {
         Way::Method => call_named(text, call).is_ok(),
         Way::Apply => matches!(text.apply(call), Ok(true)),
@@ -81,9 +81,9 @@ pub fn succeeds<A: Allocator>(text: &mut Wtf8Buf<A>, call: Build<'_>, way: Way) 
 pub type Step<'a> = (Build<'a>, bool, &'static str);
 
 /// Fails unless a call is applied or refused as its row says, and leaves the bytes of the row.
-pub fn expect_step<A: Allocator>(
+pub fn expect_step(
     alloc: Global,
-    text: &mut Wtf8Buf<A>,
+    text: &mut Wtf8Buf<Lent<'_>>,
     row: Step<'_>,
 ) -> Result<(), Failed> {
     let (call, is_done, dump) = row;

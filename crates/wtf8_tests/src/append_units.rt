@@ -160,7 +160,7 @@ fn expect_long_back(alloc: Global, unit: u16, length: usize) -> Result<(), Faile
 fn units_of_long_strings_are_appended_and_written(rt: HostRuntime) -> Result<(), Failed> {
     let alloc = rt.alloc();
     for unit in [0x0061, 0x0080, 0x0800, 0xD7FF, 0xD800, 0xDFFF] {
-        for length in [127, 128, 400] {
+        for length in [63, 64, 127, 128, 400] {
             in_row(length, expect_long_back(alloc, unit, length))?;
         }
     }

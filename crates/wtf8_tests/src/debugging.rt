@@ -41,8 +41,8 @@ fn points() -> [(u32, &'static str); 12] {
     ]
 }
 
-/// Writes the debug output, with a width, a precision and flags if `is_styled`, to a sink that refuses write number `refused`.
-/// Fails unless it ends there, or is `expected` if no write is refused. Returns the number of writes.
+/// Writes the debug output, with a width, a precision and flags if `is_styled`, to a sink that refuses write number
+/// `refused`. Fails unless it ends there, or is `expected` if no write is refused. Returns the number of writes.
 fn writes_of<T: Debug>(
     alloc: Global,
     value: &T,

@@ -1,4 +1,5 @@
-// The library's sort, and an ordered map, of strings. Scripts compare the order of many strings with the original crate.
+// The library's sort, and an ordered map, of strings. Scripts compare the order of many strings with the original
+// crate.
 use crate::examples::{expect_true, joined};
 use crate::wrong::{Failed, Wrong, expect, in_row};
 use std::alloc::{AllocError, Global};

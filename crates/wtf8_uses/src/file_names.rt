@@ -260,7 +260,8 @@ fn cut_at_last<'a>(text: Wtf8<'a>, separator: u8, other: u8) -> Option<(Wtf8<'a>
     None
 }
 
-/// Splits a string at its first `separator` or `other`, both ASCII, into front, byte and rest; `None` if it has neither.
+/// Splits a string at its first `separator` or `other`, both ASCII, into front, byte and rest; `None` if it has
+/// neither.
 pub(crate) fn cut_at_first<'a>(
     text: Wtf8<'a>,
     separator: u8,

@@ -12,8 +12,8 @@ use wtf8::{CodePoint, Wtf8, Wtf8Buf};
 /// Why `read_json_string` failed.
 #[derive(Clone, Copy, Debug)]
 pub enum JsonError {
-    /// The text does not begin with a JSON string: `cause` is at the byte `position`, the first one of the code point or
-    /// escape that cannot be there.
+    /// The text does not begin with a JSON string: `cause` is at the byte `position`, the first one of the code point
+    /// or escape that cannot be there.
     Malformed { position: usize, cause: JsonCause },
     /// A request for memory was refused.
     Memory,

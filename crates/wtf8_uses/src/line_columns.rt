@@ -61,8 +61,8 @@ fn mark_after_line_feed(text: Wtf8<'_>, from: UnitMark, units: usize) -> UnitMar
     text.mark_at(from, units)
 }
 
-/// The mark at a line and a column, both counted from 0, or one unit before it if that splits a pair. `None` if there is
-/// no such line, or the string ends before the column.
+/// The mark at a line and a column, both counted from 0, or one unit before it if that splits a pair. `None` if there
+/// is no such line, or the string ends before the column.
 pub fn mark_at_column<A: Allocator>(
     lines: &LineColumns<'_, A>,
     line: usize,

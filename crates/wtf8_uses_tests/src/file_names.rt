@@ -13,7 +13,8 @@ const PATH: [u16; 14] = [
 /// The bytes of `PATH` with `\` between its folder and its name.
 const JOINED: &str = "43 3A 5C 61 5C 62 ED B2 A9 2E 74 61 72 2E 67 7A";
 
-/// Fails unless a folder and a name have the bytes that `PATH` has there, the name has no folder, and both join to `JOINED`.
+/// Fails unless a folder and a name have the bytes that `PATH` has there, the name has no folder, and both join to
+/// `JOINED`.
 fn expect_parts(alloc: Global, folder: Wtf8<'_>, name: Wtf8<'_>) -> Result<(), Failed> {
     expect_bytes(alloc, folder, "43 3A 5C 61")?;
     expect_bytes(alloc, name, "62 ED B2 A9 2E 74 61 72 2E 67 7A")?;

@@ -1,5 +1,5 @@
-// JSON strings that are read. What the texts stand for, and that the malformed ones are refused, is what `JSON.parse` of
-// Node 20 returns; the text after a string, positions and causes are worked out by hand.
+// JSON strings that are read. Their units, and which texts are malformed, are from `JSON.parse` of Node 20; the text
+// after a string, positions and causes are worked out by hand.
 use crate::shared::{LEAD, TRAIL, has_units, string_of};
 use refusing::Refusing;
 use std::alloc::{Allocator, Global};

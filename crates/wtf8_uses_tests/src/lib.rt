@@ -1,5 +1,5 @@
-// Tests of the proved callers in `wtf8_uses`. Expected values are worked out by hand from the encoding's tables, unless a
-// module names another source.
+// Tests of the proved callers in `wtf8_uses`. Expected values are worked out by hand from the encoding's tables, unless
+// a module names another source.
 #![tactic(auto)]
 
 #[cfg(test)]

@@ -90,7 +90,8 @@ fn expect_index(
     expect(is_found, Wrong::Outcome)
 }
 
-/// Fails unless the strings of U+10000, U+F000 and U+0061 are found in the sorted table, or the index to insert them at.
+/// Fails unless the strings of U+10000, U+F000 and U+0061 are found in the sorted table, or the index to insert them
+/// at.
 fn expect_found(alloc: Global, table: &[Wtf8Buf<Global>]) -> Result<(), Failed>
     requires { AreInPointOrder table.now }
 {

@@ -329,6 +329,7 @@ impl<A: Allocator> Wtf8Buf<A> {
     /// Appends 16-bit code units, paired or not. A trail surrogate at their front completes a lead surrogate at the
     /// end. If memory is refused, the string is unchanged. Reserves a byte for each unit first; grows like `push` from
     /// there on. Amortized linear in the number of units.
+    #[inline(always)]
     pub fn push_ill_formed_utf16(&mut self, v: &[u16]) -> Result<(), AllocError>
         ensures ok { OnOk result (AppendsUnits self.old v.now self.new) }
         ensures kept { OnErr result (KeepsContents self.old self.new) }

@@ -1,6 +1,6 @@
 // Encodes a few code units straight into the string. It has room for them whatever they are, so that no unit asks for
 // it: zeros are appended first and overwritten, and those after the last unit's bytes cut off.
-ghost use Rattle.std.specs.Prelude.{◌≡◌, ℕ, List, ◌++◌, ◌+◌, ◌-◌, ◌*◌, ◌<◌, ◌≤◌, length, take, vec_capacity, IfOk, IsOk};
+ghost use Rattle.std.specs.Prelude.{◌≡◌, ℕ, List, ◌++◌, ◌+◌, ◌-◌, ◌*◌, ◌<◌, ◌≤◌, length, take, slice_index, vec_capacity, IfOk, IsOk};
 ghost use Rattle.wtf8.specs.CodePoint.{number};
 ghost use Rattle.wtf8.specs.Form.{encoding};
 ghost use Rattle.wtf8.specs.private.Prefixes.{IsKnownForm, IsReadTo, ReadsOn};
@@ -54,6 +54,24 @@ fn write_encoding(out: &mut [u8], at: usize, code_point: CodePoint) -> usize
     }
 }
 
+/// `write_point` of a unit below the surrogates.
+#[inline(always)]
+fn write_unit(v: &[u16], from: Progress, out: &mut [u8], len: usize) -> (usize, Progress)
+    requires within { from.at < length v.now }
+    requires low { slice_index v.now from.at < FIRST_LEAD }
+    requires room { len + 4 ≤ length out.old }
+    ensures order { (from.at < result.1.at) × (result.1.at ≤ length v.now) }
+    ensures end { result.0 ≤ len + 3 * (result.1.at - from.at) }
+    ensures read { (w : List ℕ) → ReadsOn (w ++ take len out.old) (w ++ take result.0 out.new) v.now from.at from.is_utf8 result.1.at result.1.is_utf8 }
+{
+    let end = write_encoding(out, len, CodePoint::from_unit(v[from.at]));
+    let to = Progress {
+        at: from.at + 1,
+        is_utf8: from.is_utf8,
+    };
+    (end, to)
+}
+
 /// Encodes the code point at `from.at` at index `len`. Returns the index after its bytes and how far units are encoded.
 #[inline(always)]
 fn write_point(v: &[u16], from: Progress, out: &mut [u8], len: usize) -> (usize, Progress)
@@ -64,26 +82,13 @@ fn write_point(v: &[u16], from: Progress, out: &mut [u8], len: usize) -> (usize,
     ensures read { (w : List ℕ) → ReadsOn (w ++ take len out.old) (w ++ take result.0 out.new) v.now from.at from.is_utf8 result.1.at result.1.is_utf8 }
 {
     let unit = v[from.at];
-    // Each branch has its own call, in which the compiler knows the encoded length.
+    // Each branch has its own call, in which the compiler knows the encoded length: with one call for both a unit of
+    // two or three bytes takes two instructions more.
     if unit < 0x800 {
-        let end = write_encoding(out, len, CodePoint::from_unit(unit));
-        return (
-            end,
-            Progress {
-                at: from.at + 1,
-                is_utf8: from.is_utf8,
-            },
-        );
+        return write_unit(v, from, out, len);
     }
     if unit < FIRST_LEAD {
-        let end = write_encoding(out, len, CodePoint::from_unit(unit));
-        return (
-            end,
-            Progress {
-                at: from.at + 1,
-                is_utf8: from.is_utf8,
-            },
-        );
+        return write_unit(v, from, out, len);
     }
     let (code_point, at, is_scalar) = decode::read_point(v, from.at);
     let end = write_encoding(out, len, code_point);

@@ -27,7 +27,7 @@ const SHORT_RUN: usize = SMALL_RUN / 2;
 const MANY_LETTERS: u32 = 5;
 
 /// The number of units from which on the kernel's scratch buffer has `LONG_SCRATCH_BYTES`. If it has them from 32 units
-/// on, lists of 40 with lone surrogates take 1.5 to 2.9% more instructions.
+/// on, lists of 40 take 3 to 5% more instructions.
 const LONG_LIST: usize = 128;
 
 /// The size in bytes of the kernel's scratch buffer while `LONG_LIST` or more units are left: room for ten blocks.

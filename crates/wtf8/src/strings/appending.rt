@@ -285,9 +285,7 @@ pub(crate) fn take_back<A: Allocator>(bytes: &mut Vec<u8, A>, len: usize, lead: 
 }
 
 /// Appends code units; a trail at their front completes a lead at the end. A lone surrogate among them, or a front that
-/// may hold one, cuts the UTF-8 prefix to at most the old length. Not inlined, so that `push_units` saves no registers
-/// before it chooses.
-#[inline(never)]
+/// may hold one, cuts the UTF-8 prefix to at most the old length.
 fn push_utf16<A: Allocator>(
     bytes: &mut Vec<u8, A>,
     v: &[u16],
@@ -353,7 +351,9 @@ fn push_few<A: Allocator>(
     Ok(())
 }
 
-/// Appends code units as `push_utf16` does. Few units that have room whatever they are take a shorter way.
+/// Appends code units as `push_utf16` does. Few units that have room whatever they are take a shorter way. Inlined, so
+/// that a caller saves no registers for `push_utf16` before it chooses.
+#[inline(always)]
 pub(crate) fn push_units<A: Allocator>(
     bytes: &mut Vec<u8, A>,
     v: &[u16],

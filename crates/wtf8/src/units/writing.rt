@@ -24,18 +24,22 @@ use crate::vec::push_block;
 use std::alloc::{AllocError, Allocator};
 use std::simd::prelude::*;
 
-/// Strings of fewer bytes than this, except ASCII ones of 1 to 15 bytes, are decoded into a buffer on the stack, so
-/// that their units need not be counted before memory is requested. Before ASCII tails went by eight, with 32 in place
-/// of 64, 40 ASCII took 313 instructions for 232; with 128, 12 CJK 247 for 239, though 30 took 398 for 569.
+/// Strings of fewer bytes than this, but for short ASCII ones, are decoded into a buffer on the stack, so that their
+/// units need not be counted first: five CJK units copied by C take 291 instructions for 343. Before ASCII tails went
+/// by eight, with 32 in place of 64, 40 ASCII took 313 for 232; with 128, 12 CJK 247 for 239, though 30 took 398 for
+/// 569.
 const SCRATCH_UNITS: usize = 4 * VECTOR;
 
 /// From this many bytes on a block of any kind can be loaded, so that the length is compared once for all kinds.
 const LONGEST_LOAD: usize = 2 * VECTOR;
 
-/// Where units end in 32 bytes of two-byte code points; below, in 24 of three-byte ones and the lead byte after them.
+/// Where units end in 32 bytes of two-byte code points; below, of three-byte ones.
 const ENDS_OF_TWOS: u64 = 0xAAAA_AAAA;
 
-const ENDS_OF_THREES: u64 = 0x92_4924;
+const ENDS_OF_THREES: u64 = 0x2492_4924;
+
+/// The bytes of six three-byte code points.
+const SIX_THREES: usize = 18;
 
 /// From this number of ASCII bytes at the front of a block on it is cheaper to decode them and one code point more than
 /// the whole block by positions. With 4, texts that do not repeat, so that a processor cannot foresee how long a front
@@ -89,6 +93,25 @@ fn append_ascii<const N: usize, B: Allocator>(
     units.truncate(end);
     push_block(units, widen(Simd::<u8, N>::from_slice(&bytes[last..])));
     Ok(())
+}
+
+/// Writes the units that `append_ascii` appends to the front of a slice. Returns their number.
+#[inline(always)]
+fn write_ascii<const N: usize>(out: &mut [u16], view: Wtf8<'_>) -> usize
+    requires lanes { N ≤ u64.BITS }
+    requires all { (N ≤ length view.bytes.now) × (length view.bytes.now ≤ 2 * N) }
+    requires ascii { AreAscii view.bytes.now }
+    requires room { length (view_units view) ≤ length out.old }
+    ensures units { take result out.new ≡ view_units view.entry }
+    ensures rest { drop result out.new ≡ drop result out.old }
+    ensures count { result ≡ length (view_units view.entry) }
+    ensures len { length out.new ≡ length out.old }
+{
+    let bytes = view.bytes;
+    let last = bytes.len() - N;
+    store_units(out, 0, widen(Simd::<u8, N>::from_slice(bytes)));
+    store_units(out, last, widen(Simd::<u8, N>::from_slice(&bytes[last..])));
+    bytes.len()
 }
 
 #[inline(always)]
@@ -313,6 +336,31 @@ fn decode_full_blocks<
     decode_point(units, rest)
 }
 
+/// Decodes full blocks of three-byte code points, then the front of each block that is not full and the code point
+/// after it, as long as a lead byte of three is where it would be after six code points of three bytes: a loop of its
+/// own, so that full blocks take no more instructions.
+#[inline(always)]
+fn decode_threes<'a>(units: &mut [u16], left: Undecoded<'a>) -> Undecoded<'a>
+    requires room { left.at + length (view_units left.view) ≤ length units.old }
+    requires nonempty { 0 < length left.view.bytes.now }
+    ensures written { Writes units.old left.entry.at (view_units left.entry.view) units.new result.at (view_units result.view) }
+    ensures shorter { length result.view.bytes.now < length left.entry.view.bytes.now }
+{
+    let mut rest = decode_full_blocks::<8, 3, 24, ThreeBytes>(units, left);
+    while LONGEST_LOAD <= rest.view.len() {
+        let (after, is_whole) = decode_block::<8, 3, 24, ThreeBytes>(units, rest);
+        rest = after;
+        if !is_whole {
+            rest = decode_point(units, after);
+            let bytes = rest.view.bytes;
+            if bytes.len() <= SIX_THREES || bytes[SIX_THREES] / 16 != 14 {
+                return rest;
+            }
+        }
+    }
+    rest
+}
+
 /// Decodes the ASCII bytes at the front of a block and the code point after them.
 #[inline(always)]
 fn decode_ascii_front<'a>(
@@ -353,7 +401,8 @@ fn decode_next<'a>(units: &mut [u16], left: Undecoded<'a>) -> Undecoded<'a>
         return write_front(units, left, widen(block), POSITIONS, POSITIONS);
     }
     if POSITIONS <= units.len() - left.at {
-        if 0 < count && FIRST_OF_FOUR <= bytes[count] {
+        // If the first byte is not ASCII, byte 1 is a continuation byte. A test of `0 < count` would be mispredicted.
+        if FIRST_OF_FOUR <= bytes[count.max(1)] {
             return decode_ascii_front(units, left, block, count);
         }
         if LEAST_ASCII_FRONT <= count {
@@ -364,8 +413,8 @@ fn decode_next<'a>(units: &mut [u16], left: Undecoded<'a>) -> Undecoded<'a>
     if ends == ENDS_OF_TWOS {
         return decode_full_blocks::<16, 2, 32, TwoBytes>(units, left);
     }
-    if ends % 0x200_0000 == ENDS_OF_THREES {
-        return decode_full_blocks::<8, 3, 24, ThreeBytes>(units, left);
+    if ends == ENDS_OF_THREES {
+        return decode_threes(units, left);
     }
     decode_positions(units, left, block)
 }
@@ -437,6 +486,23 @@ fn append_counted<B: Allocator>(units: &mut Vec<u16, B>, view: Wtf8<'_>) -> Resu
     Ok(())
 }
 
+#[inline(never)]
+fn write_short(out: &mut [u16], view: Wtf8<'_>) -> usize
+    requires short { length view.bytes.now < SCRATCH_UNITS }
+    requires room { length (view_units view) ≤ length out.old }
+    ensures units { take result out.new ≡ view_units view.entry }
+    ensures rest { drop result out.new ≡ drop result out.old }
+    ensures count { result ≡ length (view_units view.entry) }
+    ensures len { length out.new ≡ length out.old }
+{
+    // There are no more units than bytes.
+    prove!(view.len() <= SCRATCH_UNITS);
+    let mut block = [0; SCRATCH_UNITS];
+    let count = decode_all(&mut block, 0, view);
+    out[..count].copy_from_slice(&block[..count]);
+    count
+}
+
 #[inline(always)]
 fn write_counted(out: &mut [u16], from: usize, view: Wtf8<'_>) -> usize
     requires room { from + length (view_units view) ≤ length out.old }
@@ -447,6 +513,24 @@ fn write_counted(out: &mut [u16], from: usize, view: Wtf8<'_>) -> usize
 {
     let end = from + view.unit_len();
     decode_all(&mut out[..end], from, view)
+}
+
+/// Counts the units of the last bytes alone: no store of the bytes before them reaches past the units. Not inlined, so
+/// that `write_units` saves no registers before it chooses.
+#[inline(never)]
+fn write_long(out: &mut [u16], view: Wtf8<'_>) -> usize
+    requires { length (view_units view) ≤ length out.old }
+    ensures units { take result out.new ≡ view_units view.entry }
+    ensures rest { drop result out.new ≡ drop result out.old }
+    ensures count { result ≡ length (view_units view.entry) }
+    ensures len { length out.new ≡ length out.old }
+{
+    if view.len() < COUNTED_FROM {
+        return write_counted(out, 0, view);
+    }
+    let position = view.boundary_before(view.len() - COUNTED_BYTES);
+    let at = decode_all(out, 0, view.slice_to(position));
+    write_counted(out, at, view.slice_from(position))
 }
 
 impl<'a> Wtf8<'a> {
@@ -460,12 +544,18 @@ impl<'a> Wtf8<'a> {
         ensures count { result ≡ length (view_units self.now) }
         ensures len { length out.new ≡ length out.old }
     {
-        if self.len() < COUNTED_FROM {
-            return write_counted(out, 0, *self);
+        if SCRATCH_UNITS <= self.len() {
+            return write_long(out, *self);
         }
-        let position = self.boundary_before(self.len() - COUNTED_BYTES);
-        let at = decode_all(out, 0, self.slice_to(position));
-        write_counted(out, at, self.slice_from(position))
+        match self.len() {
+            1 if is_ascii_overlapping::<1>(self.bytes) => write_ascii::<1>(out, *self),
+            2..=3 if is_ascii_overlapping::<2>(self.bytes) => write_ascii::<2>(out, *self),
+            4..=7 if is_ascii_overlapping::<4>(self.bytes) => write_ascii::<4>(out, *self),
+            8..=15 if is_ascii_overlapping::<8>(self.bytes) => write_ascii::<8>(out, *self),
+            16..=31 if is_ascii_overlapping::<16>(self.bytes) => write_ascii::<16>(out, *self),
+            32..=63 if is_ascii_overlapping::<32>(self.bytes) => write_ascii::<32>(out, *self),
+            _ => write_short(out, *self),
+        }
     }
 
     /// Appends the 16-bit code units of the string to a vector. Reserves room for them first, and does not allocate if

@@ -1,5 +1,5 @@
-//! Calls of ECMAScript's strings over a `UnitText` (ECMAScript, "String.prototype"). Positions are indices of units. The
-//! texts are only read: a call that returns a new text takes an allocator.
+//! Calls of ECMAScript's strings over a `UnitText` (ECMAScript, "String.prototype"). Positions are indices of units.
+//! The texts are only read: a call that returns a new text takes an allocator.
 mod comparing;
 mod search;
 mod texts;

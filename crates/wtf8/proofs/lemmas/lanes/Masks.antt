@@ -2,7 +2,7 @@
 use Rattle.wtf8.proofs.Common.{◌≡◌, ◌↔◌, ℕ, zero, suc, ◌+◌, ◌-◌, ◌/◌, ◌%◌, ◌^◌, ◌<◌, ◌≤◌, eqb, Bool, true, false, not, cond, Option, Some}
 use Rattle.wtf8.proofs.Common.{None, List, [], ◌∷◌, map, length, take, replicate, refl, sym, ap, ◌∙◌, subst, arith, both_ways, cases_Bool}
 use Rattle.wtf8.proofs.Common.{eqb-true, inl, inr, mask_l-mod, mask_l, top, zip2, Each1, NoneIn, IsLeast, not-false, tops_compared}
-use Rattle.wtf8.proofs.Common.{length-zip2, w8, not-true, length-replicate, map-id, prefix_len_passes, prefix_len_stops, prefix_len}
+use Rattle.wtf8.proofs.Common.{length-zip2, w8, w16, not-true, length-replicate, map-id, prefix_len_passes, prefix_len_stops, prefix_len}
 use Rattle.wtf8.proofs.Common.{unwrap_or, MatchOption, IsFirstIn, IsFirstSet, IsSet}
 use Rattle.std.proofs.lemmas.Simd.{leading_from_mask_l, trailing_mask_l}
 use lib.Count.{count_trailing_zeros}
@@ -80,16 +80,27 @@ quotients_before_first d y (suc n) (suc m) (x ∷ xs) long le none = (
 )
 
 -- the lanes before the first set bit have the quotient `y` by `d`
-pub quotients_leading : (d y n : ℕ) (xs : List ℕ) → n ≤ 64 → length xs ≡ n → (r : Option ℕ)
-    → IsFirstSet (mask_l (map (top 7) (zip2 (λ a b. cond (not (eqb a b)) 255 0) (quotients d n xs) (replicate n y))) % 2 ^ 64) r
-    → (unwrap_or r n ≤ n) × Each1 (λ b. b / d ≡ y) (take (unwrap_or r n) xs)
-quotients_leading d y n xs few long r first = by r (first n (unequal_quotients d y n xs) few lanes
-    (ap (λ ms. mask_l ms % 2 ^ 64) (tops_compared w8 (λ a b. not (eqb a b)) (quotients d n xs) (replicate n y))))
-  where
-    lanes : length (unequal_quotients d y n xs) ≡ n
-    lanes = grind (arith, length-zip2, length-replicate)
+module _ (d y n : ℕ) (xs : List ℕ) (few : n ≤ 64) (long : length xs ≡ n) where
+  leading_from_mask : (bits : ℕ) → bits ≡ mask_l (unequal_quotients d y n xs) % 2 ^ 64 → (r : Option ℕ) → IsFirstSet bits r
+      → (unwrap_or r n ≤ n) × Each1 (λ b. b / d ≡ y) (take (unwrap_or r n) xs)
+  leading_from_mask bits same r first = by r (first n (unequal_quotients d y n xs) few lanes same)
+    where
+      lanes : length (unequal_quotients d y n xs) ≡ n
+      lanes = grind (arith, length-zip2, length-replicate)
 
-    by : (r : Option ℕ) → IsFirstIn (IsSet (unequal_quotients d y n xs)) 0 n r
-        → (unwrap_or r n ≤ n) × Each1 (λ b. b / d ≡ y) (take (unwrap_or r n) xs)
-    by None none = (omega arith, quotients_before_first d y n n xs long (omega arith) none)
-    by (Some k) h = (omega (arith, h.1), quotients_before_first d y n k xs long (omega (arith, h.1)) h.0.none_between)
+      by : (r : Option ℕ) → IsFirstIn (IsSet (unequal_quotients d y n xs)) 0 n r
+          → (unwrap_or r n ≤ n) × Each1 (λ b. b / d ≡ y) (take (unwrap_or r n) xs)
+      by None none = (omega arith, quotients_before_first d y n n xs long (omega arith) none)
+      by (Some k) h = (omega (arith, h.1), quotients_before_first d y n k xs long (omega (arith, h.1)) h.0.none_between)
+
+  pub quotients_leading : (r : Option ℕ)
+      → IsFirstSet (mask_l (map (top 7) (zip2 (λ a b. cond (not (eqb a b)) 255 0) (quotients d n xs) (replicate n y))) % 2 ^ 64) r
+      → (unwrap_or r n ≤ n) × Each1 (λ b. b / d ≡ y) (take (unwrap_or r n) xs)
+  quotients_leading = leading_from_mask _
+      (ap (λ ms. mask_l ms % 2 ^ 64) (tops_compared w8 (λ a b. not (eqb a b)) (quotients d n xs) (replicate n y)))
+
+  pub word_quotients_leading : (r : Option ℕ)
+      → IsFirstSet (mask_l (map (top 15) (zip2 (λ a b. cond (not (eqb a b)) 65535 0) (quotients d n xs) (replicate n y))) % 2 ^ 64) r
+      → (unwrap_or r n ≤ n) × Each1 (λ b. b / d ≡ y) (take (unwrap_or r n) xs)
+  word_quotients_leading = leading_from_mask _
+      (ap (λ ms. mask_l ms % 2 ^ 64) (tops_compared w16 (λ a b. not (eqb a b)) (quotients d n xs) (replicate n y)))
