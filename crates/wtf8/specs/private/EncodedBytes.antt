@@ -1,5 +1,5 @@
 -- The code points that bytes begin with, their units, and calls that append units to a vector of bytes.
-use Rattle.std.specs.Prelude.{◌≡◌, ℕ, zero, suc, ◌+◌, ◌-◌, ◌*◌, ◌%◌, ◌<◌, ◌≤◌, length, List, [], ◌∷◌, ◌++◌, take, drop, get_or}
+use Rattle.std.specs.Prelude.{◌≡◌, ℕ, zero, suc, ◌+◌, ◌-◌, ◌*◌, ◌/◌, ◌%◌, ◌<◌, ◌≤◌, length, List, [], ◌∷◌, ◌++◌, take, drop, get_or}
 use Rattle.std.specs.Prelude.{slice_index, Result, OnOk, OnErr, IsOk, vec_capacity}
 use Rattle.std.specs.declared.vec.Vec.{Vec}
 use Rattle.wtf8.specs.Unicode.{IsCodePoint, units}
@@ -44,6 +44,24 @@ unit_of_two w = get_or w 0 0 % 32 * 64 + get_or w 1 0 % 64
 -- The unit in an encoding of three bytes: the low four, six and six bits (Unicode 3.9, "UTF-8", Table 3-6).
 abbrev pub unit_of_three : List ℕ → ℕ
 unit_of_three w = (get_or w 0 0 % 16 * 64 + get_or w 1 0 % 64) * 64 + get_or w 2 0 % 64
+
+-- The code point in an encoding of four bytes: the low three, six, six and six bits (Unicode 3.9, "UTF-8", Table 3-6).
+abbrev pub point_of_four : List ℕ → ℕ
+point_of_four w = ((get_or w 0 0 % 8 * 64 + get_or w 1 0 % 64) * 64 + get_or w 2 0 % 64) * 64 + get_or w 3 0 % 64
+
+-- The lead of the code point in an encoding of four bytes: 0xD7C0 is 0xD800 less 0x10000 / 0x400 (Unicode 3.9, "UTF-16",
+-- Table 3-5).
+abbrev pub lead_of_four : List ℕ → ℕ
+lead_of_four w = 0xD7C0 + point_of_four w / 0x400
+
+-- The trail of the code point in an encoding of four bytes (Unicode 3.9, "UTF-16", Table 3-5).
+abbrev pub trail_of_four : List ℕ → ℕ
+trail_of_four w = 0xDC00 + point_of_four w % 0x400
+
+-- The leads and trails of `k` code points of four bytes, one after the other.
+abbrev pub pairs_of_fours : ℕ → List ℕ → List ℕ
+pairs_of_fours zero w = []
+pairs_of_fours (suc k) w = lead_of_four w ∷ trail_of_four w ∷ pairs_of_fours k (drop 4 w)
 
 -- What `f` computes from each of `k` encodings of `n` bytes, one after the other.
 abbrev pub map_run : ℕ → (List ℕ → ℕ) → ℕ → List ℕ → List ℕ

@@ -1,7 +1,7 @@
 // Decodes blocks of WTF-8 code points of one encoded length to code units.
 ghost use Rattle.std.specs.Prelude.{◌≡◌, ◌*◌, ◌/◌, ◌<◌, ◌≤◌, ◌++◌, length, take, drop, get_or, IsTrue};
 ghost use lib.Lanes.{Each1};
-ghost use Rattle.wtf8.specs.private.EncodedBytes.{BeginsWithUnits, map_run, unit_of_two, unit_of_three};
+ghost use Rattle.wtf8.specs.private.EncodedBytes.{BeginsWithUnits, map_run, unit_of_two, unit_of_three, pairs_of_fours};
 
 use crate::lanes::first_set_lane;
 use std::simd::prelude::*;
@@ -17,9 +17,18 @@ const FIRSTS_OF_THREES: [usize; 16] = [0, 0, 3, 3, 6, 6, 9, 9, 12, 12, 15, 15, 2
 
 const OTHERS_OF_THREES: [usize; 16] = [2, 1, 5, 4, 8, 7, 11, 10, 14, 13, 25, 24, 28, 27, 31, 30];
 
-/// Code points of one unit and `WIDTH` bytes each, of which `N` are decoded from a load of `BYTES` bytes.
+/// Shuffle indices: the first two bytes of eight four-byte code points; below, their last two.
+const FRONTS_OF_FOURS: [usize; 16] = [0, 1, 4, 5, 8, 9, 12, 13, 16, 17, 20, 21, 24, 25, 28, 29];
+
+const BACKS_OF_FOURS: [usize; 16] = [2, 3, 6, 7, 10, 11, 14, 15, 18, 19, 22, 23, 26, 27, 30, 31];
+
+/// Leads and trails by turns.
+const BY_TURNS: [usize; 16] = [0, 8, 1, 9, 2, 10, 3, 11, 4, 12, 5, 13, 6, 14, 7, 15];
+
+/// Code points of one encoded length, with `WIDTH` bytes for each unit: `N` units are decoded from a load of `BYTES`
+/// bytes.
 pub(crate) trait EncodedLength<const N: usize, const WIDTH: usize, const BYTES: usize> {
-    /// Decodes `N` code points as if all had `WIDTH` bytes. Returns their units, and how many at the front are right.
+    /// Decodes `N` units as if all code points had this length. Returns them, and how many at the front are right.
     fn read(bytes: &[u8]) -> ([u16; N], usize)
         requires { BYTES ≤ length bytes.now }
         ensures within { (result.1 ≤ N) × (result.1 ≤ WIDTH * result.1) × (WIDTH * result.1 ≤ BYTES) }
@@ -33,6 +42,9 @@ pub(crate) struct TwoBytes;
 
 /// Code points of three bytes, surrogates included.
 pub(crate) struct ThreeBytes;
+
+/// Code points of four bytes, with two units each.
+pub(crate) struct FourBytes;
 
 /// Whether `byte` begins a code point of `width` bytes, one or two.
 #[inline(always)]
@@ -127,6 +139,25 @@ fn read_eight_threes(front: u8x16, back: u8x16) -> (u16x8, [u16; 8])
     (firsts, (high + middle + low).to_array())
 }
 
+/// Decodes eight four-byte code points. Returns their lead bytes, which are not checked here, and their units.
+#[inline(always)]
+fn read_eight_fours(bytes: u8x32) -> (u16x8, [u16; 16])
+    ensures firsts { result.0 ≡ map_run 4 (λ w. get_or w 0 0) 8 bytes }
+    ensures units { result.1 ≡ pairs_of_fours 8 bytes }
+{
+    let fronts = u16x8::from_le_bytes(bytes.shuffle(bytes, FRONTS_OF_FOURS));
+    let backs = u16x8::from_le_bytes(bytes.shuffle(bytes, BACKS_OF_FOURS));
+    let high = fronts % u16x8::splat(8) * u16x8::splat(256);
+    let middle = fronts / u16x8::splat(256) % u16x8::splat(64) * u16x8::splat(4);
+    let low = backs / u16x8::splat(16) % u16x8::splat(4);
+    let leads = high + middle + low + u16x8::splat(0xD7C0);
+    let trails = backs % u16x8::splat(16) * u16x8::splat(64)
+        + backs / u16x8::splat(256) % u16x8::splat(64)
+        + u16x8::splat(0xDC00);
+    let units: u16x16 = leads.shuffle(trails, BY_TURNS);
+    (fronts % u16x8::splat(256), units.to_array())
+}
+
 impl EncodedLength<8, 1, 8> for OneByte {
     #[inline(always)]
     fn read(bytes: &[u8]) -> ([u16; 8], usize) {
@@ -165,5 +196,17 @@ impl EncodedLength<8, 3, 24> for ThreeBytes {
             return (units, 8);
         }
         (units, count_leading_words(firsts, 4096, 14))
+    }
+}
+
+/// All eight code points or none.
+impl EncodedLength<16, 2, 32> for FourBytes {
+    #[inline(always)]
+    fn read(bytes: &[u8]) -> ([u16; 16], usize) {
+        let (firsts, units) = read_eight_fours(u8x32::from_slice(bytes));
+        if all_have_prefix(firsts, 8, 30) {
+            return (units, 16);
+        }
+        (units, 0)
     }
 }

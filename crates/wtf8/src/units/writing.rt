@@ -16,7 +16,9 @@ use crate::codec::encoding;
 use crate::lanes::VECTOR;
 use crate::lanes::ascii::{ascii_run_len, is_ascii_overlapping};
 use crate::strings::view::Wtf8;
-use crate::units::blocks::{EncodedLength, OneByte, ThreeBytes, TwoBytes, is_lead_byte, widen};
+use crate::units::blocks::{
+    EncodedLength, FourBytes, OneByte, ThreeBytes, TwoBytes, is_lead_byte, widen,
+};
 use crate::units::unit_ends::{
     FIRST_OF_FOUR, POSITIONS, UnitEnds, end_positions, interleave, pack_words, unit_ends,
 };
@@ -33,10 +35,12 @@ const SCRATCH_UNITS: usize = 4 * VECTOR;
 /// From this many bytes on a block of any kind can be loaded, so that the length is compared once for all kinds.
 const LONGEST_LOAD: usize = 2 * VECTOR;
 
-/// Where units end in 32 bytes of two-byte code points; below, of three-byte ones.
+/// Where units end in 32 bytes of two-byte code points; below, of three-byte and of four-byte ones.
 const ENDS_OF_TWOS: u64 = 0xAAAA_AAAA;
 
 const ENDS_OF_THREES: u64 = 0x2492_4924;
+
+const ENDS_OF_FOURS: u64 = 0xCCCC_CCCC;
 
 /// The bytes of six three-byte code points.
 const SIX_THREES: usize = 18;
@@ -384,9 +388,9 @@ fn decode_ascii_front<'a>(
 
 /// Decodes 32 ASCII bytes, in 0.78 of the time that blocks of 16 take; or the ASCII bytes at the front and one other
 /// code point, if a supplementary one follows or at least `LEAST_ASCII_FRONT` are ASCII (joined in one condition, emoji
-/// in ASCII take 1.08 of the instructions; in the other order, 1.16 of the time); or full blocks of two- or three-byte
-/// code points, which take 1.7 to 1.9 by positions; or all whole code points in 32 bytes. The positions of unit ends
-/// only choose: each way is right for any bytes.
+/// in ASCII take 1.08 of the instructions; in the other order, 1.16 of the time); or full blocks of two-, three- or
+/// four-byte code points, which take 1.7 to 1.9 by positions; or all whole code points in 32 bytes. The positions of
+/// unit ends only choose: each way is right for any bytes.
 #[inline(always)]
 fn decode_next<'a>(units: &mut [u16], left: Undecoded<'a>) -> Undecoded<'a>
     requires room { left.at + length (view_units left.view) ≤ length units.old }
@@ -415,6 +419,9 @@ fn decode_next<'a>(units: &mut [u16], left: Undecoded<'a>) -> Undecoded<'a>
     }
     if ends == ENDS_OF_THREES {
         return decode_threes(units, left);
+    }
+    if ends == ENDS_OF_FOURS {
+        return decode_full_blocks::<16, 2, 32, FourBytes>(units, left);
     }
     decode_positions(units, left, block)
 }
