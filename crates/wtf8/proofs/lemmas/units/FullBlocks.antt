@@ -1,14 +1,15 @@
--- Full blocks of two- and three-byte code points, decoded by words of two bytes.
+-- Full blocks of two-, three- and four-byte code points, decoded by words of two bytes.
 use Rattle.wtf8.proofs.Common.{◌≡◌, ℕ, zero, suc, ◌+◌, ◌*◌, ◌/◌, ◌%◌, ◌^◌, ◌<◌, ◌≤◌, List, [], ◌∷◌, ◌++◌, Bool, not, eqb, cond, map, length}
 use Rattle.wtf8.proofs.Common.{take, drop, get_or, replicate, zip2, top, mask_l, refl, sym, ap, ◌∙◌, subst, arith, Each1, Fits, w8, w16}
 use Rattle.wtf8.proofs.Common.{cases_Bool, eqb-true, inl, inr, mask_l-mod, tops_compared, length-zip2, length-replicate, get_or-drop, drop-drop}
 use Rattle.wtf8.proofs.Common.{pick_l_whole, drop-take, take-add, unit_of_two, unit_of_three}
 use Rattle.std.specs.List.{range_with_len}
 use lib.Lanes.{pick_l, digits_l, number_l}
-use Rattle.wtf8.specs.private.EncodedBytes.{map_run}
+use Rattle.wtf8.specs.private.EncodedBytes.{map_run, lead_of_four, trail_of_four, pairs_of_fours}
 use Rattle.wtf8.specs.private.UnitEnds.{words}
 use Rattle.wtf8.proofs.lemmas.lanes.AsciiFronts.{Each1-map_all}
 use Rattle.wtf8.proofs.lemmas.units.PackedWords.{digits_l-words, lane_below}
+use Rattle.wtf8.proofs.lemmas.units.UnitLanes.{of_32}
 
 -- Whether all lanes have a quotient.
 
@@ -177,3 +178,86 @@ joined_vectors w = ap (λ v. take 16 w ++ v) (drop-take 8 8 (drop 8 w) ∙ ap (t
 
 pub AreBytes-from_fits : (v : List ℕ) → Each1 (Fits w8) v → AreBytes v
 AreBytes-from_fits v e j = lane_below v j e
+
+-- Four-byte code points: a word is the first byte and 256 times the second, another the third and 256 times the fourth.
+
+abbrev front_word : List ℕ → ℕ
+front_word w = get_or w 0 0 + 256 * get_or w 1 0
+
+abbrev back_word : List ℕ → ℕ
+back_word w = get_or w 2 0 + 256 * get_or w 3 0
+
+abbrev front_lanes : List ℕ
+front_lanes = 0 ∷ 1 ∷ 4 ∷ 5 ∷ 8 ∷ 9 ∷ 12 ∷ 13 ∷ 16 ∷ 17 ∷ 20 ∷ 21 ∷ 24 ∷ 25 ∷ 28 ∷ 29 ∷ []
+
+abbrev back_lanes : List ℕ
+back_lanes = 2 ∷ 3 ∷ 6 ∷ 7 ∷ 10 ∷ 11 ∷ 14 ∷ 15 ∷ 18 ∷ 19 ∷ 22 ∷ 23 ∷ 26 ∷ 27 ∷ 30 ∷ 31 ∷ []
+
+abbrev lanes_by_turns : List ℕ
+lanes_by_turns = 0 ∷ 8 ∷ 1 ∷ 9 ∷ 2 ∷ 10 ∷ 3 ∷ 11 ∷ 4 ∷ 12 ∷ 5 ∷ 13 ∷ 6 ∷ 14 ∷ 7 ∷ 15 ∷ []
+
+abbrev picked_twice : List ℕ → List ℕ → List ℕ
+picked_twice v js = pick_l 0 (v ++ v) js
+
+words-fronts : (v : List ℕ) → length v ≡ 32 → words (picked_twice v front_lanes) ≡ map_run 4 front_word 8 v
+words-fronts v l = of_32 (λ v. words (picked_twice v front_lanes) ≡ map_run 4 front_word 8 v) v l refl
+
+words-backs : (v : List ℕ) → length v ≡ 32 → words (picked_twice v back_lanes) ≡ map_run 4 back_word 8 v
+words-backs v l = of_32 (λ v. words (picked_twice v back_lanes) ≡ map_run 4 back_word 8 v) v l refl
+
+abbrev leads_of_fours : ℕ → List ℕ → List ℕ → List ℕ
+leads_of_fours n fronts backs = zip2 (λ a b. (a + b) % 65536) (zip2 (λ a b. (a + b) % 65536) (zip2 (λ a b. (a + b) % 65536)
+    (zip2 (λ a b. a * b % 65536) (zip2 (λ a b. a % b) fronts (replicate n 8)) (replicate n 256))
+    (zip2 (λ a b. a * b % 65536) (zip2 (λ a b. a % b) (zip2 (λ a b. a / b) fronts (replicate n 256)) (replicate n 64)) (replicate n 4)))
+    (zip2 (λ a b. a % b) (zip2 (λ a b. a / b) backs (replicate n 16)) (replicate n 4)))
+    (replicate n 0xD7C0)
+
+lead_lane : (a b d e : ℕ) → a < 256 → b < 256 → d < 256 → e < 256
+    → ((((a + 256 * b) % 8 * 256 % 65536 + (a + 256 * b) / 256 % 64 * 4 % 65536) % 65536 + (d + 256 * e) / 16 % 4) % 65536 + 0xD7C0) % 65536
+    ≡ 0xD7C0 + (((a % 8 * 64 + b % 64) * 64 + d % 64) * 64 + e % 64) / 0x400
+lead_lane a b d e l m n o = omega arith
+
+leads_of_fours-run : (k : ℕ) (v : List ℕ) → AreBytes v
+    → leads_of_fours k (map_run 4 front_word k v) (map_run 4 back_word k v) ≡ map_run 4 lead_of_four k v
+leads_of_fours-run zero v h = refl
+leads_of_fours-run (suc k) v h =
+    let here = lead_lane (get_or v 0 0) (get_or v 1 0) (get_or v 2 0) (get_or v 3 0) (h 0) (h 1) (h 2) (h 3) in
+    λ i. here i ∷ leads_of_fours-run k (drop 4 v) (AreBytes-drop 4 v h) i
+
+abbrev trails_of_fours : ℕ → List ℕ → List ℕ
+trails_of_fours n backs = zip2 (λ a b. (a + b) % 65536) (zip2 (λ a b. (a + b) % 65536)
+    (zip2 (λ a b. a * b % 65536) (zip2 (λ a b. a % b) backs (replicate n 16)) (replicate n 64))
+    (zip2 (λ a b. a % b) (zip2 (λ a b. a / b) backs (replicate n 256)) (replicate n 64)))
+    (replicate n 0xDC00)
+
+trail_lane : (a b d e : ℕ) → d < 256 → e < 256
+    → (((d + 256 * e) % 16 * 64 % 65536 + (d + 256 * e) / 256 % 64) % 65536 + 0xDC00) % 65536
+    ≡ 0xDC00 + (((a % 8 * 64 + b % 64) * 64 + d % 64) * 64 + e % 64) % 0x400
+trail_lane a b d e n o = omega arith
+
+trails_of_fours-run : (k : ℕ) (v : List ℕ) → AreBytes v → trails_of_fours k (map_run 4 back_word k v) ≡ map_run 4 trail_of_four k v
+trails_of_fours-run zero v h = refl
+trails_of_fours-run (suc k) v h =
+    let here = trail_lane (get_or v 0 0) (get_or v 1 0) (get_or v 2 0) (get_or v 3 0) (h 2) (h 3) in
+    λ i. here i ∷ trails_of_fours-run k (drop 4 v) (AreBytes-drop 4 v h) i
+
+firsts_of_fours-run : (k : ℕ) (v : List ℕ) → AreBytes v → firsts_of_twos k (map_run 4 front_word k v) ≡ map_run 4 (λ w. get_or w 0 0) k v
+firsts_of_fours-run zero v h = refl
+firsts_of_fours-run (suc k) v h =
+    let here : front_word v % 256 ≡ get_or v 0 0 = omega (arith, h 0) in
+    λ i. here i ∷ firsts_of_fours-run k (drop 4 v) (AreBytes-drop 4 v h) i
+
+pub words-fours : (v : List ℕ) → length v ≡ 32 → Each1 (Fits w8) v
+    → let fronts = digits_l 65536 8 (number_l 256 (picked_twice v front_lanes)) in
+    let backs = digits_l 65536 8 (number_l 256 (picked_twice v back_lanes)) in
+    (firsts_of_twos 8 fronts ≡ map_run 4 (λ w. get_or w 0 0) 8 v)
+    × (pick_l 0 (leads_of_fours 8 fronts backs ++ trails_of_fours 8 backs) lanes_by_turns ≡ pairs_of_fours 8 v)
+words-fours v l e =
+    let fronts = digits_l-words 8 (picked_twice v front_lanes) refl (picked_below v v front_lanes e e) ∙ words-fronts v l in
+    let backs = digits_l-words 8 (picked_twice v back_lanes) refl (picked_below v v back_lanes e e) ∙ words-backs v l in
+    let below = AreBytes-from_fits v e in
+    let leads = (λ i. leads_of_fours 8 (fronts i) (backs i)) ∙ leads_of_fours-run 8 v below in
+    let trails = ap (trails_of_fours 8) backs ∙ trails_of_fours-run 8 v below in (
+      ap (firsts_of_twos 8) fronts ∙ firsts_of_fours-run 8 v below,
+      λ i. pick_l 0 (leads i ++ trails i) lanes_by_turns,
+    )

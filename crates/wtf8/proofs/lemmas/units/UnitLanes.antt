@@ -15,7 +15,7 @@ use Rattle.wtf8.specs.private.UnitEnds.{unit_at_end, ends_in_block, set_lanes, w
 abbrev shuffled : List ℕ → List ℕ → List ℕ
 shuffled u js = pick_l 0 (u ++ replicate 32 0) js
 
-of_32 : (P : List ℕ → Type 0) (u : List ℕ) → length u ≡ 32 → P (pick_l 0 u (range_with_len 0 32)) → P u
+pub of_32 : (P : List ℕ → Type 0) (u : List ℕ) → length u ≡ 32 → P (pick_l 0 u (range_with_len 0 32)) → P u
 of_32 P u l p = subst P (pick_l_whole 0 u 32 l) p
 
 pub shuffled-one : (u : List ℕ) → length u ≡ 32 → shuffled u (32 ∷ range_with_len 0 31) ≡ bytes_one_before u
