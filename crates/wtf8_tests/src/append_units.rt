@@ -1,6 +1,6 @@
 // `append_units` appends all code units of a string after a vector's own, and `write_units` writes them to the front of
 // a slice, wherever a block of one kind ends.
-use crate::wrong::{Failed, Wrong, in_row};
+use crate::wrong::{Failed, Wrong, expect, in_row};
 use refusing::{Lent, Refusing};
 use std::alloc::{AllocError, Global};
 use wtf8::{Wtf8, Wtf8Buf};
@@ -162,6 +162,75 @@ fn units_of_long_strings_are_appended_and_written(rt: HostRuntime) -> Result<(),
     for unit in [0x0061, 0x0080, 0x0800, 0xD7FF, 0xD800, 0xDFFF] {
         for length in [63, 64, 127, 128, 400] {
             in_row(length, expect_long_back(alloc, unit, length))?;
+        }
+    }
+    Ok(())
+}
+
+/// Strings of four bytes and two units: code points, with the units that Python's "utf-16" codec gives.
+const FOURS: [(&str, [u16; 2]); 9] = [
+    ("\u{10000}", [0xD800, 0xDC00]),
+    ("\u{10FFFF}", [0xDBFF, 0xDFFF]),
+    ("\u{1F4A9}", [0xD83D, 0xDCA9]),
+    ("\u{103FF}", [0xD800, 0xDFFF]),
+    ("\u{10400}", [0xD801, 0xDC00]),
+    ("\u{FFC00}", [0xDBBF, 0xDC00]),
+    ("\u{100000}", [0xDBC0, 0xDC00]),
+    ("\u{2F9AB}", [0xD87E, 0xDDAB]),
+    ("\u{5ABCD}", [0xD92A, 0xDFCD]),
+];
+
+/// Units end where those of `FOURS` do, but there are code points of three bytes and of one.
+const THREES_BEFORE_ASCII: [(&str, [u16; 2]); 3] = [
+    ("\u{20AC}a", [0x20AC, 0x0061]),
+    ("\u{1F4A9}", [0xD83D, 0xDCA9]),
+    ("\u{FFFD}\u{0}", [0xFFFD, 0x0000]),
+];
+
+/// The string of the first `count` of `pieces`, over and over, then the unit `last`; and its units.
+fn joined_pieces(
+    alloc: Global,
+    pieces: &[(&str, [u16; 2])],
+    count: usize,
+    last: u16,
+) -> Result<(Wtf8Buf<Global>, Vec<u16>), AllocError> {
+    let mut text = Wtf8Buf::new(alloc);
+    let mut units = Vec::new(alloc);
+    for (piece, pair) in pieces.iter().cycle().take(count) {
+        text.push_str(piece)?;
+        units.extend_from_slice(pair)?;
+    }
+    text.push_unit(last)?;
+    units.push(last)?;
+    Ok((text, units))
+}
+
+/// Fails unless the units of `joined_pieces` are appended and written.
+fn expect_pieces(
+    alloc: Global,
+    pieces: &[(&str, [u16; 2])],
+    count: usize,
+    last: u16,
+) -> Result<(), Failed> {
+    let (text, units) = joined_pieces(alloc, pieces, count, last)?;
+    let view = text.as_wtf8();
+    let is_appended = appends_each_way(alloc, view, &units)?;
+    expect(
+        is_appended && writes_front(alloc, view, &units)?,
+        Wrong::Units,
+    )
+}
+
+#[test]
+fn full_blocks_of_four_bytes_are_appended_and_written(rt: HostRuntime) -> Result<(), Failed> {
+    let alloc = rt.alloc();
+    for count in [7, 8, 9, 15, 16, 17, 24, 25, 97, 120] {
+        for last in [0x0061, 0xD800, 0xDBFF, 0xDC00, 0xDFFF, 0x00E9, 0x20AC] {
+            in_row(count, expect_pieces(alloc, &FOURS, count, last))?;
+            in_row(
+                count,
+                expect_pieces(alloc, &THREES_BEFORE_ASCII, count, last),
+            )?;
         }
     }
     Ok(())
