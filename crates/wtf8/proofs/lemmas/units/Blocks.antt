@@ -1,6 +1,6 @@
 -- Blocks of code points of one encoded length, decoded to units.
 use Rattle.wtf8.proofs.Common.{◌≡◌, ℕ, zero, suc, ◌<◌, ◌≤◌, List, [], ◌∷◌, ◌++◌, length, take, drop, get_or, refl, sym, ap, ◌∙◌, arith}
-use Rattle.wtf8.proofs.Common.{IsWellFormed, units, encoding, length-append, units_of, ◌+◌, ◌*◌, ◌%◌, subst, Each1, drop-drop, length-drop}
+use Rattle.wtf8.proofs.Common.{IsWellFormed, units, encoding, length-append, units_of, ◌+◌, ◌*◌, subst, Each1, drop-drop, length-drop}
 use Rattle.wtf8.proofs.Common.{length-take, take-append-drop, get_or_append_left, drop-append-le, FirstPointIs}
 use Rattle.wtf8.proofs.Common.{BeginsWithUnits, unit_of_two, unit_of_three, ◌/◌, AreAscii, Each1-weaker}
 use Rattle.wtf8.proofs.lemmas.codec.Encoding.{encoding_cases, length-encoding_bounds, encoding-from_ascii_byte}
@@ -111,13 +111,6 @@ IsFour-from_lead_byte = grind (arith, get_or_append_left, encoding_cases)
 point_of_four-append : (b r : List ℕ) → 4 ≤ length b → point_of_four (b ++ r) ≡ point_of_four b
 point_of_four-append b r h = grind (arith, get_or_append_left)
 
--- its surrogates
-lead_of-supplementary : (p : ℕ) → 0x10000 ≤ p → lead_of p ≡ 0xD7C0 + p / 0x400
-lead_of-supplementary p h = omega arith
-
-trail_of-supplementary : (p : ℕ) → 0x10000 ≤ p → trail_of p ≡ 0xDC00 + p % 0x400
-trail_of-supplementary p h = omega arith
-
 -- the units of `k` code points, if all lead bytes are of four bytes
 fours_then_rest : (k at : ℕ) (w b r : List ℕ) (h : IsWellFormed w) → w ≡ b ++ r → 4 * k ≤ length b → at ≡ 4 * k
     → Each1 (λ b. b / 8 ≡ 30) (map_run 4 lead_byte k b) → UnitsThenRest w (pairs_of_fours k b) at h
@@ -129,22 +122,18 @@ fours_then_rest (suc k) at w b r h e long same each =
     let fits : 4 ≤ length b = omega (arith, long, wide) in
     let first = first_of h (omega (arith, ap length e, length-append b r, fits)) in
     let p = first.0.point in
-    let lead : lead_byte b ≡ lead_byte (encoding p ++ first.0.rest) =
-        sym (get_or_append_left b r 0 0 (omega (arith, fits))) ∙ ap lead_byte (sym e ∙ first.0.encoded) in
-    let four = IsFour-from_lead_byte p first.0.rest (subst (λ v. v / 8 ≡ 30) lead each.0) in
-    let value : p ≡ point_of_four b =
-        sym four.read ∙ (ap point_of_four (sym first.0.encoded ∙ e) ∙ point_of_four-append b r fits) in
+    let begins = sym (get_or_append_left b r 0 0 (omega (arith, fits))) ∙ ap lead_byte (sym e ∙ first.0.encoded) in
+    let four = IsFour-from_lead_byte p first.0.rest (subst (λ v. v / 8 ≡ 30) begins each.0) in
+    let value : p ≡ point_of_four b = sym four.read ∙ (ap point_of_four (sym first.0.encoded ∙ e) ∙ point_of_four-append b r fits) in
     let after = fours_then_rest k (4 * k) (drop 4 w) (drop 4 b) r
     (IsWellFormed-equal_bytes first.1.rest (ap (λ m. drop m w) (sym four.width))) (ap (drop 4) e ∙ drop-append-le 4 b r fits)
     (omega (arith, long, wide, length-drop 4 b)) refl each.1 in
-    let own = first.1.rest.points in
-    let pair : units (p ∷ own) ≡ lead_of_four b ∷ trail_of_four b ∷ units own =
-        units-cons_two p own four.supplementary
-        ∙ (λ i. lead_of-supplementary p four.supplementary i ∷ trail_of-supplementary p four.supplementary i ∷ units own)
-        ∙ ap (λ q. (0xD7C0 + q / 0x400) ∷ (0xDC00 + q % 0x400) ∷ units own) value in
+    let lead : lead_of p ≡ lead_of_four b = omega (arith, value, four.supplementary) in
+    let trail : trail_of p ≡ trail_of_four b = omega (arith, value, four.supplementary) in
     record {
       rest = IsWellFormed-equal_bytes after.rest (ap (λ m. drop m w) (same ∙ wide) ∙ sym (drop-drop (4 * k) 4 w));
-      whole = ap units first.1.joined ∙ (pair ∙ ap (λ u. lead_of_four b ∷ trail_of_four b ∷ u) after.whole);
+      whole = ap units first.1.joined
+          ∙ (units-cons_two p first.1.rest.points four.supplementary ∙ (λ i. lead i ∷ trail i ∷ after.whole i));
     }
 
 -- the units of a full block are the next units
