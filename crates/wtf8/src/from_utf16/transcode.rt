@@ -165,11 +165,12 @@ fn append_next<const SCRATCH: usize, A: Allocator>(
         if to.at == at + LONG_RUN {
             return Ok(to);
         }
-        // Pairs and punctuation among ASCII are cheaper one by one.
-        if 0x800 <= v[to.at]
-            || letters.count_ones() < MANY_LETTERS
-            || v.len() - to.at < LAST_UNITS
-        {
+        // Pairs and punctuation among ASCII are cheaper one by one. With this test and the next in one condition, emoji in
+        // ASCII take 6% more instructions, an accent in 25 letters as many.
+        if 0x800 <= v[to.at] {
+            return append_point(bytes, v, to);
+        }
+        if letters.count_ones() < MANY_LETTERS || v.len() - to.at < LAST_UNITS {
             return append_point(bytes, v, to);
         }
     } else if v[at + 1] < 0x80 || v[at + 2] < 0x80 {

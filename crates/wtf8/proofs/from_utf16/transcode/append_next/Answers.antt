@@ -7,6 +7,10 @@ pub returns-then-v-to-ge2048-clause-room : goal.returns-then-v-to-ge2048-clause-
 returns-then-v-to-ge2048-clause-room g c room = c.append_point-then-v-to-ge2048.ensures.room
     (HasRoomFrom-after c.args.bytes.now c.append_front.new.bytes c.in_ok-front.ensures.read c.in_ok-front.ensures.capacity room)
 
+pub returns-then-letters-lt-MANY_LETTERS-clause-room : goal.returns-then-letters-lt-MANY_LETTERS-clause-room
+returns-then-letters-lt-MANY_LETTERS-clause-room g c room = c.append_point-then-letters-lt-MANY_LETTERS.ensures.room
+    (HasRoomFrom-after c.args.bytes.now c.append_front.new.bytes c.in_ok-front.ensures.read c.in_ok-front.ensures.capacity room)
+
 pub returns-clause-room : goal.returns-clause-room
 returns-clause-room g c room = c.append_blocks.ensures.room (elim c.if-v-at-lt128.branch [
   | then-v-at-lt128+else-spare_capacity-lt-LONG_RUN+in_ok-front+else-to-at+else-v-to-ge2048+else-letters-lt-MANY_LETTERS+else-v-to-lt-LAST_UNITS w ↦
