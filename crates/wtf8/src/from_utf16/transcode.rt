@@ -165,8 +165,8 @@ fn append_next<const SCRATCH: usize, A: Allocator>(
         if to.at == at + LONG_RUN {
             return Ok(to);
         }
-        // Pairs and punctuation among ASCII are cheaper one by one. With this test and the next in one condition, emoji in
-        // ASCII take 6% more instructions, an accent in 25 letters as many.
+        // Pairs and punctuation among ASCII are cheaper one by one. With both tests in one condition, emoji in ASCII
+        // and an accent in 25 letters take 6% more instructions.
         if 0x800 <= v[to.at] {
             return append_point(bytes, v, to);
         }
