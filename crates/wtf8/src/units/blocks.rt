@@ -46,12 +46,13 @@ pub(crate) struct ThreeBytes;
 /// Code points of four bytes, with two units each.
 pub(crate) struct FourBytes;
 
-/// Whether `byte` begins a code point of `width` bytes, one or two.
+/// Whether `byte` begins a code point of `width` bytes, at most three.
 #[inline(always)]
 pub(crate) fn is_lead_byte(byte: u8, width: usize) -> bool {
     match width {
         1 => byte < 0x80,
-        _ => byte / 32 == 6,
+        2 => byte / 32 == 6,
+        _ => byte / 16 == 14,
     }
 }
 

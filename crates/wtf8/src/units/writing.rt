@@ -357,7 +357,7 @@ fn decode_threes<'a>(units: &mut [u16], left: Undecoded<'a>) -> Undecoded<'a>
         if !is_whole {
             rest = decode_point(units, after);
             let bytes = rest.view.bytes;
-            if bytes.len() <= SIX_THREES || bytes[SIX_THREES] / 16 != 14 {
+            if bytes.len() <= SIX_THREES || !is_lead_byte(bytes[SIX_THREES], 3) {
                 return rest;
             }
         }
