@@ -389,7 +389,7 @@ fn decode_ascii_front<'a>(
 /// Decodes 32 ASCII bytes, in 0.78 of the time that blocks of 16 take; or the ASCII bytes at the front and one other
 /// code point, if a supplementary one follows or at least `LEAST_ASCII_FRONT` are ASCII (joined in one condition, emoji
 /// in ASCII take 1.08 of the instructions; in the other order, 1.16 of the time); or full blocks of two-, three- or
-/// four-byte code points, which take 1.7 to 1.9 by positions, four-byte ones 4.3 of the instructions; or all whole code
+/// four-byte code points, which take 1.7 to 1.9 by positions, four-byte ones 4.2 of the instructions; or all whole code
 /// points in 32 bytes. The positions of unit ends only choose: each way is right for any bytes.
 #[inline(always)]
 fn decode_next<'a>(units: &mut [u16], left: Undecoded<'a>) -> Undecoded<'a>
