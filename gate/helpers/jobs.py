@@ -12,12 +12,12 @@ MEMORY_A_JOB = 3_600_000_000
 
 
 def jobs(processors, memory):
-    """One a processor, where each has its memory in bytes, and at least one.
+    """One a processor, where each has its memory in bytes and so has a check of wrong bodies beside them; at least one.
 
-    >>> jobs(4, 23 * 10**9), jobs(4, 8 * 10**9), jobs(2, 8 * 10**9), jobs(1, 64 * 10**9), jobs(4, 2 * 10**9)
-    (4, 2, 2, 1, 1)
+    >>> jobs(4, 23 * 10**9), jobs(4, 12 * 10**9), jobs(2, 8 * 10**9), jobs(1, 64 * 10**9), jobs(4, 2 * 10**9)
+    (4, 2, 1, 1, 1)
     """
-    return max(1, min(processors, memory // MEMORY_A_JOB))
+    return max(1, min(processors, memory // MEMORY_A_JOB - 1))
 
 
 def available(meminfo, group_limit):
