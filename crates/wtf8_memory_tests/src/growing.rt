@@ -1,11 +1,12 @@
 // Calls that grow a string: the requests for memory that each makes, and what it leaves if one of them is refused.
-use crate::shared::{FULL, filled, full, push_letters, succeeds};
+use crate::shared::{
+    Change, FULL, Requests, expect_requests, expect_steps, filled, full, push_letters, succeeds,
+};
 use refusing::{Lent, REFUSALS, Refusal, Refusing};
-use std::alloc::{AllocError, Global};
+use std::alloc::{AllocError, Allocator, Global};
 use wtf8::{Build, CodePoint, Wtf8, Wtf8Buf};
 use wtf8_tests::examples::{TEXT, joined};
-use wtf8_tests::way::Way;
-use wtf8_tests::wrong::{Failed, Wrong, expect_bytes, in_row};
+use wtf8_tests::wrong::{Failed, Wrong, expect, expect_bytes, in_row, made};
 
 /// A call on a string whose four bytes, "a" and D83D, fill its capacity.
 #[derive(Clone, Copy)]
@@ -19,15 +20,9 @@ struct Row<'a> {
     refused: &'static [&'static str],
 }
 
-/// Calls that make one request, to twice the capacity or to what is needed, whichever is more; then calls that make no
-/// request and leave the string unchanged; and last an extension by three code points of three bytes. Reserving three
-/// bytes grows the capacity to eight, which fits the first of these code points but not the second. `trails` has the
-/// units DCA9, DCA9 and 62.
-fn rows<'a>(
-    trails: Wtf8<'a>,
-    joining: &'a [CodePoint; 2],
-    points: &'a [CodePoint; 3],
-) -> [Row<'a>; 17] {
+/// Pushes of single code points, of which each makes one request, for twice the capacity. The second one is a trail,
+/// which joins with D83D.
+fn pushed_points<'a>() -> [Row<'a>; 8] {
     let [a, e, hiragana, pile] = ['a', 'é', 'あ', '💩'].map(CodePoint::from_char);
     [
         Row {
@@ -37,7 +32,7 @@ fn rows<'a>(
             refused: &[FULL],
         },
         Row {
-            call: Build::Push(joining[0]),
+            call: Build::Push(CodePoint::from_unit(0xDCA9)),
             dump: "61 F0 9F 92 A9",
             requested: 8,
             refused: &[FULL],
@@ -78,6 +73,13 @@ fn rows<'a>(
             requested: 8,
             refused: &[FULL],
         },
+    ]
+}
+
+/// Calls that make one request, for twice the capacity or for what is needed, whichever is more. `trails` has the units
+/// DCA9, DCA9 and 62.
+fn appended<'a>(trails: Wtf8<'a>, joining: &'a [CodePoint; 2]) -> [Row<'a>; 5] {
+    [
         Row {
             call: Build::PushStr(TEXT),
             dump: "61 ED A0 BD 61 C3 A9 20 F0 9F 92 A9",
@@ -108,6 +110,14 @@ fn rows<'a>(
             requested: 1004,
             refused: &[FULL],
         },
+    ]
+}
+
+/// Calls that make no request and leave the string unchanged; and last an extension by three code points of three
+/// bytes. Reserving three bytes grows the capacity to eight, which fits the first of these code points but not the
+/// second.
+fn unchanged<'a>(points: &'a [CodePoint; 3]) -> [Row<'a>; 4] {
+    [
         Row {
             call: Build::PushStr(""),
             dump: FULL,
@@ -135,23 +145,17 @@ fn rows<'a>(
     ]
 }
 
-/// Fails unless a trail surrogate is refused, and the string of "a" and D83D is unchanged, also after an empty text.
-fn expect_trail_refused(alloc: Global, text: &mut Wtf8Buf<Lent<'_>>) -> Result<(), Failed> {
-    if text.push(CodePoint::from_unit(0xDCA9)).is_ok() {
-        return Err(Failed::by(Wrong::Outcome));
-    }
-    expect_bytes(alloc, text.as_wtf8(), FULL)?;
-    if text.push_str("").is_err() {
-        return Err(Failed::by(Wrong::Outcome));
-    }
-    expect_bytes(alloc, text.as_wtf8(), FULL)
-}
-
-/// Fails unless a trail surrogate is refused after "a" and D83D, and an empty text is not.
+/// Fails unless a trail surrogate is refused after "a" and D83D, an empty text is not, and the string is unchanged after
+/// both.
 fn expect_full_kept(alloc: Global, heap: Lent<'_>) -> Result<(), Failed> {
     let mut text = full(heap)?;
     heap.grant(0);
-    expect_trail_refused(alloc, &mut text)
+    let trail = Build::Push(CodePoint::from_unit(0xDCA9));
+    let rows = [
+        (Change::Method(trail), None, FULL),
+        (Change::Method(Build::PushStr("")), Some(true), FULL),
+    ];
+    expect_steps(alloc, &mut text, &rows)
 }
 
 #[test]
@@ -161,80 +165,69 @@ fn an_empty_text_is_pushed_after_a_refused_trail(rt: HostRuntime) -> Result<(), 
     expect_full_kept(alloc, &heap)
 }
 
-/// Fails unless the call, with all its requests granted, succeeds with the requests and bytes of the row.
-fn expect_granted(alloc: Global, heap: Lent<'_>, row: Row<'_>, way: Way) -> Result<(), Failed> {
-    let mut text = full(heap)?;
-    heap.grant(9);
-    let is_made = succeeds(&mut text, row.call, way);
-    let are_counted = heap.requests() == row.refused.len() as u64 && heap.bytes() == row.requested;
-    if !is_made || !are_counted {
-        return Err(Failed::by(Wrong::Requests));
-    }
-    expect_bytes(alloc, text.as_wtf8(), row.dump)
-}
-
-/// Makes the call with `granted` requests granted, and the following ones, or the next one alone, refused. Fails unless
-/// the call fails at its first refused request and leaves the bytes of `dump`.
-fn expect_stopped(
-    alloc: Global,
-    heap: Lent<'_>,
-    (call, way): (Build<'_>, Way),
-    (granted, refusal): (u64, Refusal),
-    dump: &str,
-) -> Result<(), Failed> {
-    let mut text = full(heap)?;
-    heap.refuse_after(granted, refusal);
-    let is_made = succeeds(&mut text, call, way);
-    if is_made || heap.requests() != granted.wrapping_add(1) {
-        return Err(Failed::by(Wrong::Requests));
-    }
-    expect_bytes(alloc, text.as_wtf8(), dump)
-}
-
-/// Refuses each request of the call in turn. Fails unless the call ends there and leaves the bytes of the row.
+/// Refuses each request of the change in turn. Fails unless the change ends there and leaves the bytes of the row.
 fn expect_kept(
     alloc: Global,
     heap: Lent<'_>,
-    row: Row<'_>,
-    way: Way,
+    change: Change<'_>,
+    refused: &[&str],
     refusal: Refusal,
 ) -> Result<(), Failed> {
     let mut granted = 0u64;
-    for dump in row.refused {
-        expect_stopped(alloc, heap, (row.call, way), (granted, refusal), dump)?;
+    for dump in refused {
+        expect_requests(alloc, heap, change, Requests::first(granted, refusal), dump)?;
         granted = granted.wrapping_add(1);
     }
     Ok(())
 }
 
-/// Fails unless the row's call makes its requests if all are granted and `refusal` is `None`, or ends at each of them
-/// that is refused.
-fn expect_call(
+/// Fails unless the row's call, made in this way, makes its requests if all are granted and `refusal` is `None`, or ends
+/// at each of them that is refused.
+fn expect_change(
     alloc: Global,
     heap: Lent<'_>,
+    change: Change<'_>,
     row: Row<'_>,
-    way: Way,
     refusal: Option<Refusal>,
 ) -> Result<(), Failed> {
     match refusal {
-        None => expect_granted(alloc, heap, row, way),
-        Some(refusal) => expect_kept(alloc, heap, row, way, refusal),
+        None => {
+            let requests = Requests::all(row.refused.len() as u64, row.requested);
+            expect_requests(alloc, heap, change, requests, row.dump)
+        }
+        Some(refusal) => expect_kept(alloc, heap, change, row.refused, refusal),
     }
 }
 
-/// Fails unless the row's call, made as a method and through `apply`, does what `expect_call` requires.
+/// Fails unless the row's call, made as a method and through `apply`, does what `expect_change` requires.
 fn expect_row(
     alloc: Global,
     heap: Lent<'_>,
     row: Row<'_>,
     refusal: Option<Refusal>,
 ) -> Result<(), Failed> {
-    expect_call(alloc, heap, row, Way::Method, refusal)?;
-    expect_call(alloc, heap, row, Way::Apply, refusal)
+    expect_change(alloc, heap, Change::Method(row.call), row, refusal)?;
+    expect_change(alloc, heap, Change::Apply(row.call), row, refusal)
 }
 
-/// Fails unless each call, made as a method and through `apply`, does what `expect_call` requires.
+/// Fails unless each row's call does what `expect_row` requires. The rows have the numbers from `first` on.
 fn expect_rows(
+    alloc: Global,
+    heap: Lent<'_>,
+    rows: &[Row<'_>],
+    first: usize,
+    refusal: Option<Refusal>,
+) -> Result<(), Failed> {
+    let mut index = first;
+    for row in rows {
+        in_row(index, expect_row(alloc, heap, *row, refusal))?;
+        index = index.wrapping_add(1);
+    }
+    Ok(())
+}
+
+/// Fails unless each call of the tables does what `expect_row` requires. `trails` has the units DCA9, DCA9 and 62.
+fn expect_tables(
     alloc: Global,
     heap: Lent<'_>,
     trails: Wtf8<'_>,
@@ -242,97 +235,80 @@ fn expect_rows(
 ) -> Result<(), Failed> {
     let joining = [CodePoint::from_unit(0xDCA9), CodePoint::from_unit(0x62)];
     let points = [CodePoint::from_unit(0x0800); 3];
-    let mut index = 0usize;
-    for row in rows(trails, &joining, &points) {
-        in_row(index, expect_row(alloc, heap, row, refusal))?;
-        index = index.wrapping_add(1);
-    }
-    Ok(())
+    expect_rows(alloc, heap, &pushed_points(), 0, refusal)?;
+    expect_rows(alloc, heap, &appended(trails, &joining), 8, refusal)?;
+    expect_rows(alloc, heap, &unchanged(&points), 13, refusal)
 }
 
-/// Fails unless each call, made as a method and through `apply`, does what `expect_call` requires.
-fn expect_table(alloc: Global, refusal: Option<Refusal>) -> Result<(), Failed> {
-    let trails = joined(alloc, &[0xDCA9, 0xDCA9, 0x62])?;
+/// Fails unless each call, made as a method and through `apply`, does what `expect_change` requires.
+fn expect_calls(alloc: Global, refusal: Option<Refusal>) -> Result<(), Failed> {
+    let trails = made(joined(alloc, &[0xDCA9, 0xDCA9, 0x62]))?;
     let heap = Refusing::new(alloc, 0);
-    expect_rows(alloc, &heap, trails.as_wtf8(), refusal)
+    expect_tables(alloc, &heap, trails.as_wtf8(), refusal)
 }
 
 #[test]
 fn a_growing_call_makes_its_requests_and_no_other(rt: HostRuntime) -> Result<(), Failed> {
-    expect_table(rt.alloc(), None)
+    expect_calls(rt.alloc(), None)
 }
 
 #[test]
 fn a_refused_request_leaves_the_string_unchanged(rt: HostRuntime) -> Result<(), Failed> {
     let alloc = rt.alloc();
     for refusal in REFUSALS {
-        expect_table(alloc, Some(refusal))?;
+        expect_calls(alloc, Some(refusal))?;
     }
     Ok(())
-}
-
-/// Whether reserving 1,000 more bytes succeeds.
-fn reserves(text: &mut Wtf8Buf<Lent<'_>>, way: Way) -> bool {
-    match way {
-        Way::Method => text.reserve(1000).is_ok(),
-        Way::Apply => matches!(text.apply(Build::Reserve(1000)), Ok(true)),
-    }
 }
 
 /// Fails unless there is room for 1,000 more bytes after they are reserved.
-fn expect_reserved(heap: Lent<'_>, way: Way) -> Result<(), Failed> {
+fn expect_reserved(heap: Lent<'_>, change: Change<'_>) -> Result<(), Failed> {
     let mut text = full(heap)?;
     heap.grant(1);
-    if !reserves(&mut text, way) || text.capacity() < 1004 {
-        return Err(Failed::by(Wrong::Outcome));
-    }
-    Ok(())
+    let is_reserved = succeeds(&mut text, change) && 1004 <= text.capacity();
+    expect(is_reserved, Wrong::Outcome)
 }
 
 #[test]
 fn reserve_gives_the_capacity(rt: HostRuntime) -> Result<(), Failed> {
     let heap = Refusing::new(rt.alloc(), 0);
-    for way in [Way::Method, Way::Apply] {
-        expect_reserved(&heap, way)?;
-    }
-    Ok(())
+    let call = Build::Reserve(1000);
+    expect_reserved(&heap, Change::Method(call))?;
+    expect_reserved(&heap, Change::Apply(call))
 }
 
 /// Fails unless reserving `usize::MAX` bytes is refused, as a method and through `apply`, and leaves "a".
-fn expect_refused_room(alloc: Global, text: &mut Wtf8Buf<Global>) -> Result<(), Failed> {
-    if text.reserve(usize::MAX).is_ok() {
-        return Err(Failed::by(Wrong::Outcome));
-    }
-    expect_bytes(alloc, text.as_wtf8(), "61")?;
-    if text.apply(Build::Reserve(usize::MAX)).is_ok() {
-        return Err(Failed::by(Wrong::Outcome));
-    }
-    expect_bytes(alloc, text.as_wtf8(), "61")
+fn expect_refused_room(alloc: Global) -> Result<(), Failed> {
+    let mut text = made(Wtf8Buf::from_str(alloc, "a"))?;
+    let call = Build::Reserve(usize::MAX);
+    let rows = [
+        (Change::Method(call), None, "61"),
+        (Change::Apply(call), None, "61"),
+    ];
+    expect_steps(alloc, &mut text, &rows)
 }
 
 #[test]
 fn reserving_usize_max_bytes_is_refused(rt: HostRuntime) -> Result<(), Failed> {
     let alloc = rt.alloc();
-    assert!(rt; Wtf8Buf::with_capacity(alloc, usize::MAX).is_err());
-    let mut text = Wtf8Buf::from_str(alloc, "a")?;
-    expect_refused_room(alloc, &mut text)
+    let is_made = Wtf8Buf::with_capacity(alloc, usize::MAX).is_ok();
+    expect(!is_made, Wrong::Outcome)?;
+    expect_refused_room(alloc)
 }
 
 /// Calls `shrink_to_fit`. Fails unless the capacity is then `capacity` and the string is unchanged.
-fn expect_shrunk(
+fn expect_shrunk<A: Allocator>(
     alloc: Global,
-    text: &mut Wtf8Buf<Lent<'_>>,
+    text: &mut Wtf8Buf<A>,
     capacity: usize,
 ) -> Result<(), Failed> {
     text.shrink_to_fit();
-    if text.capacity() != capacity {
-        return Err(Failed::by(Wrong::Outcome));
-    }
+    expect(text.capacity() == capacity, Wrong::Outcome)?;
     expect_bytes(alloc, text.as_wtf8(), FULL)
 }
 
 /// Clears and shrinks a string, and returns whether its capacity is then 0.
-fn releases(text: &mut Wtf8Buf<Lent<'_>>) -> bool {
+fn releases<A: Allocator>(text: &mut Wtf8Buf<A>) -> bool {
     text.clear();
     text.shrink_to_fit();
     text.capacity() == 0 && text.is_empty()
@@ -352,10 +328,7 @@ fn expect_released(
         row = row.wrapping_add(1);
     }
     heap.grant(0);
-    if !releases(text) {
-        return Err(Failed::by(Wrong::Outcome));
-    }
-    Ok(())
+    expect(releases(text), Wrong::Outcome)
 }
 
 /// Fails unless a string with a capacity of 100 bytes releases what it does not need, if memory is granted.
@@ -381,9 +354,10 @@ fn shrunk_capacity(alloc: Global, length: usize) -> Result<usize, AllocError> {
 
 #[test]
 fn shrink_to_fit_leaves_no_spare_capacity_at_each_length(rt: HostRuntime) -> Result<(), Failed> {
+    let alloc = rt.alloc();
     for length in 0..=70 {
-        let capacity = shrunk_capacity(rt.alloc(), length)?;
-        assert_eq!(rt; capacity, length);
+        let is_shrunk = shrunk_capacity(alloc, length) == Ok(length);
+        in_row(length, expect(is_shrunk, Wrong::Outcome))?;
     }
     Ok(())
 }

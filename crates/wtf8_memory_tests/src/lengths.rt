@@ -48,7 +48,7 @@ fn sample_of<'a>(
     heap: Lent<'a>,
     kind: &[u16; 8],
     length: usize,
-) -> Result<Sample<'a>, AllocError> {
+) -> Result<Sample<Lent<'a>>, AllocError> {
     let units = units_of(alloc, kind, length)?;
     heap.grant(u64::MAX);
     sample_with(alloc, heap, units)
@@ -126,7 +126,7 @@ impl Room {
 }
 
 /// The memory of a string of `len` bytes, empty or with a lead at its end, to which the sample is appended as a view.
-fn room_with_view(len: usize, sample: &Sample<'_>) -> Room {
+fn room_with_view(len: usize, sample: &Sample<Lent<'_>>) -> Room {
     let mut room = NO_ROOM;
     room.append(len);
     let begins_with_trail = match sample.units.first() {
@@ -144,7 +144,7 @@ fn room_with_view(len: usize, sample: &Sample<'_>) -> Room {
 }
 
 /// `room` after an extension by the sample, which reserves a byte for each unit and then pushes them one by one.
-fn room_extended(mut room: Room, sample: &Sample<'_>) -> Room {
+fn room_extended(mut room: Room, sample: &Sample<Lent<'_>>) -> Room {
     let before = if room.len == 0 {
         None
     } else {
@@ -156,7 +156,7 @@ fn room_extended(mut room: Room, sample: &Sample<'_>) -> Room {
 }
 
 /// The memory of a string to which the units are pushed one by one.
-fn room_pushed(sample: &Sample<'_>) -> Room {
+fn room_pushed(sample: &Sample<Lent<'_>>) -> Room {
     let mut room = NO_ROOM;
     room.push_each(0, &sample.units);
     room
@@ -187,7 +187,7 @@ fn room_appended_twice(count: usize) -> Room {
 }
 
 /// The memory that a call requests, or `None` if that depends on the blocks in which units are encoded.
-fn room_after(call: Call, sample: &Sample<'_>) -> Option<Room> {
+fn room_after(call: Call, sample: &Sample<Lent<'_>>) -> Option<Room> {
     let view = sample.text.as_wtf8();
     let (len, text) = (view.len(), view.as_str());
     let text_len = text.unwrap_or("").len();
@@ -215,7 +215,7 @@ fn room_after(call: Call, sample: &Sample<'_>) -> Option<Room> {
 
 /// Whether a string made of units requested no more than it may: one byte for each unit at first, then at most two
 /// growths, the first to at most three bytes for each unit, or eight.
-fn is_within(sample: &Sample<'_>, requests: u64, bytes: usize) -> bool {
+fn is_within(sample: &Sample<Lent<'_>>, requests: u64, bytes: usize) -> bool {
     let count = sample.units.len();
     let first = count.saturating_mul(3).max(8);
     requests <= 3
@@ -227,7 +227,11 @@ fn is_within(sample: &Sample<'_>, requests: u64, bytes: usize) -> bool {
 
 /// Fails unless the call succeeds if all is granted, with the expected number of requests and of bytes. Returns the
 /// number of requests.
-fn expect_granted<'a>(heap: Lent<'a>, call: Call, sample: &Sample<'a>) -> Result<u64, Failed> {
+fn expect_granted<'a>(
+    heap: Lent<'a>,
+    call: Call,
+    sample: &Sample<Lent<'a>>,
+) -> Result<u64, Failed> {
     heap.grant(u64::MAX);
     if !succeeds(heap, call, sample) {
         return Err(Failed::by(Wrong::Outcome));
@@ -244,7 +248,7 @@ fn expect_granted<'a>(heap: Lent<'a>, call: Call, sample: &Sample<'a>) -> Result
 }
 
 /// Fails unless each call on a sample succeeds if all is granted, with the expected number of requests and of bytes.
-fn expect_calls<'a>(heap: Lent<'a>, sample: &Sample<'a>) -> Result<(), Failed> {
+fn expect_calls<'a>(heap: Lent<'a>, sample: &Sample<Lent<'a>>) -> Result<(), Failed> {
     for call in CALLS {
         expect_granted(heap, call, sample)?;
     }
@@ -290,7 +294,7 @@ fn each_call_is_done_about_powers_of_two(rt: HostRuntime) -> Result<(), Failed> 
 }
 
 /// Fails unless each call on a sample fails at each request that is refused.
-fn expect_refusals<'a>(heap: Lent<'a>, sample: &Sample<'a>) -> Result<(), Failed> {
+fn expect_refusals<'a>(heap: Lent<'a>, sample: &Sample<Lent<'a>>) -> Result<(), Failed> {
     for call in CALLS {
         let requests = expect_granted(heap, call, sample)?;
         expect_refused(heap, call, sample, requests)?;

@@ -1,17 +1,15 @@
 // Lists of building calls that stop at a refused request for memory.
-use crate::shared::{FULL, call_named, full};
+use crate::shared::{FULL, call_each, full};
 use refusing::{Lent, REFUSALS, Refusal, Refusing};
-use std::alloc::{AllocError, Global};
+use std::alloc::{AllocError, Allocator, Global};
 use wtf8::{Build, CodePoint, Wtf8, Wtf8Buf};
 use wtf8_tests::examples::{expect_made, joined};
-use wtf8_tests::wrong::{Failed, Wrong, expect_bytes, in_row};
+use wtf8_tests::wrong::{Failed, Wrong, expect, expect_bytes, in_row, made};
 
 /// The string that the calls build, each made by the method of its name.
 fn folded(alloc: Global, calls: &[Build<'_>]) -> Result<Wtf8Buf<Global>, AllocError> {
     let mut text = Wtf8Buf::new(alloc);
-    for call in calls {
-        call_named(&mut text, *call)?;
-    }
+    call_each(&mut text, calls)?;
     Ok(text)
 }
 
@@ -57,8 +55,8 @@ fn stops() -> [Stop; 4] {
 }
 
 /// Appends the first `taken` code points of the call, if it is an extension.
-fn extend_by(
-    text: &mut Wtf8Buf<Global>,
+fn extend_by<A: Allocator>(
+    text: &mut Wtf8Buf<A>,
     call: Option<&Build<'_>>,
     taken: usize,
 ) -> Result<(), AllocError> {
@@ -77,7 +75,7 @@ fn before(alloc: Global, calls: &[Build<'_>], stop: Stop) -> Result<Wtf8Buf<Glob
 }
 
 /// Whether `apply_all` stops at the call with index `done`.
-fn stops_at(text: &mut Wtf8Buf<Lent<'_>>, calls: &[Build<'_>], done: usize) -> bool {
+fn stops_at<A: Allocator>(text: &mut Wtf8Buf<A>, calls: &[Build<'_>], done: usize) -> bool {
     match text.apply_all(calls) {
         Ok(_) => false,
         Err(stopped) => stopped.done == done,
@@ -94,9 +92,9 @@ fn expect_stop(
 ) -> Result<(), Failed> {
     heap.refuse_after(stop.granted, refusal);
     let mut text = Wtf8Buf::new(heap);
-    if !stops_at(&mut text, calls, stop.done) || heap.requests() != stop.granted.wrapping_add(1) {
-        return Err(Failed::by(Wrong::Requests));
-    }
+    let is_stopped = stops_at(&mut text, calls, stop.done);
+    let is_counted = heap.requests() == stop.granted.wrapping_add(1);
+    expect(is_stopped && is_counted, Wrong::Requests)?;
     expect_bytes(alloc, text.as_wtf8(), stop.dump)
 }
 
@@ -117,7 +115,7 @@ fn expect_stops(alloc: Global, heap: Lent<'_>, calls: &[Build<'_>]) -> Result<()
 }
 
 /// Whether a list is applied to its end, with `refused` of its truncations refused.
-fn applies_all(text: &mut Wtf8Buf<Lent<'_>>, calls: &[Build<'_>], refused: usize) -> bool {
+fn applies_all<A: Allocator>(text: &mut Wtf8Buf<A>, calls: &[Build<'_>], refused: usize) -> bool {
     match text.apply_all(calls) {
         Ok(found) => found == refused,
         Err(_) => false,
@@ -134,9 +132,8 @@ fn expect_applied(
 ) -> Result<(), Failed> {
     heap.grant(9);
     let mut text = Wtf8Buf::new(heap);
-    if !applies_all(&mut text, calls, 3) || heap.grants_left() != 5 {
-        return Err(Failed::by(Wrong::Requests));
-    }
+    let is_applied = applies_all(&mut text, calls, 3) && heap.grants_left() == 5;
+    expect(is_applied, Wrong::Requests)?;
     expect_bytes(alloc, text.as_wtf8(), dump)
 }
 
@@ -172,12 +169,12 @@ fn expect_every_call(alloc: Global, heap: Lent<'_>, joining: Wtf8<'_>) -> Result
 fn a_list_of_every_call_stops_at_each_request(rt: HostRuntime) -> Result<(), Failed> {
     let alloc = rt.alloc();
     let heap = Refusing::new(alloc, 0);
-    let joining = joined(alloc, &[0xDCA9, 0x62])?;
+    let joining = made(joined(alloc, &[0xDCA9, 0x62]))?;
     expect_every_call(alloc, &heap, joining.as_wtf8())
 }
 
 /// Whether a list stops at its first push, which makes its only request, if that is refused.
-fn stops_at_push(heap: Lent<'_>, text: &mut Wtf8Buf<Lent<'_>>, refusal: Refusal) -> bool {
+fn stops_at_push<A: Allocator>(heap: Lent<'_>, text: &mut Wtf8Buf<A>, refusal: Refusal) -> bool {
     let calls = [
         Build::Reserve(0),
         Build::Push(CodePoint::from_unit(0xDCA9)),
@@ -188,15 +185,13 @@ fn stops_at_push(heap: Lent<'_>, text: &mut Wtf8Buf<Lent<'_>>, refusal: Refusal)
 }
 
 /// Fails unless a list stops at a refused push and leaves "a" and D83D.
-fn expect_push_refused(
+fn expect_push_refused<A: Allocator>(
     alloc: Global,
     heap: Lent<'_>,
-    text: &mut Wtf8Buf<Lent<'_>>,
+    text: &mut Wtf8Buf<A>,
 ) -> Result<(), Failed> {
     for refusal in REFUSALS {
-        if !stops_at_push(heap, text, refusal) {
-            return Err(Failed::by(Wrong::Outcome));
-        }
+        expect(stops_at_push(heap, text, refusal), Wrong::Outcome)?;
         expect_bytes(alloc, text.as_wtf8(), FULL)?;
     }
     Ok(())
@@ -215,26 +210,25 @@ fn a_list_stops_at_the_refused_push(rt: HostRuntime) -> Result<(), Failed> {
     expect_push_refused_where_full(alloc, &heap)
 }
 
-/// Fails unless an extension that needs more than the capacity stops, with the code points appended that fit.
-fn expect_part(text: &mut Wtf8Buf<Lent<'_>>, points: &[CodePoint]) -> Result<(), Failed> {
-    if !stops_at(text, &[Build::Extend(points)], 0) {
-        return Err(Failed::by(Wrong::Outcome));
-    }
+/// Whether an extension that needs more than the capacity stops, with the code points appended that fit.
+fn keeps_part<A: Allocator>(text: &mut Wtf8Buf<A>, points: &[CodePoint]) -> bool {
+    let is_stopped = stops_at(text, &[Build::Extend(points)], 0);
     let view = text.as_wtf8();
-    if view.len() != text.capacity() / 3 * 3 {
-        return Err(Failed::by(Wrong::Outcome));
-    }
-    if view.to_ill_formed_utf16().next() != Some(0x0800) {
-        return Err(Failed::by(Wrong::Outcome));
-    }
-    Ok(())
+    is_stopped
+        && view.len() == text.capacity() / 3 * 3
+        && view.to_ill_formed_utf16().next() == Some(0x0800)
+}
+
+/// U+0800, `count` times.
+fn points_of(alloc: Global, count: usize) -> Result<Vec<CodePoint>, Failed> {
+    made(vec![in alloc; CodePoint::from_unit(0x0800); count])
 }
 
 /// Fails unless an extension of a string of small capacity stops, with the code points appended that fit.
 fn expect_extension_stopped(alloc: Global, heap: Lent<'_>) -> Result<(), Failed> {
-    let mut text = Wtf8Buf::with_capacity(heap, 4)?;
-    let points: Vec<CodePoint> = vec![in alloc; CodePoint::from_unit(0x0800); text.capacity()]?;
-    expect_part(&mut text, &points)
+    let mut text = made(Wtf8Buf::with_capacity(heap, 4))?;
+    let points = points_of(alloc, text.capacity())?;
+    expect(keeps_part(&mut text, &points), Wrong::Outcome)
 }
 
 #[test]

@@ -137,7 +137,7 @@ fn rows() -> [Row; 18] {
 }
 
 /// Fails unless the call succeeds if all is granted, with the requests and bytes of the row.
-fn expect_granted<'a>(heap: Lent<'a>, row: Row, sample: &Sample<'a>) -> Result<(), Failed> {
+fn expect_granted<'a>(heap: Lent<'a>, row: Row, sample: &Sample<Lent<'a>>) -> Result<(), Failed> {
     heap.grant(9);
     let is_done = succeeds(heap, row.call, sample);
     if !is_done || heap.requests() != row.requests || heap.bytes() != row.bytes {
@@ -150,7 +150,7 @@ fn expect_granted<'a>(heap: Lent<'a>, row: Row, sample: &Sample<'a>) -> Result<(
 fn expect_call<'a>(
     heap: Lent<'a>,
     row: Row,
-    sample: &Sample<'a>,
+    sample: &Sample<Lent<'a>>,
     is_refused: bool,
 ) -> Result<(), Failed> {
     if is_refused {
@@ -160,7 +160,11 @@ fn expect_call<'a>(
 }
 
 /// The sample of these units.
-fn sample_of<'a>(alloc: Global, heap: Lent<'a>, units: &[u16]) -> Result<Sample<'a>, AllocError> {
+fn sample_of<'a>(
+    alloc: Global,
+    heap: Lent<'a>,
+    units: &[u16],
+) -> Result<Sample<Lent<'a>>, AllocError> {
     heap.grant(9);
     sample_with(alloc, heap, Vec::from_slice(alloc, units)?)
 }
@@ -200,7 +204,11 @@ fn cloned_capacity(text: &Wtf8Buf<Lent<'_>>) -> Result<usize, AllocError> {
 }
 
 /// Fails unless a clone of the sample's text requests just its `letters` bytes, at once, and fails if that is refused.
-fn expect_clone<'a>(heap: Lent<'a>, sample: &Sample<'a>, letters: usize) -> Result<(), Failed> {
+fn expect_clone<'a>(
+    heap: Lent<'a>,
+    sample: &Sample<Lent<'a>>,
+    letters: usize,
+) -> Result<(), Failed> {
     heap.grant(9);
     let capacity = cloned_capacity(&sample.text);
     let requests = u64::from(0 < letters);
@@ -215,7 +223,7 @@ fn sample_of_letters<'a>(
     alloc: Global,
     heap: Lent<'a>,
     letters: usize,
-) -> Result<Sample<'a>, AllocError> {
+) -> Result<Sample<Lent<'a>>, AllocError> {
     let mut sample = sample_of(alloc, heap, &[])?;
     sample.text.reserve(200)?;
     push_letters(&mut sample.text, letters)?;
