@@ -44,9 +44,10 @@ fn expect_whole_anywhere(alloc: Global, units: &[u16], dump: &str) -> Result<(),
 
 #[test]
 fn cut_and_joined_texts_are_equal_to_the_whole(rt: HostRuntime) -> Result<(), Failed> {
+    let alloc = rt.alloc();
     let mut row = 0usize;
     for (units, _, dump) in joining() {
-        in_row(row, expect_whole_anywhere(rt.alloc(), units, dump))?;
+        in_row(row, expect_whole_anywhere(alloc, units, dump))?;
         row = row.wrapping_add(1);
     }
     Ok(())

@@ -34,8 +34,9 @@ fn expect_folder_and_name(alloc: Global, path: Wtf8<'_>) -> Result<(), Failed> {
 
 #[test]
 fn a_path_has_a_folder_and_a_name(rt: HostRuntime) -> Result<(), Failed> {
-    let path = string_of(rt.alloc(), &PATH)?;
-    expect_folder_and_name(rt.alloc(), path.as_wtf8())
+    let alloc = rt.alloc();
+    let path = string_of(alloc, &PATH)?;
+    expect_folder_and_name(alloc, path.as_wtf8())
 }
 
 /// Whether `path` is in `folder`, but not in `name`, nor `folder` in itself.
@@ -72,9 +73,10 @@ fn expect_pushed(
 
 #[test]
 fn a_name_is_pushed_and_found_in_its_folder(rt: HostRuntime) -> Result<(), Failed> {
-    let lead = string_of(rt.alloc(), &[LEAD])?;
-    let trail = string_of(rt.alloc(), &[TRAIL])?;
-    expect_pushed(rt.alloc(), &lead, trail.as_wtf8(), "ED A0 BD 5C ED B2 A9")
+    let alloc = rt.alloc();
+    let lead = string_of(alloc, &[LEAD])?;
+    let trail = string_of(alloc, &[TRAIL])?;
+    expect_pushed(alloc, &lead, trail.as_wtf8(), "ED A0 BD 5C ED B2 A9")
 }
 
 /// Fails unless a stem and an extension have the expected bytes, the extension has none, and both give `name` again.
@@ -99,26 +101,36 @@ fn expect_stem(alloc: Global, name: Wtf8<'_>) -> Result<(), Failed> {
     }
 }
 
+/// Fails unless a name is shown as `text`.
+fn expect_shown(alloc: Global, name: Wtf8<'_>, text: &str) -> Result<(), Failed> {
+    let shown = made(file_names::shown(alloc, name))?;
+    expect(shown.as_str() == text, Wrong::Bytes)
+}
+
 #[test]
 fn a_name_has_a_stem_and_an_extension(rt: HostRuntime) -> Result<(), Failed> {
-    let name = string_of(rt.alloc(), &PATH[5..])?;
-    expect_stem(rt.alloc(), name.as_wtf8())?;
-    let shown = made(file_names::shown(rt.alloc(), name.as_wtf8()))?;
-    expect(shown.as_str() == "b\u{FFFD}.tar.gz", Wrong::Bytes)
+    let alloc = rt.alloc();
+    let name = string_of(alloc, &PATH[5..])?;
+    expect_stem(alloc, name.as_wtf8())?;
+    expect_shown(alloc, name.as_wtf8(), "b\u{FFFD}.tar.gz")
 }
 
 /// Fails unless `parts` are the components of `PATH`.
-fn expect_components(alloc: Global, parts: &[Wtf8<'_>]) -> Result<(), Failed> {
+fn expect_parts_of_path(alloc: Global, parts: &[Wtf8<'_>]) -> Result<(), Failed> {
     let dumps = ["43 3A", "61", "62 ED B2 A9 2E 74 61 72 2E 67 7A"];
-    if parts.len() != dumps.len() {
-        return Err(Failed::by(Wrong::Outcome));
-    }
+    expect(parts.len() == dumps.len(), Wrong::Outcome)?;
     let mut row = 0usize;
     for (part, dump) in parts.iter().zip(dumps) {
         in_row(row, expect_bytes(alloc, *part, dump))?;
         row = row.wrapping_add(1);
     }
     Ok(())
+}
+
+/// Fails unless the components of a path are those of `PATH`.
+fn expect_components(alloc: Global, path: Wtf8<'_>) -> Result<(), Failed> {
+    let parts = made(file_names::components(alloc, path))?;
+    expect_parts_of_path(alloc, &parts)
 }
 
 /// Fails unless the folder of a path is that of `PATH`.
@@ -131,19 +143,23 @@ fn expect_parent(alloc: Global, path: Wtf8<'_>) -> Result<(), Failed> {
 
 #[test]
 fn a_path_has_components(rt: HostRuntime) -> Result<(), Failed> {
-    let path = string_of(rt.alloc(), &PATH)?;
-    let parts = made(file_names::components(rt.alloc(), path.as_wtf8()))?;
-    expect_components(rt.alloc(), &parts)?;
-    expect_parent(rt.alloc(), path.as_wtf8())
+    let alloc = rt.alloc();
+    let path = string_of(alloc, &PATH)?;
+    expect_components(alloc, path.as_wtf8())?;
+    expect_parent(alloc, path.as_wtf8())
+}
+
+/// Fails unless a path has `count` components.
+fn expect_count(alloc: Global, path: &str, count: usize) -> Result<(), Failed> {
+    let parts = made(file_names::components(alloc, Wtf8::from_str(path)))?;
+    expect(parts.len() == count, Wrong::Outcome)
 }
 
 #[test]
 fn a_path_has_one_component_more_than_separators(rt: HostRuntime) -> Result<(), Failed> {
-    for (path, count) in [("/", 2), ("", 1)] {
-        let parts = made(file_names::components(rt.alloc(), Wtf8::from_str(path)))?;
-        expect(parts.len() == count, Wrong::Outcome)?;
-    }
-    Ok(())
+    let alloc = rt.alloc();
+    expect_count(alloc, "/", 2)?;
+    expect_count(alloc, "", 1)
 }
 
 /// The results of `/`, `suffix` and `is_relative_to` of CPython's `PureWindowsPath`.
@@ -269,9 +285,10 @@ fn is_windows_path(alloc: Global, row: WindowsPath) -> Result<bool, AllocError> 
 
 #[test]
 fn paths_are_those_of_windows(rt: HostRuntime) -> Result<(), Failed> {
+    let alloc = rt.alloc();
     let mut index = 0usize;
     for row in windows_paths() {
-        let is_right = made(is_windows_path(rt.alloc(), row))?;
+        let is_right = made(is_windows_path(alloc, row))?;
         in_row(index, expect(is_right, Wrong::Outcome))?;
         index = index.wrapping_add(1);
     }
@@ -290,10 +307,11 @@ fn ended_rows() -> [(&'static [u16], &'static str); 4] {
 
 #[test]
 fn a_name_ends_at_a_zero(rt: HostRuntime) -> Result<(), Failed> {
+    let alloc = rt.alloc();
     let mut row = 0usize;
     for (units, dump) in ended_rows() {
-        let name = file_names::before_zero(rt.alloc(), units);
-        in_row(row, expect_made(rt.alloc(), name, dump))?;
+        let name = file_names::before_zero(alloc, units);
+        in_row(row, expect_made(alloc, name, dump))?;
         row = row.wrapping_add(1);
     }
     Ok(())

@@ -38,20 +38,37 @@ fn expect_numbers(interner: &mut Interner, first: Wtf8<'_>) -> Result<(), Failed
     expect(interner.len() == 4, Wrong::Outcome)
 }
 
-#[test]
-fn a_string_keeps_its_number(rt: HostRuntime) -> Result<(), Failed> {
-    let mut interner = Interner::new(rt.alloc());
-    let first = string_of(rt.alloc(), &[LEAD])?;
-    expect_numbers(&mut interner, first.as_wtf8())?;
-    let dumps = [
+/// The bytes of each number's string, up to a number that has none.
+fn dumps() -> [Option<&'static str>; 5] {
+    [
         Some("ED A0 BD"),
         Some(""),
         Some("41 61"),
         Some("42 42"),
         None,
-    ];
-    for (number, dump) in dumps.into_iter().enumerate() {
-        in_row(number, expect_string(rt.alloc(), &interner, number, dump))?;
+    ]
+}
+
+/// Fails unless the interner has the strings of `dumps`.
+fn expect_strings(alloc: Global, interner: &Interner) -> Result<(), Failed> {
+    let mut number = 0usize;
+    for dump in dumps() {
+        in_row(number, expect_string(alloc, interner, number, dump))?;
+        number = number.wrapping_add(1);
     }
     Ok(())
+}
+
+/// Fails unless the interner numbers a string, which is a lead, and others, and returns them by their numbers.
+fn expect_interned(alloc: Global, first: Wtf8<'_>) -> Result<(), Failed> {
+    let mut interner = Interner::new(alloc);
+    expect_numbers(&mut interner, first)?;
+    expect_strings(alloc, &interner)
+}
+
+#[test]
+fn a_string_keeps_its_number(rt: HostRuntime) -> Result<(), Failed> {
+    let alloc = rt.alloc();
+    let first = string_of(alloc, &[LEAD])?;
+    expect_interned(alloc, first.as_wtf8())
 }

@@ -44,9 +44,10 @@ fn expect_kept(alloc: Global, path: Wtf8<'_>) -> Result<(), Failed> {
 
 #[test]
 fn a_path_is_cut_and_joined(rt: HostRuntime) -> Result<(), Failed> {
+    let alloc = rt.alloc();
     let mut row = 0usize;
     for path in ["a/b/c", "/", "", "no slash", "é/💩"] {
-        in_row(row, expect_kept(rt.alloc(), Wtf8::from_str(path)))?;
+        in_row(row, expect_kept(alloc, Wtf8::from_str(path)))?;
         row = row.wrapping_add(1);
     }
     Ok(())

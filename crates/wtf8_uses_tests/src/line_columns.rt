@@ -27,18 +27,20 @@ fn columns() -> [(usize, usize, Option<(usize, usize)>); 12] {
 }
 
 /// A byte position, and the line and the column there.
-const POSITIONS: [(usize, usize, usize); 10] = [
-    (0, 0, 0),
-    (1, 0, 1),
-    (2, 1, 0),
-    (5, 1, 0),
-    (6, 1, 2),
-    (7, 1, 3),
-    (8, 2, 0),
-    (9, 3, 0),
-    (10, 3, 0),
-    (11, 3, 1),
-];
+fn positions() -> [(usize, usize, usize); 10] {
+    [
+        (0, 0, 0),
+        (1, 0, 1),
+        (2, 1, 0),
+        (5, 1, 0),
+        (6, 1, 2),
+        (7, 1, 3),
+        (8, 2, 0),
+        (9, 3, 0),
+        (10, 3, 0),
+        (11, 3, 1),
+    ]
+}
 
 /// The number of requests for a vector that grows to ten marks.
 const REQUESTS: u64 = 3;
@@ -56,7 +58,7 @@ fn has_columns(lines: &LineColumns<'_, Global>) -> bool {
 
 /// Whether each byte position has its line and column.
 fn has_positions(lines: &LineColumns<'_, Global>) -> bool {
-    for (position, line, column) in POSITIONS {
+    for (position, line, column) in positions() {
         if lines.text.len() < position {
             return false;
         }
@@ -86,12 +88,13 @@ fn is_out_of_memory<A: Allocator>(alloc: A) -> bool {
 }
 
 #[test]
-fn each_refused_request_is_told(rt: HostRuntime) {
+fn each_refused_request_is_told(rt: HostRuntime) -> Result<(), Failed> {
     let heap = Refusing::new(rt.alloc(), 0);
     for grants in 0..REQUESTS {
         heap.grant(grants);
-        assert!(rt; is_out_of_memory(&heap), "{grants}");
+        expect(is_out_of_memory(&heap), Wrong::Outcome)?;
     }
     heap.grant(REQUESTS);
-    assert!(rt; !is_out_of_memory(&heap) && heap.grants_left() == 0);
+    let are_found = !is_out_of_memory(&heap) && heap.grants_left() == 0;
+    expect(are_found, Wrong::Outcome)
 }

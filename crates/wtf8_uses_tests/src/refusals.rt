@@ -31,11 +31,12 @@ fn expect_two_points(alloc: Global) -> Result<(), Failed> {
 
 #[test]
 fn memory_is_reserved_once_for_all_pushes(rt: HostRuntime) -> Result<(), Failed> {
-    let mut string = string_of(rt.alloc(), &[LEAD])?;
-    expect_pushed(rt.alloc(), &mut string)?;
+    let alloc = rt.alloc();
+    let mut string = string_of(alloc, &[LEAD])?;
+    expect_pushed(alloc, &mut string)?;
     let is_kept = refusals::is_kept_by_a_refusal(&mut string, CodePoint::from_char('c'));
     expect(matches!(is_kept, Ok(true)), Wrong::Outcome)?;
-    expect_two_points(rt.alloc())
+    expect_two_points(alloc)
 }
 
 /// "a" twenty times.
@@ -47,14 +48,22 @@ fn are_pushed<A: Allocator>(string: &mut Wtf8Buf<A>) -> bool {
     refusals::push_both(string, text, text).is_ok()
 }
 
+/// Fails unless both texts are pushed just if the one request for their 40 bytes is granted.
+fn expect_reserved<A: Allocator>(
+    heap: &Refusing<Global>,
+    string: &mut Wtf8Buf<A>,
+) -> Result<(), Failed> {
+    expect(!are_pushed(string) && string.is_empty(), Wrong::Outcome)?;
+    heap.grant(1);
+    expect(are_pushed(string) && string.len() == 40, Wrong::Outcome)?;
+    expect(heap.requests() == 1 && heap.bytes() == 40, Wrong::Requests)
+}
+
 #[test]
-fn both_strings_are_pushed_into_the_reserved_room(rt: HostRuntime) {
+fn both_strings_are_pushed_into_the_reserved_room(rt: HostRuntime) -> Result<(), Failed> {
     let heap = Refusing::new(rt.alloc(), 0);
     let mut string = Wtf8Buf::new(&heap);
-    assert!(rt; !are_pushed(&mut string) && string.is_empty());
-    heap.grant(1);
-    assert!(rt; are_pushed(&mut string) && string.len() == 40);
-    assert!(rt; heap.requests() == 1 && heap.bytes() == 40);
+    expect_reserved(&heap, &mut string)
 }
 
 /// Whether `push_two_points` of two code points of four bytes each succeeds.

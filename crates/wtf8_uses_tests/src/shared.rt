@@ -27,10 +27,12 @@ pub fn expect_made(
 
 /// Whether the string has `units` by index, and no more.
 pub fn has_units(text: Wtf8<'_>, units: &[u16]) -> bool {
-    for (index, unit) in units.iter().enumerate() {
+    let mut index = 0usize;
+    for unit in units {
         if text.unit_at(index) != Some(*unit) {
             return false;
         }
+        index = index.wrapping_add(1);
     }
     text.unit_len() == units.len()
 }

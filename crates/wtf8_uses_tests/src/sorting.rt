@@ -39,9 +39,10 @@ fn expect_sorted(alloc: Global, first: Wtf8<'_>, second: Wtf8<'_>) -> Result<(),
 
 #[test]
 fn views_are_sorted(rt: HostRuntime) -> Result<(), Failed> {
-    let first = string_of(rt.alloc(), &[0xD800, 0xDC00])?;
-    let second = string_of(rt.alloc(), &[0xE000])?;
-    expect_sorted(rt.alloc(), first.as_wtf8(), second.as_wtf8())
+    let alloc = rt.alloc();
+    let first = string_of(alloc, &[0xD800, 0xDC00])?;
+    let second = string_of(alloc, &[0xE000])?;
+    expect_sorted(alloc, first.as_wtf8(), second.as_wtf8())
 }
 
 /// Appends the string of `units`.
@@ -103,8 +104,9 @@ fn expect_found(alloc: Global, table: &[Wtf8Buf<Global>]) -> Result<(), Failed>
 
 #[test]
 fn strings_are_sorted_and_found(rt: HostRuntime) -> Result<(), Failed> {
-    match sorted(rt.alloc()) {
-        Ok(strings) => expect_found(rt.alloc(), strings.as_slice()),
+    let alloc = rt.alloc();
+    match sorted(alloc) {
+        Ok(strings) => expect_found(alloc, strings.as_slice()),
         Err(_) => Err(Failed::by(Wrong::Memory)),
     }
 }
@@ -143,11 +145,17 @@ fn is_found(alloc: Global, same: &Wtf8Buf<Global>) -> Result<bool, AllocError> {
     Ok(found == Some(7))
 }
 
+/// Whether a string and the view of "💩" have the same hash.
+fn are_alike(same: &Wtf8Buf<Global>) -> bool {
+    let hashers: BuildHasherDefault<FoldHasher> = BuildHasherDefault::new();
+    maps::hashes_agree(&hashers, same, Wtf8::from_str("💩"))
+}
+
 #[test]
 fn a_map_finds_equal_strings(rt: HostRuntime) -> Result<(), Failed> {
-    let same = made(Wtf8Buf::from_str(rt.alloc(), "💩"))?;
-    let hashers: BuildHasherDefault<FoldHasher> = BuildHasherDefault::new();
-    let is_alike = maps::hashes_agree(&hashers, &same, Wtf8::from_str("💩"));
-    let is_found = made(is_found(rt.alloc(), &same))?;
-    expect(is_alike && is_found, Wrong::Outcome)
+    let alloc = rt.alloc();
+    let same = made(Wtf8Buf::from_str(alloc, "💩"))?;
+    expect(are_alike(&same), Wrong::Outcome)?;
+    let is_found = made(is_found(alloc, &same))?;
+    expect(is_found, Wrong::Outcome)
 }

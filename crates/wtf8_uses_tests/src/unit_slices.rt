@@ -27,13 +27,14 @@ fn cut_everywhere(alloc: Global, units: &[u16]) -> Result<(), Failed> {
 
 #[test]
 fn a_string_cut_at_any_index_and_joined_is_equal(rt: HostRuntime) -> Result<(), Failed> {
+    let alloc = rt.alloc();
     let mut row = 0usize;
     for (units, _, _) in joining() {
-        in_row(row, cut_everywhere(rt.alloc(), units))?;
+        in_row(row, cut_everywhere(alloc, units))?;
         row = row.wrapping_add(1);
     }
     for units in lists() {
-        in_row(row, cut_everywhere(rt.alloc(), units))?;
+        in_row(row, cut_everywhere(alloc, units))?;
         row = row.wrapping_add(1);
     }
     Ok(())
