@@ -20,9 +20,15 @@ struct Row<'a> {
     refused: &'static [&'static str],
 }
 
-/// Pushes of single code points, of which each makes one request, for twice the capacity. The second one is a trail,
-/// which joins with D83D.
-fn pushed_points<'a>() -> [Row<'a>; 8] {
+/// Calls that make one request, to twice the capacity or to what is needed, whichever is more; then calls that make no
+/// request and leave the string unchanged; and last an extension by three code points of three bytes. Reserving three
+/// bytes grows the capacity to eight, which fits the first of these code points but not the second. `trails` has the
+/// units DCA9, DCA9 and 62.
+fn rows<'a>(
+    trails: Wtf8<'a>,
+    joining: &'a [CodePoint; 2],
+    points: &'a [CodePoint; 3],
+) -> [Row<'a>; 17] {
     let [a, e, hiragana, pile] = ['a', 'é', 'あ', '💩'].map(CodePoint::from_char);
     [
         Row {
@@ -32,7 +38,7 @@ fn pushed_points<'a>() -> [Row<'a>; 8] {
             refused: &[FULL],
         },
         Row {
-            call: Build::Push(CodePoint::from_unit(0xDCA9)),
+            call: Build::Push(joining[0]),
             dump: "61 F0 9F 92 A9",
             requested: 8,
             refused: &[FULL],
@@ -73,13 +79,6 @@ fn pushed_points<'a>() -> [Row<'a>; 8] {
             requested: 8,
             refused: &[FULL],
         },
-    ]
-}
-
-/// Calls that make one request, for twice the capacity or for what is needed, whichever is more. `trails` has the units
-/// DCA9, DCA9 and 62.
-fn appended<'a>(trails: Wtf8<'a>, joining: &'a [CodePoint; 2]) -> [Row<'a>; 5] {
-    [
         Row {
             call: Build::PushStr(TEXT),
             dump: "61 ED A0 BD 61 C3 A9 20 F0 9F 92 A9",
@@ -110,14 +109,6 @@ fn appended<'a>(trails: Wtf8<'a>, joining: &'a [CodePoint; 2]) -> [Row<'a>; 5] {
             requested: 1004,
             refused: &[FULL],
         },
-    ]
-}
-
-/// Calls that make no request and leave the string unchanged; and last an extension by three code points of three
-/// bytes. Reserving three bytes grows the capacity to eight, which fits the first of these code points but not the
-/// second.
-fn unchanged<'a>(points: &'a [CodePoint; 3]) -> [Row<'a>; 4] {
-    [
         Row {
             call: Build::PushStr(""),
             dump: FULL,
@@ -210,24 +201,8 @@ fn expect_row(
     expect_change(alloc, heap, Change::Apply(row.call), row, refusal)
 }
 
-/// Fails unless each row's call does what `expect_row` requires. The rows have the numbers from `first` on.
+/// Fails unless each row's call does what `expect_row` requires. `trails` has the units DCA9, DCA9 and 62.
 fn expect_rows(
-    alloc: Global,
-    heap: Lent<'_>,
-    rows: &[Row<'_>],
-    first: usize,
-    refusal: Option<Refusal>,
-) -> Result<(), Failed> {
-    let mut index = first;
-    for row in rows {
-        in_row(index, expect_row(alloc, heap, *row, refusal))?;
-        index = index.wrapping_add(1);
-    }
-    Ok(())
-}
-
-/// Fails unless each call of the tables does what `expect_row` requires. `trails` has the units DCA9, DCA9 and 62.
-fn expect_tables(
     alloc: Global,
     heap: Lent<'_>,
     trails: Wtf8<'_>,
@@ -235,28 +210,31 @@ fn expect_tables(
 ) -> Result<(), Failed> {
     let joining = [CodePoint::from_unit(0xDCA9), CodePoint::from_unit(0x62)];
     let points = [CodePoint::from_unit(0x0800); 3];
-    expect_rows(alloc, heap, &pushed_points(), 0, refusal)?;
-    expect_rows(alloc, heap, &appended(trails, &joining), 8, refusal)?;
-    expect_rows(alloc, heap, &unchanged(&points), 13, refusal)
+    let mut index = 0usize;
+    for row in rows(trails, &joining, &points) {
+        in_row(index, expect_row(alloc, heap, row, refusal))?;
+        index = index.wrapping_add(1);
+    }
+    Ok(())
 }
 
-/// Fails unless each call, made as a method and through `apply`, does what `expect_change` requires.
-fn expect_calls(alloc: Global, refusal: Option<Refusal>) -> Result<(), Failed> {
+/// Fails unless each row's call, made as a method and through `apply`, does what `expect_change` requires.
+fn expect_table(alloc: Global, refusal: Option<Refusal>) -> Result<(), Failed> {
     let trails = made(joined(alloc, &[0xDCA9, 0xDCA9, 0x62]))?;
     let heap = Refusing::new(alloc, 0);
-    expect_tables(alloc, &heap, trails.as_wtf8(), refusal)
+    expect_rows(alloc, &heap, trails.as_wtf8(), refusal)
 }
 
 #[test]
 fn a_growing_call_makes_its_requests_and_no_other(rt: HostRuntime) -> Result<(), Failed> {
-    expect_calls(rt.alloc(), None)
+    expect_table(rt.alloc(), None)
 }
 
 #[test]
 fn a_refused_request_leaves_the_string_unchanged(rt: HostRuntime) -> Result<(), Failed> {
     let alloc = rt.alloc();
     for refusal in REFUSALS {
-        expect_calls(alloc, Some(refusal))?;
+        expect_table(alloc, Some(refusal))?;
     }
     Ok(())
 }
@@ -292,7 +270,9 @@ fn expect_refused_room(alloc: Global) -> Result<(), Failed> {
 fn reserving_usize_max_bytes_is_refused(rt: HostRuntime) -> Result<(), Failed> {
     let alloc = rt.alloc();
     let is_made = Wtf8Buf::with_capacity(alloc, usize::MAX).is_ok();
-    expect(!is_made, Wrong::Outcome)?;
+    if is_made {
+        return Err(Failed::by(Wrong::Outcome));
+    }
     expect_refused_room(alloc)
 }
 
@@ -303,7 +283,9 @@ fn expect_shrunk<A: Allocator>(
     capacity: usize,
 ) -> Result<(), Failed> {
     text.shrink_to_fit();
-    expect(text.capacity() == capacity, Wrong::Outcome)?;
+    if text.capacity() != capacity {
+        return Err(Failed::by(Wrong::Outcome));
+    }
     expect_bytes(alloc, text.as_wtf8(), FULL)
 }
 

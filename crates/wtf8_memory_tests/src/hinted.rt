@@ -81,7 +81,9 @@ fn expect_trails(
     has_lead: bool,
     taken: &Cell<u32>,
 ) -> Result<(), Failed> {
-    expect(taken.take() == left, Wrong::Outcome)?;
+    if taken.take() != left {
+        return Err(Failed::by(Wrong::Outcome));
+    }
     let expected = made(expected_units(alloc, left, has_lead))?;
     expect_units(alloc, text, &expected)
 }
@@ -158,7 +160,9 @@ fn expect_reserved_first(alloc: Global, heap: Lent<'_>, taken: &Cell<u32>) -> Re
     let mut text = Wtf8Buf::new(heap);
     let is_right = is_reserved(heap, &mut text, (0, 50, true), 1, taken)
         && is_reserved(heap, &mut text, (1, 51, false), 2, taken);
-    expect(is_right, Wrong::Requests)?;
+    if !is_right {
+        return Err(Failed::by(Wrong::Requests));
+    }
     expect_bytes(alloc, text.as_wtf8(), "")
 }
 
@@ -288,7 +292,9 @@ fn are_refused(alloc: Global, text: &mut Wtf8Buf<Global>, taken: &Cell<u32>) -> 
 fn expect_too_large(alloc: Global, taken: &Cell<u32>) -> Result<(), Failed> {
     let mut text = made(Wtf8Buf::from_str(alloc, "a"))?;
     let is_refused = are_refused(alloc, &mut text, taken) && taken.get() == 0;
-    expect(is_refused, Wrong::Outcome)?;
+    if !is_refused {
+        return Err(Failed::by(Wrong::Outcome));
+    }
     expect_bytes(alloc, text.as_wtf8(), "61")
 }
 

@@ -133,7 +133,9 @@ fn expect_applied(
     heap.grant(9);
     let mut text = Wtf8Buf::new(heap);
     let is_applied = applies_all(&mut text, calls, 3) && heap.grants_left() == 5;
-    expect(is_applied, Wrong::Requests)?;
+    if !is_applied {
+        return Err(Failed::by(Wrong::Requests));
+    }
     expect_bytes(alloc, text.as_wtf8(), dump)
 }
 
@@ -191,7 +193,9 @@ fn expect_push_refused<A: Allocator>(
     text: &mut Wtf8Buf<A>,
 ) -> Result<(), Failed> {
     for refusal in REFUSALS {
-        expect(stops_at_push(heap, text, refusal), Wrong::Outcome)?;
+        if !stops_at_push(heap, text, refusal) {
+            return Err(Failed::by(Wrong::Outcome));
+        }
         expect_bytes(alloc, text.as_wtf8(), FULL)?;
     }
     Ok(())
@@ -210,30 +214,26 @@ fn a_list_stops_at_the_refused_push(rt: HostRuntime) -> Result<(), Failed> {
     expect_push_refused_where_full(alloc, &heap)
 }
 
-/// Whether an extension that needs more than the capacity stops, with the code points appended that fit.
+/// Whether an extension that needs more than the capacity, which is the number of the code points, stops, with the code
+/// points appended that fit.
 fn keeps_part<A: Allocator>(text: &mut Wtf8Buf<A>, points: &[CodePoint]) -> bool {
     let is_stopped = stops_at(text, &[Build::Extend(points)], 0);
     let view = text.as_wtf8();
     is_stopped
+        && text.capacity() == points.len()
         && view.len() == text.capacity() / 3 * 3
         && view.to_ill_formed_utf16().next() == Some(0x0800)
 }
 
-/// U+0800, `count` times.
-fn points_of(alloc: Global, count: usize) -> Result<Vec<CodePoint>, Failed> {
-    made(vec![in alloc; CodePoint::from_unit(0x0800); count])
-}
-
 /// Fails unless an extension of a string of small capacity stops, with the code points appended that fit.
-fn expect_extension_stopped(alloc: Global, heap: Lent<'_>) -> Result<(), Failed> {
+fn expect_extension_stopped(heap: Lent<'_>) -> Result<(), Failed> {
     let mut text = made(Wtf8Buf::with_capacity(heap, 4))?;
-    let points = points_of(alloc, text.capacity())?;
+    let points = [CodePoint::from_unit(0x0800); 4];
     expect(keeps_part(&mut text, &points), Wrong::Outcome)
 }
 
 #[test]
 fn a_stopped_extension_keeps_the_code_points_that_fit(rt: HostRuntime) -> Result<(), Failed> {
-    let alloc = rt.alloc();
-    let heap = Refusing::new(alloc, 1);
-    expect_extension_stopped(alloc, &heap)
+    let heap = Refusing::new(rt.alloc(), 1);
+    expect_extension_stopped(&heap)
 }

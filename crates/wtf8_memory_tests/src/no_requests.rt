@@ -315,7 +315,9 @@ fn expect_lossy<A: Allocator + Drop>(
 
 /// Fails unless `owned` is `TEXT`, also as a string made of it and as that string's lossy text.
 fn expect_again<A: Allocator + Drop>(alloc: Global, owned: String<A>) -> Result<(), Failed> {
-    expect(owned.as_str() == TEXT, Wrong::Outcome)?;
+    if owned.as_str() != TEXT {
+        return Err(Failed::by(Wrong::Outcome));
+    }
     expect_lossy(alloc, Wtf8Buf::from_string(owned), TEXT_DUMP, TEXT)
 }
 
@@ -337,7 +339,9 @@ fn expect_converted<A: Allocator + Drop>(
     has_lead: bool,
 ) -> Result<(), Failed> {
     let converted = text.into_string();
-    expect(converted.is_err() == has_lead, Wrong::Outcome)?;
+    if converted.is_err() != has_lead {
+        return Err(Failed::by(Wrong::Outcome));
+    }
     match converted {
         Ok(owned) => expect_again(alloc, owned),
         Err(back) => expect_back(alloc, back),
@@ -348,7 +352,9 @@ fn expect_converted<A: Allocator + Drop>(
 /// if `has_lead`, has no text, and comes back from `into_string`.
 fn expect_text(alloc: Global, heap: Lent<'_>, has_lead: bool, grants: u64) -> Result<(), Failed> {
     let text = text_of(heap, has_lead, grants)?;
-    expect(has_texts(heap, text.as_wtf8(), has_lead), Wrong::Outcome)?;
+    if !has_texts(heap, text.as_wtf8(), has_lead) {
+        return Err(Failed::by(Wrong::Outcome));
+    }
     expect_converted(alloc, text, has_lead)
 }
 

@@ -74,7 +74,9 @@ fn expect_pushed(
     let mut text = with_spare(heap, front, spare)?;
     let fits = growth_of(front, units) <= spare;
     let is_pushed = succeeds(&mut text, change);
-    expect(is_pushed == fits, Wrong::Outcome)?;
+    if is_pushed != fits {
+        return Err(Failed::by(Wrong::Outcome));
+    }
     expect((heap.requests() == 0) == fits, Wrong::Requests)?;
     expect_units(alloc, text.as_wtf8(), if fits { units } else { front })
 }

@@ -133,7 +133,9 @@ pub fn expect_step<A: Allocator>(
     row: Step<'_>,
 ) -> Result<(), Failed> {
     let (change, outcome, dump) = row;
-    expect(changes(text, change) == outcome, Wrong::Outcome)?;
+    if changes(text, change) != outcome {
+        return Err(Failed::by(Wrong::Outcome));
+    }
     expect_bytes(alloc, text.as_wtf8(), dump)
 }
 
@@ -206,6 +208,8 @@ pub fn expect_requests(
     let mut text = full(heap)?;
     heap.refuse_after(requests.granted, requests.refusal);
     let is_changed = succeeds(&mut text, change);
-    expect(requests.are_made(heap, is_changed), Wrong::Requests)?;
+    if !requests.are_made(heap, is_changed) {
+        return Err(Failed::by(Wrong::Requests));
+    }
     expect_bytes(alloc, text.as_wtf8(), dump)
 }
