@@ -6,7 +6,7 @@ use refusing::{Lent, REFUSALS, Refusal, Refusing};
 use std::alloc::{AllocError, Allocator, Global};
 use wtf8::{Build, CodePoint, Wtf8, Wtf8Buf};
 use wtf8_tests::examples::{TEXT, joined};
-use wtf8_tests::wrong::{Failed, Wrong, expect, expect_bytes, in_row, made};
+use wtf8_tests::wrong::{Failed, Wrong, expect, expect_bytes, in_row};
 
 /// A call on a string whose four bytes, "a" and D83D, fill its capacity.
 #[derive(Clone, Copy)]
@@ -139,7 +139,9 @@ fn rows<'a>(
 /// Fails unless a trail surrogate is refused after "a" and D83D, an empty text is not, and the string is unchanged after
 /// both.
 fn expect_full_kept(alloc: Global, heap: Lent<'_>) -> Result<(), Failed> {
-    let mut text = full(heap)?;
+    let Ok(mut text) = full(heap) else {
+        return Err(Failed::by(Wrong::Memory));
+    };
     heap.grant(0);
     let trail = Build::Push(CodePoint::from_unit(0xDCA9));
     let rows = [
@@ -212,7 +214,9 @@ fn expect_rows(
     let points = [CodePoint::from_unit(0x0800); 3];
     let mut index = 0usize;
     for row in rows(trails, &joining, &points) {
-        in_row(index, expect_row(alloc, heap, row, refusal))?;
+        if let Err(failed) = expect_row(alloc, heap, row, refusal) {
+            return in_row(index, Err(failed));
+        }
         index = index.wrapping_add(1);
     }
     Ok(())
@@ -220,7 +224,9 @@ fn expect_rows(
 
 /// Fails unless each row's call, made as a method and through `apply`, does what `expect_change` requires.
 fn expect_table(alloc: Global, refusal: Option<Refusal>) -> Result<(), Failed> {
-    let trails = made(joined(alloc, &[0xDCA9, 0xDCA9, 0x62]))?;
+    let Ok(trails) = joined(alloc, &[0xDCA9, 0xDCA9, 0x62]) else {
+        return Err(Failed::by(Wrong::Memory));
+    };
     let heap = Refusing::new(alloc, 0);
     expect_rows(alloc, &heap, trails.as_wtf8(), refusal)
 }
@@ -241,7 +247,9 @@ fn a_refused_request_leaves_the_string_unchanged(rt: HostRuntime) -> Result<(), 
 
 /// Fails unless there is room for 1,000 more bytes after they are reserved.
 fn expect_reserved(heap: Lent<'_>, change: Change<'_>) -> Result<(), Failed> {
-    let mut text = full(heap)?;
+    let Ok(mut text) = full(heap) else {
+        return Err(Failed::by(Wrong::Memory));
+    };
     heap.grant(1);
     let is_reserved = succeeds(&mut text, change) && 1004 <= text.capacity();
     expect(is_reserved, Wrong::Outcome)
@@ -257,7 +265,9 @@ fn reserve_gives_the_capacity(rt: HostRuntime) -> Result<(), Failed> {
 
 /// Fails unless reserving `usize::MAX` bytes is refused, as a method and through `apply`, and leaves "a".
 fn expect_refused_room(alloc: Global) -> Result<(), Failed> {
-    let mut text = made(Wtf8Buf::from_str(alloc, "a"))?;
+    let Ok(mut text) = Wtf8Buf::from_str(alloc, "a") else {
+        return Err(Failed::by(Wrong::Memory));
+    };
     let call = Build::Reserve(usize::MAX);
     let rows = [
         (Change::Method(call), None, "61"),
@@ -306,7 +316,9 @@ fn expect_released(
     let mut row = 0usize;
     for (granted, capacity) in [(0, 100), (1, 4), (1, 4)] {
         heap.grant(granted);
-        in_row(row, expect_shrunk(alloc, text, capacity))?;
+        if let Err(failed) = expect_shrunk(alloc, text, capacity) {
+            return in_row(row, Err(failed));
+        }
         row = row.wrapping_add(1);
     }
     heap.grant(0);
@@ -315,7 +327,9 @@ fn expect_released(
 
 /// Fails unless a string with a capacity of 100 bytes releases what it does not need, if memory is granted.
 fn expect_hundred_released(alloc: Global, heap: Lent<'_>) -> Result<(), Failed> {
-    let mut text = filled(heap, 100)?;
+    let Ok(mut text) = filled(heap, 100) else {
+        return Err(Failed::by(Wrong::Memory));
+    };
     expect_released(alloc, heap, &mut text)
 }
 
@@ -328,7 +342,9 @@ fn shrink_to_fit_releases_spare_capacity(rt: HostRuntime) -> Result<(), Failed> 
 
 /// The capacity of a string of `length` bytes after `shrink_to_fit`.
 fn shrunk_capacity(alloc: Global, length: usize) -> Result<usize, AllocError> {
-    let mut text = Wtf8Buf::with_capacity(alloc, 100)?;
+    let Ok(mut text) = Wtf8Buf::with_capacity(alloc, 100) else {
+        return Err(AllocError);
+    };
     push_letters(&mut text, length)?;
     text.shrink_to_fit();
     Ok(text.capacity())
@@ -339,7 +355,9 @@ fn shrink_to_fit_leaves_no_spare_capacity_at_each_length(rt: HostRuntime) -> Res
     let alloc = rt.alloc();
     for length in 0..=70 {
         let is_shrunk = shrunk_capacity(alloc, length) == Ok(length);
-        in_row(length, expect(is_shrunk, Wrong::Outcome))?;
+        if let Err(failed) = expect(is_shrunk, Wrong::Outcome) {
+            return in_row(length, Err(failed));
+        }
     }
     Ok(())
 }

@@ -4,7 +4,7 @@ use std::alloc::{AllocError, Allocator, Global};
 use std::cell::Cell;
 use wtf8::{CodePoint, Wtf8, Wtf8Buf};
 use wtf8_tests::examples::{expect_units, joined};
-use wtf8_tests::wrong::{Failed, Wrong, expect, expect_bytes, in_row, made};
+use wtf8_tests::wrong::{Failed, Wrong, expect, expect_bytes, in_row};
 
 /// Yields a code point `left` times, with size hints that the test chooses, of which the lower one may be wrong. Counts
 /// the items that are taken.
@@ -84,7 +84,9 @@ fn expect_trails(
     if taken.take() != left {
         return Err(Failed::by(Wrong::Outcome));
     }
-    let expected = made(expected_units(alloc, left, has_lead))?;
+    let Ok(expected) = expected_units(alloc, left, has_lead) else {
+        return Err(Failed::by(Wrong::Memory));
+    };
     expect_units(alloc, text, &expected)
 }
 
@@ -120,7 +122,9 @@ fn expect_collected(
 ) -> Result<(), Failed> {
     let lead: &[u16] = &[0xD83D];
     let front = if has_lead { Some(lead) } else { None };
-    let text = made(collected(alloc, front, trails(left, hint, taken)))?;
+    let Ok(text) = collected(alloc, front, trails(left, hint, taken)) else {
+        return Err(Failed::by(Wrong::Memory));
+    };
     expect_trails(alloc, text.as_wtf8(), left, has_lead, taken)
 }
 
@@ -131,7 +135,9 @@ fn a_lower_hint_may_be_false(rt: HostRuntime) -> Result<(), Failed> {
     let mut row = 0usize;
     for items in [(1000, 0), (2, 5), (0, 3)] {
         for has_lead in [false, true] {
-            in_row(row, expect_collected(alloc, items, has_lead, &taken))?;
+            if let Err(failed) = expect_collected(alloc, items, has_lead, &taken) {
+                return in_row(row, Err(failed));
+            }
         }
         row = row.wrapping_add(1);
     }
@@ -249,7 +255,9 @@ fn len_of<A: Allocator + Drop>(
     row: Upper,
     taken: &Cell<u32>,
 ) -> Result<usize, AllocError> {
-    let text = collected(heap, front, items_of(row, taken))?;
+    let Ok(text) = collected(heap, front, items_of(row, taken)) else {
+        return Err(AllocError);
+    };
     Ok(text.len())
 }
 
@@ -274,8 +282,12 @@ fn no_room_is_reserved_for_the_upper_hint(rt: HostRuntime) -> Result<(), Failed>
     let heap = Refusing::new(rt.alloc(), 0);
     let mut index = 0usize;
     for row in upper_rows() {
-        in_row(index, expect_upper(&heap, None, row, &taken))?;
-        in_row(index, expect_upper(&heap, Some(&[]), row, &taken))?;
+        if let Err(failed) = expect_upper(&heap, None, row, &taken) {
+            return in_row(index, Err(failed));
+        }
+        if let Err(failed) = expect_upper(&heap, Some(&[]), row, &taken) {
+            return in_row(index, Err(failed));
+        }
         index = index.wrapping_add(1);
     }
     Ok(())
@@ -290,7 +302,9 @@ fn are_refused(alloc: Global, text: &mut Wtf8Buf<Global>, taken: &Cell<u32>) -> 
 
 /// Fails unless a lower hint of `usize::MAX` is refused before an item is taken, and leaves "a".
 fn expect_too_large(alloc: Global, taken: &Cell<u32>) -> Result<(), Failed> {
-    let mut text = made(Wtf8Buf::from_str(alloc, "a"))?;
+    let Ok(mut text) = Wtf8Buf::from_str(alloc, "a") else {
+        return Err(Failed::by(Wrong::Memory));
+    };
     let is_refused = are_refused(alloc, &mut text, taken) && taken.get() == 0;
     if !is_refused {
         return Err(Failed::by(Wrong::Outcome));

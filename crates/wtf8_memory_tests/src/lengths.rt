@@ -64,7 +64,9 @@ fn sample_of<'a>(
     kind: &[u16; 8],
     length: usize,
 ) -> Result<Sample<Lent<'a>>, AllocError> {
-    let units = units_of(alloc, kind, length)?;
+    let Ok(units) = units_of(alloc, kind, length) else {
+        return Err(AllocError);
+    };
     heap.grant(u64::MAX);
     sample_with(alloc, heap, units)
 }
@@ -290,7 +292,9 @@ fn expect_done(
     kind: &[u16; 8],
     length: usize,
 ) -> Result<(), Failed> {
-    let sample = sample_of(alloc, heap, kind, length)?;
+    let Ok(sample) = sample_of(alloc, heap, kind, length) else {
+        return Err(Failed::by(Wrong::Memory));
+    };
     expect_calls(heap, &sample)
 }
 
@@ -301,7 +305,9 @@ fn each_call_is_done_at_each_length(rt: HostRuntime) -> Result<(), Failed> {
     for kind in &kinds() {
         for index in 0..LENGTHS {
             let length = length_at(index);
-            in_row(length, expect_done(alloc, &heap, kind, length))?;
+            if let Err(failed) = expect_done(alloc, &heap, kind, length) {
+                return in_row(length, Err(failed));
+            }
         }
     }
     Ok(())
@@ -313,7 +319,9 @@ fn each_call_is_done_about_powers_of_two(rt: HostRuntime) -> Result<(), Failed> 
     let heap = Refusing::new(alloc, 0);
     for (unit, lengths) in about_powers() {
         for length in lengths {
-            in_row(*length, expect_done(alloc, &heap, &[unit; 8], *length))?;
+            if let Err(failed) = expect_done(alloc, &heap, &[unit; 8], *length) {
+                return in_row(*length, Err(failed));
+            }
         }
     }
     Ok(())
@@ -335,7 +343,9 @@ fn expect_failures(
     kind: &[u16; 8],
     length: usize,
 ) -> Result<(), Failed> {
-    let sample = sample_of(alloc, heap, kind, length)?;
+    let Ok(sample) = sample_of(alloc, heap, kind, length) else {
+        return Err(Failed::by(Wrong::Memory));
+    };
     expect_refusals(heap, &sample)
 }
 
@@ -350,7 +360,9 @@ fn each_call_fails_at_each_refusal(rt: HostRuntime) -> Result<(), Failed> {
     let heap = Refusing::new(alloc, 0);
     for kind in &kinds() {
         for length in refused() {
-            in_row(length, expect_failures(alloc, &heap, kind, length))?;
+            if let Err(failed) = expect_failures(alloc, &heap, kind, length) {
+                return in_row(length, Err(failed));
+            }
         }
     }
     Ok(())

@@ -4,7 +4,7 @@ use refusing::{Lent, REFUSALS, Refusal, Refusing};
 use std::alloc::{AllocError, Allocator, Global};
 use wtf8::{Build, CodePoint, Wtf8, Wtf8Buf};
 use wtf8_tests::examples::{expect_made, joined};
-use wtf8_tests::wrong::{Failed, Wrong, expect, expect_bytes, in_row, made};
+use wtf8_tests::wrong::{Failed, Wrong, expect, expect_bytes, in_row};
 
 /// The string that the calls build, each made by the method of its name.
 fn folded(alloc: Global, calls: &[Build<'_>]) -> Result<Wtf8Buf<Global>, AllocError> {
@@ -69,7 +69,9 @@ fn extend_by<A: Allocator>(
 /// The string built by the calls before the refused one, made as methods, and, if that one is an extension, by the code
 /// points that it appended.
 fn before(alloc: Global, calls: &[Build<'_>], stop: Stop) -> Result<Wtf8Buf<Global>, AllocError> {
-    let mut text = folded(alloc, calls.get(..stop.done).unwrap_or(calls))?;
+    let Ok(mut text) = folded(alloc, calls.get(..stop.done).unwrap_or(calls)) else {
+        return Err(AllocError);
+    };
     extend_by(&mut text, calls.get(stop.done), stop.taken)?;
     Ok(text)
 }
@@ -102,12 +104,13 @@ fn expect_stop(
 fn expect_stops(alloc: Global, heap: Lent<'_>, calls: &[Build<'_>]) -> Result<(), Failed> {
     let mut row = 0usize;
     for stop in stops() {
-        in_row(
-            row,
-            expect_made(alloc, before(alloc, calls, stop), stop.dump),
-        )?;
+        if let Err(failed) = expect_made(alloc, before(alloc, calls, stop), stop.dump) {
+            return in_row(row, Err(failed));
+        }
         for refusal in REFUSALS {
-            in_row(row, expect_stop(alloc, heap, calls, stop, refusal))?;
+            if let Err(failed) = expect_stop(alloc, heap, calls, stop, refusal) {
+                return in_row(row, Err(failed));
+            }
         }
         row = row.wrapping_add(1);
     }
@@ -171,7 +174,9 @@ fn expect_every_call(alloc: Global, heap: Lent<'_>, joining: Wtf8<'_>) -> Result
 fn a_list_of_every_call_stops_at_each_request(rt: HostRuntime) -> Result<(), Failed> {
     let alloc = rt.alloc();
     let heap = Refusing::new(alloc, 0);
-    let joining = made(joined(alloc, &[0xDCA9, 0x62]))?;
+    let Ok(joining) = joined(alloc, &[0xDCA9, 0x62]) else {
+        return Err(Failed::by(Wrong::Memory));
+    };
     expect_every_call(alloc, &heap, joining.as_wtf8())
 }
 
@@ -203,7 +208,9 @@ fn expect_push_refused<A: Allocator>(
 
 /// Fails unless a list stops at a refused push, on a string without spare capacity, and leaves that unchanged.
 fn expect_push_refused_where_full(alloc: Global, heap: Lent<'_>) -> Result<(), Failed> {
-    let mut text = full(heap)?;
+    let Ok(mut text) = full(heap) else {
+        return Err(Failed::by(Wrong::Memory));
+    };
     expect_push_refused(alloc, heap, &mut text)
 }
 
@@ -227,7 +234,9 @@ fn keeps_part<A: Allocator>(text: &mut Wtf8Buf<A>, points: &[CodePoint]) -> bool
 
 /// Fails unless an extension of a string of small capacity stops, with the code points appended that fit.
 fn expect_extension_stopped(heap: Lent<'_>) -> Result<(), Failed> {
-    let mut text = made(Wtf8Buf::with_capacity(heap, 4))?;
+    let Ok(mut text) = Wtf8Buf::with_capacity(heap, 4) else {
+        return Err(Failed::by(Wrong::Memory));
+    };
     let points = [CodePoint::from_unit(0x0800); 4];
     expect(keeps_part(&mut text, &points), Wrong::Outcome)
 }

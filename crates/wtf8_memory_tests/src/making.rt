@@ -171,7 +171,9 @@ fn sample_of<'a>(
 
 /// Fails unless the row's call on a string of its units is as `expect_call` says, and leaves the string unchanged.
 fn expect_row(alloc: Global, heap: Lent<'_>, row: Row, is_refused: bool) -> Result<(), Failed> {
-    let sample = sample_of(alloc, heap, row.units)?;
+    let Ok(sample) = sample_of(alloc, heap, row.units) else {
+        return Err(Failed::by(Wrong::Memory));
+    };
     expect_call(heap, row, &sample, is_refused)?;
     expect_units(alloc, sample.text.as_wtf8(), row.units)
 }
@@ -181,7 +183,9 @@ fn expect_rows(alloc: Global, is_refused: bool) -> Result<(), Failed> {
     let heap = Refusing::new(alloc, 0);
     let mut index = 0usize;
     for row in rows() {
-        in_row(index, expect_row(alloc, &heap, row, is_refused))?;
+        if let Err(failed) = expect_row(alloc, &heap, row, is_refused) {
+            return in_row(index, Err(failed));
+        }
         index = index.wrapping_add(1);
     }
     Ok(())
@@ -199,7 +203,9 @@ fn a_making_call_fails_at_each_refusal(rt: HostRuntime) -> Result<(), Failed> {
 
 /// The capacity of a clone.
 fn cloned_capacity(text: &Wtf8Buf<Lent<'_>>) -> Result<usize, AllocError> {
-    let copy = text.clone()?;
+    let Ok(copy) = text.clone() else {
+        return Err(AllocError);
+    };
     Ok(copy.capacity())
 }
 
@@ -224,7 +230,9 @@ fn sample_of_letters<'a>(
     heap: Lent<'a>,
     letters: usize,
 ) -> Result<Sample<Lent<'a>>, AllocError> {
-    let mut sample = sample_of(alloc, heap, &[])?;
+    let Ok(mut sample) = sample_of(alloc, heap, &[]) else {
+        return Err(AllocError);
+    };
     sample.text.reserve(200)?;
     push_letters(&mut sample.text, letters)?;
     Ok(sample)
@@ -233,7 +241,9 @@ fn sample_of_letters<'a>(
 /// Fails unless a clone of a string of `letters` bytes, with a capacity of at least 200, makes one request for its
 /// bytes alone, or none if it is empty.
 fn expect_cloned(alloc: Global, heap: Lent<'_>, letters: usize) -> Result<(), Failed> {
-    let sample = sample_of_letters(alloc, heap, letters)?;
+    let Ok(sample) = sample_of_letters(alloc, heap, letters) else {
+        return Err(Failed::by(Wrong::Memory));
+    };
     expect_clone(heap, &sample, letters)
 }
 
@@ -242,7 +252,9 @@ fn a_clone_has_no_spare_capacity(rt: HostRuntime) -> Result<(), Failed> {
     let alloc = rt.alloc();
     let heap = Refusing::new(alloc, 0);
     for letters in [0, 1, 31, 32, 33, 64, 100, 199, 200] {
-        in_row(letters, expect_cloned(alloc, &heap, letters))?;
+        if let Err(failed) = expect_cloned(alloc, &heap, letters) {
+            return in_row(letters, Err(failed));
+        }
     }
     Ok(())
 }

@@ -6,7 +6,7 @@ use std::alloc::{AllocError, Allocator, Global};
 use std::borrow::CowStr;
 use wtf8::{Build, CodePoint, Wtf8, Wtf8Buf};
 use wtf8_tests::examples::{TEXT, TEXT_DUMP, expect_made, pushed};
-use wtf8_tests::wrong::{Failed, Wrong, expect, expect_bytes, in_row, made};
+use wtf8_tests::wrong::{Failed, Wrong, expect, expect_bytes, in_row};
 
 const LEAD: u16 = 0xD83D;
 
@@ -27,7 +27,9 @@ fn expect_left(heap: Lent<'_>, grants: u64, outcome: Result<(), Failed>) -> Resu
 /// An empty string with a capacity of `room` bytes, after which `grants` requests are granted.
 fn with_room(heap: Lent<'_>, room: usize, grants: u64) -> Result<Wtf8Buf<Lent<'_>>, Failed> {
     heap.grant(1);
-    let text = made(Wtf8Buf::with_capacity(heap, room))?;
+    let Ok(text) = Wtf8Buf::with_capacity(heap, room) else {
+        return Err(Failed::by(Wrong::Memory));
+    };
     heap.grant(grants);
     Ok(text)
 }
@@ -62,7 +64,9 @@ fn is_lossy_text_borrowed<A: Allocator + Drop>(heap: A, view: Wtf8<'_>, text: &s
 /// Fails unless an empty string to which nothing is appended is empty, and so are its hex dump and lossy text.
 fn expect_nothing<A: Allocator + Drop + Copy>(alloc: Global, heap: A) -> Result<(), Failed> {
     let mut text = Wtf8Buf::new(heap);
-    made(append_nothing(&mut text))?;
+    let Ok(()) = append_nothing(&mut text) else {
+        return Err(Failed::by(Wrong::Memory));
+    };
     let view = text.as_wtf8();
     expect_bytes(alloc, view, "")?;
     let has_no_texts = is_dump_empty(heap, view) && is_lossy_text_borrowed(heap, view, "");
@@ -152,7 +156,9 @@ fn expect_room_for_pair(
     grants: u64,
     is_list: bool,
 ) -> Result<(), Failed> {
-    let mut text = with_room(heap, 4, grants)?;
+    let Ok(mut text) = with_room(heap, 4, grants) else {
+        return Err(Failed::by(Wrong::Memory));
+    };
     if is_list {
         return expect_pair_list(alloc, &mut text);
     }
@@ -198,7 +204,9 @@ fn expect_each_pushed<A: Allocator>(
     text: &mut Wtf8Buf<A>,
     trail: Wtf8<'_>,
 ) -> Result<(), Failed> {
-    made(push_each(text, trail))?;
+    let Ok(()) = push_each(text, trail) else {
+        return Err(Failed::by(Wrong::Memory));
+    };
     expect_bytes(
         alloc,
         text.as_wtf8(),
@@ -239,7 +247,9 @@ fn expect_each_applied<A: Allocator>(
     let mut index = 0usize;
     for (call, is_done, dump) in applied_rows(&lead, piece) {
         let row = (Change::Apply(call), Some(is_done), dump);
-        in_row(index, expect_step(alloc, text, row))?;
+        if let Err(failed) = expect_step(alloc, text, row) {
+            return in_row(index, Err(failed));
+        }
         index = index.wrapping_add(1);
     }
     Ok(())
@@ -253,7 +263,9 @@ fn expect_room_for_piece(
     piece: Wtf8<'_>,
     is_applied: bool,
 ) -> Result<(), Failed> {
-    let mut text = with_room(heap, 20, 9)?;
+    let Ok(mut text) = with_room(heap, 20, 9) else {
+        return Err(Failed::by(Wrong::Memory));
+    };
     if is_applied {
         return expect_each_applied(alloc, &mut text, piece);
     }
@@ -289,8 +301,12 @@ fn push_text<A: Allocator>(text: &mut Wtf8Buf<A>, has_lead: bool) -> Result<(), 
 
 /// A string of `TEXT`, with a lone lead surrogate if `has_lead`, and `grants` requests granted after its allocation.
 fn text_of(heap: Lent<'_>, has_lead: bool, grants: u64) -> Result<Wtf8Buf<Lent<'_>>, Failed> {
-    let mut text = with_room(heap, 11, grants)?;
-    made(push_text(&mut text, has_lead))?;
+    let Ok(mut text) = with_room(heap, 11, grants) else {
+        return Err(Failed::by(Wrong::Memory));
+    };
+    let Ok(()) = push_text(&mut text, has_lead) else {
+        return Err(Failed::by(Wrong::Memory));
+    };
     Ok(text)
 }
 
@@ -351,7 +367,9 @@ fn expect_converted<A: Allocator + Drop>(
 /// Fails unless the string of `TEXT` is borrowed as text, and converts to an owned text; or, with a lone lead surrogate
 /// if `has_lead`, has no text, and comes back from `into_string`.
 fn expect_text(alloc: Global, heap: Lent<'_>, has_lead: bool, grants: u64) -> Result<(), Failed> {
-    let text = text_of(heap, has_lead, grants)?;
+    let Ok(text) = text_of(heap, has_lead, grants) else {
+        return Err(Failed::by(Wrong::Memory));
+    };
     if !has_texts(heap, text.as_wtf8(), has_lead) {
         return Err(Failed::by(Wrong::Outcome));
     }

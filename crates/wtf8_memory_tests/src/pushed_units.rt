@@ -6,7 +6,7 @@ use std::alloc::{AllocError, Allocator, Global};
 use wtf8::{Wtf8, Wtf8Buf};
 use wtf8_tests::examples::{expect_units, joining};
 use wtf8_tests::unit_lists::{lists, long_list};
-use wtf8_tests::wrong::{Failed, Wrong, expect, in_row, made};
+use wtf8_tests::wrong::{Failed, Wrong, expect, in_row};
 
 /// A lead and its trail, by which a split between them joins.
 const PAIR: [u16; 2] = [0xD83D, 0xDCA9];
@@ -50,9 +50,13 @@ fn with_spare<'a>(
 ) -> Result<Wtf8Buf<Lent<'a>>, Failed> {
     let capacity = byte_len(units).wrapping_add(spare);
     heap.grant(1);
-    let mut text = made(Wtf8Buf::with_capacity(heap, capacity))?;
+    let Ok(mut text) = Wtf8Buf::with_capacity(heap, capacity) else {
+        return Err(Failed::by(Wrong::Memory));
+    };
     heap.grant(0);
-    made(push_each(&mut text, units))?;
+    let Ok(()) = push_each(&mut text, units) else {
+        return Err(Failed::by(Wrong::Memory));
+    };
     Ok(text)
 }
 
@@ -71,7 +75,9 @@ fn expect_pushed(
     change: Change<'_>,
     units: &[u16],
 ) -> Result<(), Failed> {
-    let mut text = with_spare(heap, front, spare)?;
+    let Ok(mut text) = with_spare(heap, front, spare) else {
+        return Err(Failed::by(Wrong::Memory));
+    };
     let fits = growth_of(front, units) <= spare;
     let is_pushed = succeeds(&mut text, change);
     if is_pushed != fits {
@@ -104,7 +110,9 @@ fn expect_cut(
 
 /// Fails unless pushes from each index on do what `expect_cut` requires.
 fn expect_each_push(alloc: Global, heap: Lent<'_>, units: &[u16]) -> Result<(), Failed> {
-    let whole = made(Wtf8Buf::from_ill_formed_utf16(alloc, units))?;
+    let Ok(whole) = Wtf8Buf::from_ill_formed_utf16(alloc, units) else {
+        return Err(Failed::by(Wrong::Memory));
+    };
     for cut in 0..=units.len() {
         expect_cut(alloc, heap, units, whole.as_wtf8(), cut)?;
     }
@@ -113,14 +121,18 @@ fn expect_each_push(alloc: Global, heap: Lent<'_>, units: &[u16]) -> Result<(), 
 
 /// A pair, `letters` times "a", and units of each kind.
 fn around_letters(alloc: Global, letters: usize) -> Result<Vec<u16>, AllocError> {
-    let mut units = Vec::from_slice(alloc, &PAIR)?;
+    let Ok(mut units) = Vec::from_slice(alloc, &PAIR) else {
+        return Err(AllocError);
+    };
     units.extend_from_slice(&long_list(alloc, letters)?)?;
     Ok(units)
 }
 
 /// Fails unless `expect_each_push` succeeds for `letters` times "a" among other units.
 fn expect_letters(alloc: Global, heap: Lent<'_>, letters: usize) -> Result<(), Failed> {
-    let units = made(around_letters(alloc, letters))?;
+    let Ok(units) = around_letters(alloc, letters) else {
+        return Err(Failed::by(Wrong::Memory));
+    };
     expect_each_push(alloc, heap, &units)
 }
 
@@ -128,11 +140,15 @@ fn expect_letters(alloc: Global, heap: Lent<'_>, letters: usize) -> Result<(), F
 fn expect_tables(alloc: Global, heap: Lent<'_>) -> Result<(), Failed> {
     let mut row = 0usize;
     for (units, _, _) in joining() {
-        in_row(row, expect_each_push(alloc, heap, units))?;
+        if let Err(failed) = expect_each_push(alloc, heap, units) {
+            return in_row(row, Err(failed));
+        }
         row = row.wrapping_add(1);
     }
     for units in lists() {
-        in_row(row, expect_each_push(alloc, heap, units))?;
+        if let Err(failed) = expect_each_push(alloc, heap, units) {
+            return in_row(row, Err(failed));
+        }
         row = row.wrapping_add(1);
     }
     in_row(row, expect_each_push(alloc, heap, &WIDE))
@@ -144,7 +160,9 @@ fn units_are_pushed_without_a_request_just_if_they_fit(rt: HostRuntime) -> Resul
     let heap = Refusing::new(alloc, 0);
     expect_tables(alloc, &heap)?;
     for letters in [7, 8, 9, 16, 17, 32, 33, 40] {
-        in_row(letters, expect_letters(alloc, &heap, letters))?;
+        if let Err(failed) = expect_letters(alloc, &heap, letters) {
+            return in_row(letters, Err(failed));
+        }
     }
     Ok(())
 }
@@ -256,8 +274,12 @@ fn a_push_of_units_fails_at_each_refusal_and_changes_nothing(
     let heap = Refusing::new(alloc, 0);
     let mut index = 0usize;
     for row in rows() {
-        in_row(index, expect_row(alloc, &heap, row, true))?;
-        in_row(index, expect_row(alloc, &heap, row, false))?;
+        if let Err(failed) = expect_row(alloc, &heap, row, true) {
+            return in_row(index, Err(failed));
+        }
+        if let Err(failed) = expect_row(alloc, &heap, row, false) {
+            return in_row(index, Err(failed));
+        }
         index = index.wrapping_add(1);
     }
     Ok(())

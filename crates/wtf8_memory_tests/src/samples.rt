@@ -16,7 +16,9 @@ pub struct Sample<A: Allocator> {
 
 /// The string of these units, with 64 more bytes reserved.
 fn text_of<A: Allocator + Drop>(heap: A, units: &[u16]) -> Result<Wtf8Buf<A>, AllocError> {
-    let mut text = Wtf8Buf::from_ill_formed_utf16(heap, units)?;
+    let Ok(mut text) = Wtf8Buf::from_ill_formed_utf16(heap, units) else {
+        return Err(AllocError);
+    };
     text.reserve(64)?;
     Ok(text)
 }
@@ -27,8 +29,12 @@ pub fn sample_with<A: Allocator + Drop>(
     heap: A,
     units: Vec<u16>,
 ) -> Result<Sample<A>, AllocError> {
-    let points = points_of_units(alloc, &units)?;
-    let text = text_of(heap, &units)?;
+    let Ok(points) = points_of_units(alloc, &units) else {
+        return Err(AllocError);
+    };
+    let Ok(text) = text_of(heap, &units) else {
+        return Err(AllocError);
+    };
     Ok(Sample {
         units,
         points,

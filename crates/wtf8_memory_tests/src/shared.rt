@@ -2,19 +2,23 @@
 use refusing::{Lent, Refusal};
 use std::alloc::{AllocError, Allocator, Global};
 use wtf8::{Build, CodePoint, UnitSlice, Wtf8Buf};
-use wtf8_tests::wrong::{Failed, Wrong, expect, expect_bytes, in_row, made};
+use wtf8_tests::wrong::{Failed, Wrong, expect, expect_bytes, in_row};
 
 /// The bytes of "a" and D83D.
 pub const FULL: &str = "61 ED A0 BD";
 
 /// A string of "a" and D83D with a capacity of `capacity` bytes.
 pub fn filled<A: Allocator + Drop>(alloc: A, capacity: usize) -> Result<Wtf8Buf<A>, Failed> {
-    let mut text = made(Wtf8Buf::with_capacity(alloc, capacity))?;
+    let Ok(mut text) = Wtf8Buf::with_capacity(alloc, capacity) else {
+        return Err(Failed::by(Wrong::Memory));
+    };
     let calls = [
         Build::PushChar('a'),
         Build::Push(CodePoint::from_unit(0xD83D)),
     ];
-    made(call_each(&mut text, &calls))?;
+    let Ok(()) = call_each(&mut text, &calls) else {
+        return Err(Failed::by(Wrong::Memory));
+    };
     Ok(text)
 }
 
@@ -147,7 +151,9 @@ pub fn expect_steps<A: Allocator>(
 ) -> Result<(), Failed> {
     let mut index = 0usize;
     for row in rows {
-        in_row(index, expect_step(alloc, text, *row))?;
+        if let Err(failed) = expect_step(alloc, text, *row) {
+            return in_row(index, Err(failed));
+        }
         index = index.wrapping_add(1);
     }
     Ok(())
@@ -205,7 +211,9 @@ pub fn expect_requests(
     requests: Requests,
     dump: &str,
 ) -> Result<(), Failed> {
-    let mut text = full(heap)?;
+    let Ok(mut text) = full(heap) else {
+        return Err(Failed::by(Wrong::Memory));
+    };
     heap.refuse_after(requests.granted, requests.refusal);
     let is_changed = succeeds(&mut text, change);
     if !requests.are_made(heap, is_changed) {

@@ -7,9 +7,15 @@ use wtf8_uses::{appending, joining, refusals};
 
 /// Appends the two surrogates of the pair, and then nothing.
 fn append_halves(alloc: Global, text: &mut Wtf8Buf<Global>) -> Result<(), Failed> {
-    let lead = string_of(alloc, &[LEAD])?;
-    let trail = string_of(alloc, &[TRAIL])?;
-    made(refusals::push_both(text, lead.as_wtf8(), trail.as_wtf8()))?;
+    let Ok(lead) = string_of(alloc, &[LEAD]) else {
+        return Err(Failed::by(Wrong::Memory));
+    };
+    let Ok(trail) = string_of(alloc, &[TRAIL]) else {
+        return Err(Failed::by(Wrong::Memory));
+    };
+    let Ok(()) = refusals::push_both(text, lead.as_wtf8(), trail.as_wtf8()) else {
+        return Err(Failed::by(Wrong::Memory));
+    };
     made(appending::push_nothing(text))
 }
 
@@ -32,7 +38,9 @@ fn expect_halves_appended(alloc: Global, text: &mut Wtf8Buf<Global>) -> Result<(
 #[test]
 fn a_pair_is_appended_by_its_halves(rt: HostRuntime) -> Result<(), Failed> {
     let alloc = rt.alloc();
-    let mut text = made(Wtf8Buf::from_str(alloc, "a"))?;
+    let Ok(mut text) = Wtf8Buf::from_str(alloc, "a") else {
+        return Err(Failed::by(Wrong::Memory));
+    };
     expect_halves_appended(alloc, &mut text)
 }
 
@@ -43,13 +51,17 @@ fn expect_appended(
     other: &Wtf8Buf<Global>,
     dump: &str,
 ) -> Result<(), Failed> {
-    made(appending::append_string(string, other))?;
+    let Ok(()) = appending::append_string(string, other) else {
+        return Err(Failed::by(Wrong::Memory));
+    };
     expect_bytes(alloc, string.as_wtf8(), dump)
 }
 
 /// Appends a trail and "a" twice. Fails unless the bytes are right each time.
 fn expect_appended_twice(alloc: Global, string: &mut Wtf8Buf<Global>) -> Result<(), Failed> {
-    let other = string_of(alloc, &[TRAIL, 0x0061])?;
+    let Ok(other) = string_of(alloc, &[TRAIL, 0x0061]) else {
+        return Err(Failed::by(Wrong::Memory));
+    };
     expect_appended(alloc, string, &other, "F0 9F 92 A9 61")?;
     expect_appended(alloc, string, &other, "F0 9F 92 A9 61 ED B2 A9 61")
 }
@@ -57,7 +69,9 @@ fn expect_appended_twice(alloc: Global, string: &mut Wtf8Buf<Global>) -> Result<
 #[test]
 fn a_string_is_appended_to_another(rt: HostRuntime) -> Result<(), Failed> {
     let alloc = rt.alloc();
-    let mut string = string_of(alloc, &[LEAD])?;
+    let Ok(mut string) = string_of(alloc, &[LEAD]) else {
+        return Err(Failed::by(Wrong::Memory));
+    };
     expect_appended_twice(alloc, &mut string)
 }
 

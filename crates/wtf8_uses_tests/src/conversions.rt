@@ -3,7 +3,7 @@ use crate::shared::{LEAD, TRAIL, string_of};
 use refusing::Refusing;
 use std::alloc::{AllocError, Allocator, Global};
 use wtf8::Wtf8;
-use wtf8_tests::wrong::{Failed, Wrong, expect, in_row, made};
+use wtf8_tests::wrong::{Failed, Wrong, expect, in_row};
 use wtf8_uses::ascii_case::eq_ignore_ascii_case;
 use wtf8_uses::environment::{Variable, environment_block};
 use wtf8_uses::json::{append_json_bytes, append_json_text, json_text};
@@ -11,7 +11,9 @@ use wtf8_uses::{round_trips, units, well_formed};
 
 /// Fails unless `units_round_trip` returns the units of `list`.
 fn expect_units_again(alloc: Global, list: &[u16]) -> Result<(), Failed> {
-    let again = made(round_trips::units_round_trip(alloc, list))?;
+    let Ok(again) = round_trips::units_round_trip(alloc, list) else {
+        return Err(Failed::by(Wrong::Memory));
+    };
     expect(again.as_slice() == list, Wrong::Units)
 }
 
@@ -25,7 +27,9 @@ fn comes_back(owned: String, text: &str) -> bool {
 
 /// Fails unless `text_round_trip` and `string_round_trip` return `text`.
 fn expect_text_again(alloc: Global, text: &str) -> Result<(), Failed> {
-    let owned = made(String::from_str(alloc, text))?;
+    let Ok(owned) = String::from_str(alloc, text) else {
+        return Err(Failed::by(Wrong::Memory));
+    };
     let is_same = round_trips::text_round_trip(text) == Some(text);
     expect(comes_back(owned, text) && is_same, Wrong::Bytes)
 }
@@ -65,14 +69,18 @@ fn units_are_counted() -> Result<(), Failed> {
 
 /// Fails unless the well-formed text of `broken` is `text`.
 fn expect_mended(alloc: Global, broken: Wtf8<'_>, text: &str) -> Result<(), Failed> {
-    let mended = made(well_formed::well_formed_text(alloc, broken))?;
+    let Ok(mended) = well_formed::well_formed_text(alloc, broken) else {
+        return Err(Failed::by(Wrong::Memory));
+    };
     expect(mended.as_str() == text, Wrong::Bytes)
 }
 
 #[test]
 fn lone_surrogates_are_mended(rt: HostRuntime) -> Result<(), Failed> {
     let alloc = rt.alloc();
-    let broken = string_of(alloc, &[0x0061, TRAIL, LEAD, TRAIL])?;
+    let Ok(broken) = string_of(alloc, &[0x0061, TRAIL, LEAD, TRAIL]) else {
+        return Err(Failed::by(Wrong::Memory));
+    };
     expect_mended(alloc, broken.as_wtf8(), "a\u{FFFD}💩")
 }
 
@@ -106,15 +114,21 @@ fn json_rows() -> [(&'static [u16], &'static str); 6] {
 /// Fails unless the JSON text is `text`, and the one of "a" and a tab is appended to it.
 fn expect_appended<A: Allocator>(json: &mut String<A>, text: &str) -> Result<(), Failed> {
     expect(json.as_str() == text, Wrong::Bytes)?;
-    made(append_json_text(json, Wtf8::from_str("a\t")))?;
+    let Ok(()) = append_json_text(json, Wtf8::from_str("a\t")) else {
+        return Err(Failed::by(Wrong::Memory));
+    };
     let is_appended = json.as_str().strip_prefix(text) == Some("\"a\\t\"");
     expect(is_appended, Wrong::Bytes)
 }
 
 /// Fails unless the JSON text of the string of `units` is `text`, to which another one can be appended.
 fn expect_json(alloc: Global, units: &[u16], text: &str) -> Result<(), Failed> {
-    let string = string_of(alloc, units)?;
-    let mut json = made(json_text(alloc, string.as_wtf8()))?;
+    let Ok(string) = string_of(alloc, units) else {
+        return Err(Failed::by(Wrong::Memory));
+    };
+    let Ok(mut json) = json_text(alloc, string.as_wtf8()) else {
+        return Err(Failed::by(Wrong::Memory));
+    };
     expect_appended(&mut json, text)
 }
 
@@ -129,8 +143,12 @@ fn is_appended(alloc: Global, string: Wtf8<'_>, text: &str) -> Result<bool, Allo
 #[test]
 fn json_bytes_follow_others(rt: HostRuntime) -> Result<(), Failed> {
     let alloc = rt.alloc();
-    let string = string_of(alloc, &[0x0061, LEAD, 0x00E9])?;
-    let is_there = made(is_appended(alloc, string.as_wtf8(), "\"a\\ud83dé\""))?;
+    let Ok(string) = string_of(alloc, &[0x0061, LEAD, 0x00E9]) else {
+        return Err(Failed::by(Wrong::Memory));
+    };
+    let Ok(is_there) = is_appended(alloc, string.as_wtf8(), "\"a\\ud83dé\"") else {
+        return Err(Failed::by(Wrong::Memory));
+    };
     expect(is_there, Wrong::Bytes)
 }
 
@@ -157,7 +175,9 @@ fn expect_kept_in_bytes<B: Allocator>(
 #[test]
 fn refused_json_bytes_are_left_out(rt: HostRuntime) -> Result<(), Failed> {
     let heap = Refusing::new(rt.alloc(), 1);
-    let mut out = made(Vec::from_slice(&heap, &[0x2C]))?;
+    let Ok(mut out) = Vec::from_slice(&heap, &[0x2C]) else {
+        return Err(Failed::by(Wrong::Memory));
+    };
     expect_kept_in_bytes(&heap, &mut out)
 }
 
@@ -168,7 +188,9 @@ fn is_kept<A: Allocator>(json: &mut String<A>, string: Wtf8<'_>) -> bool {
 
 /// Fails unless JSON text of the string is refused, after "ab", at the request after the one that is granted.
 fn expect_cut_off(heap: &Refusing<Global>, string: Wtf8<'_>) -> Result<(), Failed> {
-    let mut json = made(String::from_str(heap, "ab"))?;
+    let Ok(mut json) = String::from_str(heap, "ab") else {
+        return Err(Failed::by(Wrong::Memory));
+    };
     heap.grant(1);
     let is_cut_off = is_kept(&mut json, string) && heap.grants_left() == 0;
     expect(is_cut_off, Wrong::Outcome)
@@ -177,7 +199,9 @@ fn expect_cut_off(heap: &Refusing<Global>, string: Wtf8<'_>) -> Result<(), Faile
 #[test]
 fn refused_json_text_is_cut_off(rt: HostRuntime) -> Result<(), Failed> {
     let alloc = rt.alloc();
-    let string = string_of(alloc, &[0x001F; 40])?;
+    let Ok(string) = string_of(alloc, &[0x001F; 40]) else {
+        return Err(Failed::by(Wrong::Memory));
+    };
     let heap = Refusing::new(alloc, 1);
     expect_cut_off(&heap, string.as_wtf8())
 }
@@ -187,7 +211,9 @@ fn json_texts_are_those_of_an_engine(rt: HostRuntime) -> Result<(), Failed> {
     let alloc = rt.alloc();
     let mut row = 0usize;
     for (units, text) in json_rows() {
-        in_row(row, expect_json(alloc, units, text))?;
+        if let Err(failed) = expect_json(alloc, units, text) {
+            return in_row(row, Err(failed));
+        }
         row = row.wrapping_add(1);
     }
     Ok(())
@@ -195,7 +221,9 @@ fn json_texts_are_those_of_an_engine(rt: HostRuntime) -> Result<(), Failed> {
 
 /// Fails unless the block of the variables has `units`.
 fn expect_block(alloc: Global, variables: &[Variable<'_>], units: &[u16]) -> Result<(), Failed> {
-    let block = made(environment_block(alloc, variables))?;
+    let Ok(block) = environment_block(alloc, variables) else {
+        return Err(Failed::by(Wrong::Memory));
+    };
     expect(block.as_slice() == units, Wrong::Units)
 }
 
@@ -221,7 +249,9 @@ fn expect_blocks(alloc: Global, value: Wtf8<'_>) -> Result<(), Failed> {
 #[test]
 fn an_environment_is_one_block(rt: HostRuntime) -> Result<(), Failed> {
     let alloc = rt.alloc();
-    let value = string_of(alloc, &[LEAD, 0x003D])?;
+    let Ok(value) = string_of(alloc, &[LEAD, 0x003D]) else {
+        return Err(Failed::by(Wrong::Memory));
+    };
     expect_blocks(alloc, value.as_wtf8())
 }
 
@@ -238,7 +268,9 @@ fn cases() -> [(&'static str, &'static str, bool); 5] {
 
 /// Fails unless `is_equal` says whether `text` equals the string of `units` if the case of ASCII letters is ignored.
 fn expect_case(alloc: Global, text: Wtf8<'_>, units: &[u16], is_equal: bool) -> Result<(), Failed> {
-    let other = string_of(alloc, units)?;
+    let Ok(other) = string_of(alloc, units) else {
+        return Err(Failed::by(Wrong::Memory));
+    };
     let is_found = eq_ignore_ascii_case(text, other.as_wtf8());
     expect(is_found == is_equal, Wrong::Outcome)
 }
@@ -248,7 +280,9 @@ fn expect_cases() -> Result<(), Failed> {
     let mut row = 0usize;
     for (text, other, is_equal) in cases() {
         let found = eq_ignore_ascii_case(Wtf8::from_str(text), Wtf8::from_str(other));
-        in_row(row, expect(found == is_equal, Wrong::Outcome))?;
+        if let Err(failed) = expect(found == is_equal, Wrong::Outcome) {
+            return in_row(row, Err(failed));
+        }
         row = row.wrapping_add(1);
     }
     Ok(())
@@ -264,6 +298,8 @@ fn expect_capital(alloc: Global, capital: Wtf8<'_>) -> Result<(), Failed> {
 fn ascii_letters_are_equal_in_both_cases(rt: HostRuntime) -> Result<(), Failed> {
     let alloc = rt.alloc();
     expect_cases()?;
-    let capital = string_of(alloc, &[0x0041, LEAD])?;
+    let Ok(capital) = string_of(alloc, &[0x0041, LEAD]) else {
+        return Err(Failed::by(Wrong::Memory));
+    };
     expect_capital(alloc, capital.as_wtf8())
 }

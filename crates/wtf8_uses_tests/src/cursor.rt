@@ -35,7 +35,9 @@ fn rows() -> [Row; 7] {
 fn places_are_at_boundaries() -> Result<(), Failed> {
     for (position, place) in rows() {
         let is_there = moved(position) == place;
-        in_row(position, expect(is_there, Wrong::Outcome))?;
+        if let Err(failed) = expect(is_there, Wrong::Outcome) {
+            return in_row(position, Err(failed));
+        }
     }
     Ok(())
 }
@@ -49,7 +51,9 @@ fn comes_back(text: Wtf8<'_>, position: usize) -> bool {
 fn boundaries_are_found_again() -> Result<(), Failed> {
     for position in [0, 1, 5, 7] {
         let is_found = comes_back(Wtf8::from_str(TEXT), position);
-        in_row(position, expect(is_found, Wrong::Outcome))?;
+        if let Err(failed) = expect(is_found, Wrong::Outcome) {
+            return in_row(position, Err(failed));
+        }
     }
     Ok(())
 }

@@ -2,12 +2,14 @@
 use crate::shared::{LEAD, string_of};
 use std::alloc::Global;
 use wtf8::Wtf8;
-use wtf8_tests::wrong::{Failed, Wrong, expect, expect_bytes, in_row, made};
+use wtf8_tests::wrong::{Failed, Wrong, expect, expect_bytes, in_row};
 use wtf8_uses::interner::Interner;
 
 /// Fails unless the interner returns `number` for `string`.
 fn expect_number(interner: &mut Interner, string: Wtf8<'_>, number: usize) -> Result<(), Failed> {
-    let found = made(interner.number(string))?;
+    let Ok(found) = interner.number(string) else {
+        return Err(Failed::by(Wrong::Memory));
+    };
     expect(found == number, Wrong::Outcome)
 }
 
@@ -32,7 +34,9 @@ fn expect_numbers(interner: &mut Interner, first: Wtf8<'_>) -> Result<(), Failed
         expect_number(interner, first, 0)?;
         for (text, number) in [("", 1), ("Aa", 2), ("BB", 3)] {
             let outcome = expect_number(interner, Wtf8::from_str(text), number);
-            in_row(number, outcome)?;
+            if let Err(failed) = outcome {
+                return in_row(number, Err(failed));
+            }
         }
     }
     expect(interner.len() == 4, Wrong::Outcome)
@@ -53,7 +57,9 @@ fn dumps() -> [Option<&'static str>; 5] {
 fn expect_strings(alloc: Global, interner: &Interner) -> Result<(), Failed> {
     let mut number = 0usize;
     for dump in dumps() {
-        in_row(number, expect_string(alloc, interner, number, dump))?;
+        if let Err(failed) = expect_string(alloc, interner, number, dump) {
+            return in_row(number, Err(failed));
+        }
         number = number.wrapping_add(1);
     }
     Ok(())
@@ -69,6 +75,8 @@ fn expect_interned(alloc: Global, first: Wtf8<'_>) -> Result<(), Failed> {
 #[test]
 fn a_string_keeps_its_number(rt: HostRuntime) -> Result<(), Failed> {
     let alloc = rt.alloc();
-    let first = string_of(alloc, &[LEAD])?;
+    let Ok(first) = string_of(alloc, &[LEAD]) else {
+        return Err(Failed::by(Wrong::Memory));
+    };
     expect_interned(alloc, first.as_wtf8())
 }

@@ -100,7 +100,9 @@ fn expect_all_read(alloc: Global) -> Result<(), Failed> {
     let mut row = 0usize;
     for (text, units, rest) in strings() {
         let is_read = is_read(alloc, Wtf8::from_str(text), units, rest);
-        in_row(row, expect(is_read, Wrong::Outcome))?;
+        if let Err(failed) = expect(is_read, Wrong::Outcome) {
+            return in_row(row, Err(failed));
+        }
         row = row.wrapping_add(1);
     }
     Ok(())
@@ -110,7 +112,9 @@ fn expect_all_read(alloc: Global) -> Result<(), Failed> {
 fn strings_are_read_as_an_engine_does(rt: HostRuntime) -> Result<(), Failed> {
     let alloc = rt.alloc();
     expect_all_read(alloc)?;
-    let lone = string_of(alloc, &[0x0022, TRAIL, LEAD, 0x0022])?;
+    let Ok(lone) = string_of(alloc, &[0x0022, TRAIL, LEAD, 0x0022]) else {
+        return Err(Failed::by(Wrong::Memory));
+    };
     let is_read = is_read(alloc, lone.as_wtf8(), &[TRAIL, LEAD], "");
     expect(is_read, Wrong::Outcome)
 }
@@ -121,7 +125,9 @@ fn malformed_strings_are_refused(rt: HostRuntime) -> Result<(), Failed> {
     let mut row = 0usize;
     for (text, position, cause) in malformed() {
         let is_refused = is_refused(alloc, text, position, cause);
-        in_row(row, expect(is_refused, Wrong::Outcome))?;
+        if let Err(failed) = expect(is_refused, Wrong::Outcome) {
+            return in_row(row, Err(failed));
+        }
         row = row.wrapping_add(1);
     }
     Ok(())

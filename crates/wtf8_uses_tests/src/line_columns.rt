@@ -2,7 +2,7 @@
 use refusing::Refusing;
 use std::alloc::{AllocError, Allocator, Global};
 use wtf8::Wtf8;
-use wtf8_tests::wrong::{Failed, Wrong, expect, made};
+use wtf8_tests::wrong::{Failed, Wrong, expect};
 use wtf8_uses::line_columns::{LineColumns, line_column_at, lines_of, mark_at_column};
 
 /// In bytes 61 0A, F0 9F 92 A9 62 0A, 0A and C3 A9. The second line begins with a surrogate pair.
@@ -78,7 +78,9 @@ fn is_mapped(alloc: Global) -> Result<bool, AllocError> {
 
 #[test]
 fn columns_count_units(rt: HostRuntime) -> Result<(), Failed> {
-    let is_mapped = made(is_mapped(rt.alloc()))?;
+    let Ok(is_mapped) = is_mapped(rt.alloc()) else {
+        return Err(Failed::by(Wrong::Memory));
+    };
     expect(is_mapped, Wrong::Outcome)
 }
 

@@ -100,7 +100,9 @@ fn pieces_of_any_size_are_one_input(rt: HostRuntime) -> Result<(), Failed> {
     let alloc = rt.alloc();
     let mut row = 0usize;
     for (bytes, expected) in rows() {
-        in_row(row, expect_read_in_pieces(alloc, bytes, expected))?;
+        if let Err(failed) = expect_read_in_pieces(alloc, bytes, expected) {
+            return in_row(row, Err(failed));
+        }
         row = row.wrapping_add(1);
     }
     Ok(())
@@ -160,7 +162,9 @@ fn expect_all_handed_on(
 ) -> Result<(), Failed> {
     let mut index = 0usize;
     for row in failing_rows() {
-        in_row(index, expect_handed_on(alloc, error, number, row))?;
+        if let Err(failed) = expect_handed_on(alloc, error, number, row) {
+            return in_row(index, Err(failed));
+        }
         index = index.wrapping_add(1);
     }
     Ok(())

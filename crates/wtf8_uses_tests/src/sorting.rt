@@ -7,7 +7,7 @@ use std::alloc::{AllocError, Global};
 use std::collections::HashMap;
 use std::hash::{BuildHasherDefault, FoldHasher};
 use wtf8::{Wtf8, Wtf8Buf};
-use wtf8_tests::wrong::{Failed, Wrong, expect, expect_bytes, in_row, made};
+use wtf8_tests::wrong::{Failed, Wrong, expect, expect_bytes, in_row};
 use wtf8_uses::{joining, maps, sorting, table};
 
 /// The bytes of U+E000 and U+10000, in code point order. By code units the order is the other way round.
@@ -28,10 +28,14 @@ fn sorted_views<'a>(
 
 /// Fails unless the two views, sorted, have the bytes of `IN_ORDER`.
 fn expect_sorted(alloc: Global, first: Wtf8<'_>, second: Wtf8<'_>) -> Result<(), Failed> {
-    let views = made(sorted_views(alloc, first, second))?;
+    let Ok(views) = sorted_views(alloc, first, second) else {
+        return Err(Failed::by(Wrong::Memory));
+    };
     let mut row = 0usize;
     for (view, dump) in views.iter().zip(IN_ORDER) {
-        in_row(row, expect_bytes(alloc, *view, dump))?;
+        if let Err(failed) = expect_bytes(alloc, *view, dump) {
+            return in_row(row, Err(failed));
+        }
         row = row.wrapping_add(1);
     }
     Ok(())
@@ -40,8 +44,12 @@ fn expect_sorted(alloc: Global, first: Wtf8<'_>, second: Wtf8<'_>) -> Result<(),
 #[test]
 fn views_are_sorted(rt: HostRuntime) -> Result<(), Failed> {
     let alloc = rt.alloc();
-    let first = string_of(alloc, &[0xD800, 0xDC00])?;
-    let second = string_of(alloc, &[0xE000])?;
+    let Ok(first) = string_of(alloc, &[0xD800, 0xDC00]) else {
+        return Err(Failed::by(Wrong::Memory));
+    };
+    let Ok(second) = string_of(alloc, &[0xE000]) else {
+        return Err(Failed::by(Wrong::Memory));
+    };
     expect_sorted(alloc, first.as_wtf8(), second.as_wtf8())
 }
 
@@ -70,7 +78,9 @@ fn sorted(alloc: Global) -> Result<Vec<Wtf8Buf<Global>>, AllocError>
 fn expect_strings(alloc: Global, strings: &[Wtf8Buf<Global>]) -> Result<(), Failed> {
     let mut row = 0usize;
     for (string, dump) in strings.iter().zip(IN_ORDER) {
-        in_row(row, expect_bytes(alloc, string.as_wtf8(), dump))?;
+        if let Err(failed) = expect_bytes(alloc, string.as_wtf8(), dump) {
+            return in_row(row, Err(failed));
+        }
         row = row.wrapping_add(1);
     }
     Ok(())
@@ -85,7 +95,9 @@ fn expect_index(
 ) -> Result<(), Failed>
     requires { AreInPointOrder table.now }
 {
-    let string = string_of(alloc, units)?;
+    let Ok(string) = string_of(alloc, units) else {
+        return Err(Failed::by(Wrong::Memory));
+    };
     let by_view = table::search_table_for_view(table, string.as_wtf8());
     let is_found = table::search_table(table, &string) == index && by_view == index;
     expect(is_found, Wrong::Outcome)
@@ -132,7 +144,9 @@ fn are_texts(strings: &[Wtf8Buf<Global>], texts: &[&str]) -> bool {
 
 #[test]
 fn repeated_strings_are_dropped(rt: HostRuntime) -> Result<(), Failed> {
-    let mut strings = made(strings_of(rt.alloc(), &["b", "b", "a", "", "", "", "b"]))?;
+    let Ok(mut strings) = strings_of(rt.alloc(), &["b", "b", "a", "", "", "", "b"]) else {
+        return Err(Failed::by(Wrong::Memory));
+    };
     sorting::drop_repeated(&mut strings);
     expect(are_texts(&strings, &["b", "a", "", "b"]), Wrong::Bytes)
 }
@@ -154,8 +168,12 @@ fn are_alike(same: &Wtf8Buf<Global>) -> bool {
 #[test]
 fn a_map_finds_equal_strings(rt: HostRuntime) -> Result<(), Failed> {
     let alloc = rt.alloc();
-    let same = made(Wtf8Buf::from_str(alloc, "💩"))?;
+    let Ok(same) = Wtf8Buf::from_str(alloc, "💩") else {
+        return Err(Failed::by(Wrong::Memory));
+    };
     expect(are_alike(&same), Wrong::Outcome)?;
-    let is_found = made(is_found(alloc, &same))?;
+    let Ok(is_found) = is_found(alloc, &same) else {
+        return Err(Failed::by(Wrong::Memory));
+    };
     expect(is_found, Wrong::Outcome)
 }
