@@ -104,7 +104,9 @@ impl Machine {
     fn push_units_of(&mut self, at: Register, tape: &mut Tape<'_>) -> Result<(), Stop> {
         let other = tape.reader.register()?;
         let mut units = Vec::new(tape.alloc);
-        allocated(self.view(other).append_units(&mut units))?;
+        let Ok(()) = self.view(other).append_units(&mut units) else {
+            return Err(Stop::Memory);
+        };
         allocated(self.strings[at.index].push_ill_formed_utf16(units.as_slice()))
     }
 
@@ -149,7 +151,9 @@ impl Machine {
 /// `with_capacity`: writes whether the capacity is at least the requested one.
 fn with_capacity(tape: &mut Tape<'_>) -> Result<Wtf8Buf<Global>, Stop> {
     let capacity = tape.reader.number()?;
-    let string = allocated(Wtf8Buf::with_capacity(tape.alloc, capacity))?;
+    let Ok(string) = Wtf8Buf::with_capacity(tape.alloc, capacity) else {
+        return Err(Stop::Memory);
+    };
     tape.write_room(string.capacity() - string.len(), capacity)?;
     Ok(string)
 }
@@ -157,7 +161,9 @@ fn with_capacity(tape: &mut Tape<'_>) -> Result<Wtf8Buf<Global>, Stop> {
 /// `from_string`.
 fn from_string(tape: &mut Tape<'_>) -> Result<Wtf8Buf<Global>, Stop> {
     let text = tape.reader.text()?;
-    let text = allocated(String::from_str(tape.alloc, text))?;
+    let Ok(text) = String::from_str(tape.alloc, text) else {
+        return Err(Stop::Memory);
+    };
     Ok(Wtf8Buf::from_string(text))
 }
 
@@ -188,14 +194,18 @@ pub fn with_view<A: Allocator + Drop>(
     view: Wtf8<'_>,
 ) -> Result<Wtf8Buf<A>, Stop> {
     let mut string = string;
-    allocated(string.push_wtf8(view))?;
+    let Ok(()) = string.push_wtf8(view) else {
+        return Err(Stop::Memory);
+    };
     Ok(string)
 }
 
 /// `reserve`: writes whether the spare capacity is at least the requested one.
 fn reserve(string: &mut Wtf8Buf<Global>, tape: &mut Tape<'_>) -> Result<(), Stop> {
     let additional = tape.reader.number()?;
-    allocated(string.reserve(additional))?;
+    let Ok(()) = string.reserve(additional) else {
+        return Err(Stop::Memory);
+    };
     tape.write_room(string.capacity() - string.len(), additional)
 }
 

@@ -14,7 +14,9 @@ pub fn write_units_at(tape: &mut Tape<'_>, text: &UnitText<Global>) -> Result<()
 /// `split`: writes the number of pieces, then one piece a line.
 pub fn write_pieces(tape: &mut Tape<'_>, text: &UnitText<Global>) -> Result<(), Stop> {
     let separator = tape.reader.unit()?;
-    let pieces = allocated(split(tape.alloc, text, separator))?;
+    let Ok(pieces) = split(tape.alloc, text, separator) else {
+        return Err(Stop::Memory);
+    };
     writeln!(tape, "{} pieces", pieces.len())?;
     for piece in pieces.iter() {
         tape.write_units(piece)?;

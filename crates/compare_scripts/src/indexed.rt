@@ -122,7 +122,9 @@ impl Machine {
 /// `with_capacity`: writes whether the capacity is at least the requested one.
 fn with_capacity(tape: &mut Tape<'_>) -> Result<IndexedBuf<Global>, Stop> {
     let capacity = tape.reader.number()?;
-    let string = allocated(IndexedBuf::with_capacity(tape.alloc, capacity))?;
+    let Ok(string) = IndexedBuf::with_capacity(tape.alloc, capacity) else {
+        return Err(Stop::Memory);
+    };
     tape.write_room(string.capacity() - string.as_wtf8().len(), capacity)?;
     Ok(string)
 }
@@ -153,7 +155,9 @@ fn append(
 /// `reserve`: writes whether the spare capacity is at least the requested one.
 fn reserve(string: &mut IndexedBuf<Global>, tape: &mut Tape<'_>) -> Result<(), Stop> {
     let additional = tape.reader.number()?;
-    allocated(string.reserve(additional))?;
+    let Ok(()) = string.reserve(additional) else {
+        return Err(Stop::Memory);
+    };
     tape.write_room(string.capacity() - string.as_wtf8().len(), additional)
 }
 
@@ -234,8 +238,12 @@ fn write_copied_units(tape: &mut Tape<'_>, string: &IndexedBuf<Global>) -> Resul
         return Err(Stop::Refused);
     }
     let mut units = Vec::new(tape.alloc);
-    allocated(units.resize(end - begin, 0))?;
-    allocated(units.extend_from_slice(after.as_slice()))?;
+    let Ok(()) = units.resize(end - begin, 0) else {
+        return Err(Stop::Memory);
+    };
+    let Ok(()) = units.extend_from_slice(after.as_slice()) else {
+        return Err(Stop::Memory);
+    };
     if units.len() < end - begin {
         return Err(Stop::Refused);
     }
@@ -266,6 +274,8 @@ fn write_position(tape: &mut Tape<'_>, string: &IndexedBuf<Global>) -> Result<()
 
 /// Writes the bytes of the debug text.
 fn write_debug_text(tape: &mut Tape<'_>, string: &IndexedBuf<Global>) -> Result<(), Stop> {
-    let text = allocated(format!(in tape.alloc; "{string:?}"))?;
+    let Ok(text) = format!(in tape.alloc; "{string:?}") else {
+        return Err(Stop::Memory);
+    };
     tape.write_text("indexed", text.as_str())
 }

@@ -55,7 +55,9 @@ fn write_step_of_clone<T: Shown, I: Iterator<Item = T> + Clone>(
 ) -> Result<(), Stop>
     requires { (state : I) → I.can_next state × IsFinite (I.remaining state) }
 {
-    let items = allocated(items.clone())?;
+    let Ok(items) = items.clone() else {
+        return Err(Stop::Memory);
+    };
     match step {
         CloneStep::Drain => drain(tape, items),
         CloneStep::Last => tape.write_item(items.last(), END),

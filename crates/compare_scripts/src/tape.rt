@@ -67,7 +67,9 @@ impl<'s> Tape<'s> {
         if self.is_silent {
             return Ok(());
         }
-        let dump = allocated(Wtf8::from_str(text).hex_dump(self.alloc))?;
+        let Ok(dump) = Wtf8::from_str(text).hex_dump(self.alloc) else {
+            return Err(Stop::Memory);
+        };
         writeln!(self, "{word}: {dump}")
     }
 
@@ -88,7 +90,9 @@ impl<'s> Tape<'s> {
         if self.is_silent {
             return Ok(());
         }
-        let dump = allocated(view.hex_dump(self.alloc))?;
+        let Ok(dump) = view.hex_dump(self.alloc) else {
+            return Err(Stop::Memory);
+        };
         writeln!(self, " {}: {dump}", view.len())
     }
 

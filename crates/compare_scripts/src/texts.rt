@@ -149,14 +149,18 @@ impl Texts {
     fn write_substring(&self, tape: &mut Tape<'_>) -> Result<(), Stop> {
         let begin = tape.reader.number()?;
         let end = tape.reader.number()?;
-        let part = allocated(substring(tape.alloc, &self.first, begin, end))?;
+        let Ok(part) = substring(tape.alloc, &self.first, begin, end) else {
+            return Err(Stop::Memory);
+        };
         tape.write_units(&part)
     }
 
     /// `char_at`.
     fn write_char(&self, tape: &mut Tape<'_>) -> Result<(), Stop> {
         let at = tape.reader.number()?;
-        let unit = allocated(char_at(tape.alloc, &self.first, at))?;
+        let Ok(unit) = char_at(tape.alloc, &self.first, at) else {
+            return Err(Stop::Memory);
+        };
         tape.write_units(&unit)
     }
 
@@ -216,7 +220,9 @@ fn push_units(text: &mut UnitText<Global>, tape: &mut Tape<'_>) -> Result<(), St
 fn push_each(text: &mut UnitText<Global>, tape: &mut Tape<'_>) -> Result<(), Stop> {
     for _ in 0..tape.reader.number()? {
         let unit = tape.reader.unit()?;
-        allocated(text.push(unit))?;
+        let Ok(()) = text.push(unit) else {
+            return Err(Stop::Memory);
+        };
     }
     Ok(())
 }
