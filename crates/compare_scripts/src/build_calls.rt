@@ -2,7 +2,7 @@
 use crate::building::with_view;
 use crate::machine::Machine;
 use crate::reader::{Reader, Register};
-use crate::stop::{Stop, allocated, push};
+use crate::stop::{Stop, push};
 use crate::tape::{Shown, Tape};
 use refusing::Refusing;
 use std::alloc::{Allocator, Global};

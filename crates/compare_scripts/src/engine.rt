@@ -1,5 +1,5 @@
 // Further calls on texts, which correspond to methods of a JavaScript engine's strings.
-use crate::stop::{Stop, allocated};
+use crate::stop::{Stop, text_made};
 use crate::tape::Tape;
 use std::alloc::Global;
 use unit_text::UnitText;
@@ -42,13 +42,13 @@ pub fn padded(
     other: &UnitText<Global>,
 ) -> Result<UnitText<Global>, Stop> {
     let width = tape.reader.number()?;
-    allocated(pad_start(tape.alloc, text, width, other))
+    text_made(pad_start(tape.alloc, text, width, other))
 }
 
 /// `repeat`.
 pub fn repeated(tape: &mut Tape<'_>, text: &UnitText<Global>) -> Result<UnitText<Global>, Stop> {
     let count = tape.reader.number()?;
-    allocated(repeat(tape.alloc, text, count))
+    text_made(repeat(tape.alloc, text, count))
 }
 
 /// `replace` of the other text by units of the script.
@@ -58,5 +58,5 @@ pub fn replaced(
     other: &UnitText<Global>,
 ) -> Result<UnitText<Global>, Stop> {
     let replacement = tape.read_units()?;
-    allocated(replace(tape.alloc, text, other, &replacement))
+    text_made(replace(tape.alloc, text, other, &replacement))
 }

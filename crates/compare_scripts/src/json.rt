@@ -1,5 +1,5 @@
 // JSON texts of texts, and JSON strings that are read.
-use crate::stop::{Stop, allocated};
+use crate::stop::Stop;
 use crate::tape::Tape;
 use std::alloc::Global;
 use unit_text::UnitText;

@@ -1,5 +1,5 @@
 // Calls on byte positions in texts, and on lines.
-use crate::stop::{Stop, allocated};
+use crate::stop::Stop;
 use crate::tape::{NONE, Shown, Tape};
 use crate::views::write_mark;
 use std::alloc::Global;

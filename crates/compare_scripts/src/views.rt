@@ -5,7 +5,7 @@ use crate::machine::Machine;
 use crate::opcodes::{OperandCall, Read};
 use crate::reader::Register;
 use crate::recorder::write_hash_input;
-use crate::stop::{Stop, allocated};
+use crate::stop::Stop;
 use crate::tape::{NONE, Tape};
 use std::alloc::Global;
 use std::borrow::CowStr;
@@ -201,8 +201,7 @@ fn write_units_by_index(tape: &mut Tape<'_>, view: Wtf8<'_>) -> Result<(), Stop>
 
 /// `slice_units`: writes the trail, the bytes and the lead.
 fn write_unit_slice(tape: &mut Tape<'_>, view: Wtf8<'_>) -> Result<(), Stop> {
-    let begin = tape.reader.number()?;
-    let end = tape.reader.number()?;
+    let (begin, end) = tape.reader.range()?;
     if end < begin || view.unit_len() < end {
         return Err(Stop::Refused);
     }
@@ -228,8 +227,7 @@ fn write_bytes(tape: &mut Tape<'_>, view: Wtf8<'_>) -> Result<(), Stop> {
 
 /// `append_units` to units of the script: writes all units of the result.
 fn write_appended_units(tape: &mut Tape<'_>, view: Wtf8<'_>) -> Result<(), Stop> {
-    let count = usize::from(tape.reader.byte()?);
-    let mut units = tape.reader.units(tape.alloc, count)?;
+    let mut units = tape.reader.counted_units(tape.alloc)?;
     let Ok(()) = view.append_units(&mut units) else {
         return Err(Stop::Memory);
     };
@@ -240,8 +238,7 @@ fn write_appended_units(tape: &mut Tape<'_>, view: Wtf8<'_>) -> Result<(), Stop>
 /// `write_units` to zeros, one for each unit, with units of the script after them: writes the number of units that it
 /// returns, and all units of the slice.
 fn write_units_to_slice(tape: &mut Tape<'_>, view: Wtf8<'_>) -> Result<(), Stop> {
-    let count = usize::from(tape.reader.byte()?);
-    let after = tape.reader.units(tape.alloc, count)?;
+    let after = tape.reader.counted_units(tape.alloc)?;
     let mut units = Vec::new(tape.alloc);
     let Ok(()) = units.resize(view.unit_len(), 0) else {
         return Err(Stop::Memory);
