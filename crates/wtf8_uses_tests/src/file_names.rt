@@ -135,16 +135,12 @@ fn a_name_has_a_stem_and_an_extension(rt: HostRuntime) -> Result<(), Failed> {
 
 /// Fails unless `parts` are the components of `PATH`.
 fn expect_parts_of_path(alloc: Global, parts: &[Wtf8<'_>]) -> Result<(), Failed> {
-    let dumps = ["43 3A", "61", "62 ED B2 A9 2E 74 61 72 2E 67 7A"];
-    expect(parts.len() == dumps.len(), Wrong::Outcome)?;
-    let mut row = 0usize;
-    for (part, dump) in parts.iter().zip(dumps) {
-        if let Err(failed) = expect_bytes(alloc, *part, dump) {
-            return in_row(row, Err(failed));
-        }
-        row = row.wrapping_add(1);
-    }
-    Ok(())
+    let [drive, folder, name] = parts else {
+        return Err(Failed::by(Wrong::Outcome));
+    };
+    expect_bytes(alloc, *drive, "43 3A")?;
+    expect_bytes(alloc, *folder, "61")?;
+    expect_bytes(alloc, *name, "62 ED B2 A9 2E 74 61 72 2E 67 7A")
 }
 
 /// Fails unless the components of a path are those of `PATH`.

@@ -7,11 +7,15 @@ use std::alloc::{AllocError, Global};
 use std::collections::HashMap;
 use std::hash::{BuildHasherDefault, FoldHasher};
 use wtf8::{Wtf8, Wtf8Buf};
-use wtf8_tests::wrong::{Failed, Wrong, expect, expect_bytes, in_row};
+use wtf8_tests::wrong::{Failed, Wrong, expect, expect_bytes};
 use wtf8_uses::{joining, maps, sorting, table};
 
-/// The bytes of U+E000 and U+10000, in code point order. By code units the order is the other way round.
-const IN_ORDER: [&str; 2] = ["EE 80 80", "F0 90 80 80"];
+/// Fails unless two views have the bytes of U+E000 and U+10000, which are in code point order. By code units the order
+/// is the other way round.
+fn expect_in_order(alloc: Global, first: Wtf8<'_>, second: Wtf8<'_>) -> Result<(), Failed> {
+    expect_bytes(alloc, first, "EE 80 80")?;
+    expect_bytes(alloc, second, "F0 90 80 80")
+}
 
 /// Two views, sorted.
 fn sorted_views<'a>(
@@ -26,19 +30,15 @@ fn sorted_views<'a>(
     Ok(views)
 }
 
-/// Fails unless the two views, sorted, have the bytes of `IN_ORDER`.
+/// Fails unless the two views, sorted, are as `expect_in_order` requires.
 fn expect_sorted(alloc: Global, first: Wtf8<'_>, second: Wtf8<'_>) -> Result<(), Failed> {
     let Ok(views) = sorted_views(alloc, first, second) else {
         return Err(Failed::by(Wrong::Memory));
     };
-    let mut row = 0usize;
-    for (view, dump) in views.iter().zip(IN_ORDER) {
-        if let Err(failed) = expect_bytes(alloc, *view, dump) {
-            return in_row(row, Err(failed));
-        }
-        row = row.wrapping_add(1);
+    match views.as_slice() {
+        [first, second] => expect_in_order(alloc, *first, *second),
+        _ => Err(Failed::by(Wrong::Outcome)),
     }
-    Ok(())
 }
 
 #[test]
@@ -74,16 +74,12 @@ fn sorted(alloc: Global) -> Result<Vec<Wtf8Buf<Global>>, AllocError>
     Ok(strings)
 }
 
-/// Fails unless the strings have the bytes of `IN_ORDER`.
+/// Fails unless the strings are as `expect_in_order` requires.
 fn expect_strings(alloc: Global, strings: &[Wtf8Buf<Global>]) -> Result<(), Failed> {
-    let mut row = 0usize;
-    for (string, dump) in strings.iter().zip(IN_ORDER) {
-        if let Err(failed) = expect_bytes(alloc, string.as_wtf8(), dump) {
-            return in_row(row, Err(failed));
-        }
-        row = row.wrapping_add(1);
+    match strings {
+        [first, second] => expect_in_order(alloc, first.as_wtf8(), second.as_wtf8()),
+        _ => Err(Failed::by(Wrong::Outcome)),
     }
-    Ok(())
 }
 
 /// Fails unless the search in a sorted table for the string of these units returns `index`, also by its view.
@@ -134,12 +130,17 @@ fn strings_of(alloc: Global, texts: &[&str]) -> Result<Vec<Wtf8Buf<Global>>, All
 
 /// Whether the strings are `texts`, in this order.
 fn are_texts(strings: &[Wtf8Buf<Global>], texts: &[&str]) -> bool {
-    for (string, text) in strings.iter().zip(texts) {
+    let mut index = 0usize;
+    for string in strings {
+        let Some(text) = texts.get(index) else {
+            return false;
+        };
         if string.as_wtf8().as_str() != Some(*text) {
             return false;
         }
+        index = index.wrapping_add(1);
     }
-    strings.len() == texts.len()
+    index == texts.len()
 }
 
 #[test]
