@@ -2,7 +2,7 @@
 use refusing::{Lent, Refusal};
 use std::alloc::{AllocError, Allocator, Global};
 use wtf8::{Build, CodePoint, UnitSlice, Wtf8Buf};
-use wtf8_tests::wrong::{Failed, Wrong, expect, expect_bytes, in_row};
+use wtf8_tests::wrong::{Failed, Wrong, expect_bytes, in_row};
 
 /// The bytes of "a" and D83D.
 pub const FULL: &str = "61 ED A0 BD";
