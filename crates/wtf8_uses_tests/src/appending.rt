@@ -75,23 +75,22 @@ fn a_string_is_appended_to_another(rt: HostRuntime) -> Result<(), Failed> {
     expect_appended_twice(alloc, &mut string)
 }
 
-/// Whether the same calls, applied to two strings, leave equal ones, the first of them "é".
-fn are_alike(string: &mut Wtf8Buf<Global>, other: &mut Wtf8Buf<Global>) -> bool {
+/// Whether the same calls, applied to two empty strings, leave equal ones, the first of them "é".
+fn are_alike(alloc: Global) -> bool {
+    let mut string = Wtf8Buf::new(alloc);
+    let mut other = Wtf8Buf::new(alloc);
     let calls = [
         Build::PushStr("é/"),
         Build::Truncate(1),
         Build::TruncateUnits(1),
     ];
-    let is_alike = appending::apply_to_equals(string, other, &calls);
+    let is_alike = appending::apply_to_equals(&mut string, &mut other, &calls);
     matches!(is_alike, Ok(true)) && string.as_wtf8().as_str() == Some("é")
 }
 
 #[test]
 fn the_same_calls_leave_equal_strings(rt: HostRuntime) -> Result<(), Failed> {
-    let alloc = rt.alloc();
-    let mut string = Wtf8Buf::new(alloc);
-    let mut other = Wtf8Buf::new(alloc);
-    expect(are_alike(&mut string, &mut other), Wrong::Outcome)
+    expect(are_alike(rt.alloc()), Wrong::Outcome)
 }
 
 /// Applies two lists of calls, and returns whether each has one refused truncation.

@@ -61,8 +61,12 @@ fn has_each_unit(text: Wtf8<'_>) -> bool {
 #[test]
 fn units_are_counted() -> Result<(), Failed> {
     let text = Wtf8::from_str("a💩");
-    expect(units::unit_count(text) == 3, Wrong::Units)?;
-    expect(has_each_unit(text), Wrong::Units)?;
+    if units::unit_count(text) != 3 {
+        return Err(Failed::by(Wrong::Units));
+    }
+    if !has_each_unit(text) {
+        return Err(Failed::by(Wrong::Units));
+    }
     let is_next = units::next_unit(text, 0) == Some(LEAD) && units::next_unit(text, 2).is_none();
     expect(is_next, Wrong::Units)
 }
