@@ -40,13 +40,11 @@ fn length_at(index: usize) -> usize {
 }
 
 /// A unit, and lengths in units at which a string of it has about 4,096 or 65,536 bytes.
-fn about_powers() -> [(u16, &'static [usize]); 3] {
-    [
-        (0x0061, &[4095, 4096, 4097, 65_535, 65_536, 65_537]),
-        (0x00E9, &[2047, 2048, 2049, 32_767, 32_768, 32_769]),
-        (0x3042, &[1365, 1366, 21_845, 21_846]),
-    ]
-}
+const ABOUT_POWERS: [(u16, &[usize]); 3] = [
+    (0x0061, &[4095, 4096, 4097, 65_535, 65_536, 65_537]),
+    (0x00E9, &[2047, 2048, 2049, 32_767, 32_768, 32_769]),
+    (0x3042, &[1365, 1366, 21_845, 21_846]),
+];
 
 /// `length` units that repeat `kind`.
 fn units_of(alloc: Global, kind: &[u16; 8], length: usize) -> Result<Vec<u16>, AllocError> {
@@ -317,7 +315,7 @@ fn each_call_is_done_at_each_length(rt: HostRuntime) -> Result<(), Failed> {
 fn each_call_is_done_about_powers_of_two(rt: HostRuntime) -> Result<(), Failed> {
     let alloc = rt.alloc();
     let heap = Refusing::new(alloc, 0);
-    for (unit, lengths) in about_powers() {
+    for (unit, lengths) in ABOUT_POWERS {
         for length in lengths {
             if let Err(failed) = expect_done(alloc, &heap, &[unit; 8], *length) {
                 return in_row(*length, Err(failed));
