@@ -2,7 +2,7 @@
 use crate::building::with_view;
 use crate::machine::Machine;
 use crate::reader::{Reader, Register};
-use crate::stop::{Stop, allocated, push};
+use crate::stop::{Stop, push};
 use crate::tape::{Shown, Tape};
 use refusing::Refusing;
 use std::alloc::{Allocator, Global};
@@ -17,7 +17,9 @@ impl Machine {
     /// as they were before the list.
     pub fn apply_each(&mut self, at: Register, tape: &mut Tape<'_>) -> Result<(), Stop> {
         let points = tape.reader.points(tape.alloc)?;
-        let copy = allocated(self.string(at).clone())?;
+        let Ok(copy) = self.string(at).clone() else {
+            return Err(Stop::Memory);
+        };
         let string = mem::replace(&mut self.strings[at.index], copy);
         self.strings[at.index] = self.applied(string, at, points.as_slice(), tape)?;
         Ok(())
@@ -106,7 +108,9 @@ fn apply_call(
     call: Build<'_>,
     tape: &mut Tape<'_>,
 ) -> Result<(), Stop> {
-    let is_kept = allocated(string.apply(call))?;
+    let Ok(is_kept) = string.apply(call) else {
+        return Err(Stop::Memory);
+    };
     writeln!(tape, "applied {is_kept}")
 }
 
@@ -133,7 +137,9 @@ fn with_spare<A: Allocator + Drop>(
     spare: usize,
 ) -> Result<Wtf8Buf<A>, Stop> {
     let capacity = view.len().saturating_add(spare);
-    let string = allocated(Wtf8Buf::with_capacity(alloc, capacity))?;
+    let Ok(string) = Wtf8Buf::with_capacity(alloc, capacity) else {
+        return Err(Stop::Memory);
+    };
     with_view(string, view)
 }
 

@@ -3,7 +3,7 @@ use crate::hinted::Hinted;
 use crate::machine::Machine;
 use crate::opcodes::{Append, Convert, Cut, Make, OpenSlice};
 use crate::reader::Register;
-use crate::stop::{Stop, allocated};
+use crate::stop::{Stop, done, string_made};
 use crate::tape::Tape;
 use std::alloc::{Allocator, Global};
 use std::mem;
@@ -21,14 +21,14 @@ impl Machine {
             Make::New => Ok(Wtf8Buf::new(tape.alloc)),
             Make::WithCapacity => with_capacity(tape),
             Make::FromString => from_string(tape),
-            Make::FromStr => allocated(Wtf8Buf::from_str(tape.alloc, tape.reader.text()?)),
+            Make::FromStr => string_made(Wtf8Buf::from_str(tape.alloc, tape.reader.text()?)),
             Make::FromIllFormedUtf16 => from_units(tape),
             Make::FromIter => from_points(tape),
             Make::FromIterCodePoints => self.from_last_points(tape),
             Make::Clone => self.copy(tape),
             Make::Slice => self.with_slice(Wtf8Buf::new(tape.alloc), tape),
             Make::OpenSlice(call) => self.from_open_slice(call, tape),
-            Make::PushSlice => self.with_slice(allocated(self.string(at).clone())?, tape),
+            Make::PushSlice => self.with_pushed_slice(at, tape),
             Make::FromIterHinted => from_hinted(tape),
             Make::ApplyAll => self.apply_all(at, tape),
         }
@@ -38,13 +38,13 @@ impl Machine {
     fn from_last_points(&self, tape: &mut Tape<'_>) -> Result<Wtf8Buf<Global>, Stop> {
         let other = self.string(tape.reader.register()?);
         let count = tape.reader.number()?;
-        allocated(Wtf8Buf::from_iter(tape.alloc, points_after(other, count)))
+        string_made(Wtf8Buf::from_iter(tape.alloc, points_after(other, count)))
     }
 
     /// A clone of another string.
     pub fn copy(&self, tape: &mut Tape<'_>) -> Result<Wtf8Buf<Global>, Stop> {
         let other = self.string(tape.reader.register()?);
-        allocated(other.clone())
+        string_made(other.clone())
     }
 
     /// Appends a slice of another string to a string.
@@ -56,6 +56,18 @@ impl Machine {
         let other = tape.reader.register()?;
         let part = self.read_slice(other, &mut tape.reader)?;
         with_view(string, part)
+    }
+
+    /// A clone of a string to which a slice of another one is appended.
+    fn with_pushed_slice(
+        &self,
+        at: Register,
+        tape: &mut Tape<'_>,
+    ) -> Result<Wtf8Buf<Global>, Stop> {
+        let Ok(string) = self.string(at).clone() else {
+            return Err(Stop::Memory);
+        };
+        self.with_slice(string, tape)
     }
 
     /// `slice_from` and `slice_to` of another string.
@@ -81,38 +93,40 @@ impl Machine {
         let string = &mut self.strings[at.index];
         match call {
             Append::Reserve => reserve(string, tape),
-            Append::Push => allocated(string.push(tape.reader.point()?)),
-            Append::PushChar => allocated(string.push_char(tape.reader.character()?)),
-            Append::PushStr => allocated(string.push_str(tape.reader.text()?)),
+            Append::Push => done(string.push(tape.reader.point()?)),
+            Append::PushChar => done(string.push_char(tape.reader.character()?)),
+            Append::PushStr => done(string.push_str(tape.reader.text()?)),
             Append::PushWtf8 => self.push_string(at, tape),
             Append::Extend => extend(string, tape),
             Append::ExtendCodePoints => self.extend_by_string(at, tape),
             Append::ExtendHinted => extend_hinted(string, tape),
             Append::PushIllFormedUtf16 => push_units(string, tape),
             Append::PushUnitsOf => self.push_units_of(at, tape),
-            Append::PushUnit => allocated(string.push_unit(tape.reader.unit()?)),
+            Append::PushUnit => done(string.push_unit(tape.reader.unit()?)),
         }
     }
 
     /// `push_wtf8` of a clone of another string, which may be in this register.
     fn push_string(&mut self, at: Register, tape: &mut Tape<'_>) -> Result<(), Stop> {
         let piece = self.copy(tape)?;
-        allocated(self.strings[at.index].push_wtf8(piece.as_wtf8()))
+        done(self.strings[at.index].push_wtf8(piece.as_wtf8()))
     }
 
     /// `push_ill_formed_utf16` of the units of another string, which may be in this register.
     fn push_units_of(&mut self, at: Register, tape: &mut Tape<'_>) -> Result<(), Stop> {
         let other = tape.reader.register()?;
         let mut units = Vec::new(tape.alloc);
-        allocated(self.view(other).append_units(&mut units))?;
-        allocated(self.strings[at.index].push_ill_formed_utf16(units.as_slice()))
+        let Ok(()) = self.view(other).append_units(&mut units) else {
+            return Err(Stop::Memory);
+        };
+        done(self.strings[at.index].push_ill_formed_utf16(units.as_slice()))
     }
 
     /// `extend` by the code points of a clone of another string without its first ones.
     fn extend_by_string(&mut self, at: Register, tape: &mut Tape<'_>) -> Result<(), Stop> {
         let piece = self.copy(tape)?;
         let count = tape.reader.number()?;
-        allocated(self.strings[at.index].extend(points_after(&piece, count)))
+        done(self.strings[at.index].extend(points_after(&piece, count)))
     }
 
     /// `truncate` and `truncate_units`: writes whether the capacity was unchanged.
@@ -149,7 +163,9 @@ impl Machine {
 /// `with_capacity`: writes whether the capacity is at least the requested one.
 fn with_capacity(tape: &mut Tape<'_>) -> Result<Wtf8Buf<Global>, Stop> {
     let capacity = tape.reader.number()?;
-    let string = allocated(Wtf8Buf::with_capacity(tape.alloc, capacity))?;
+    let Ok(string) = Wtf8Buf::with_capacity(tape.alloc, capacity) else {
+        return Err(Stop::Memory);
+    };
     tape.write_room(string.capacity() - string.len(), capacity)?;
     Ok(string)
 }
@@ -157,21 +173,22 @@ fn with_capacity(tape: &mut Tape<'_>) -> Result<Wtf8Buf<Global>, Stop> {
 /// `from_string`.
 fn from_string(tape: &mut Tape<'_>) -> Result<Wtf8Buf<Global>, Stop> {
     let text = tape.reader.text()?;
-    let text = allocated(String::from_str(tape.alloc, text))?;
+    let Ok(text) = String::from_str(tape.alloc, text) else {
+        return Err(Stop::Memory);
+    };
     Ok(Wtf8Buf::from_string(text))
 }
 
 /// `from_ill_formed_utf16`.
 fn from_units(tape: &mut Tape<'_>) -> Result<Wtf8Buf<Global>, Stop> {
-    let count = usize::from(tape.reader.byte()?);
-    let units = tape.reader.units(tape.alloc, count)?;
-    allocated(Wtf8Buf::from_ill_formed_utf16(tape.alloc, units.as_slice()))
+    let units = tape.reader.counted_units(tape.alloc)?;
+    string_made(Wtf8Buf::from_ill_formed_utf16(tape.alloc, units.as_slice()))
 }
 
 /// `from_iter` of code points.
 fn from_points(tape: &mut Tape<'_>) -> Result<Wtf8Buf<Global>, Stop> {
     let points = tape.reader.points(tape.alloc)?;
-    allocated(Wtf8Buf::from_iter(tape.alloc, points))
+    string_made(Wtf8Buf::from_iter(tape.alloc, points))
 }
 
 /// `from_iter` of code points with a lower size hint from the script.
@@ -179,7 +196,7 @@ fn from_hinted(tape: &mut Tape<'_>) -> Result<Wtf8Buf<Global>, Stop> {
     let low = tape.reader.number()?;
     let points = tape.reader.points(tape.alloc)?;
     let points = points.as_slice();
-    allocated(Wtf8Buf::from_iter(tape.alloc, Hinted { points, low }))
+    string_made(Wtf8Buf::from_iter(tape.alloc, Hinted { points, low }))
 }
 
 /// Appends a view to a string.
@@ -188,28 +205,31 @@ pub fn with_view<A: Allocator + Drop>(
     view: Wtf8<'_>,
 ) -> Result<Wtf8Buf<A>, Stop> {
     let mut string = string;
-    allocated(string.push_wtf8(view))?;
+    let Ok(()) = string.push_wtf8(view) else {
+        return Err(Stop::Memory);
+    };
     Ok(string)
 }
 
 /// `reserve`: writes whether the spare capacity is at least the requested one.
 fn reserve(string: &mut Wtf8Buf<Global>, tape: &mut Tape<'_>) -> Result<(), Stop> {
     let additional = tape.reader.number()?;
-    allocated(string.reserve(additional))?;
+    let Ok(()) = string.reserve(additional) else {
+        return Err(Stop::Memory);
+    };
     tape.write_room(string.capacity() - string.len(), additional)
 }
 
 /// `push_ill_formed_utf16`.
 fn push_units(string: &mut Wtf8Buf<Global>, tape: &mut Tape<'_>) -> Result<(), Stop> {
-    let count = usize::from(tape.reader.byte()?);
-    let units = tape.reader.units(tape.alloc, count)?;
-    allocated(string.push_ill_formed_utf16(units.as_slice()))
+    let units = tape.reader.counted_units(tape.alloc)?;
+    done(string.push_ill_formed_utf16(units.as_slice()))
 }
 
 /// `extend` by code points.
 fn extend(string: &mut Wtf8Buf<Global>, tape: &mut Tape<'_>) -> Result<(), Stop> {
     let points = tape.reader.points(tape.alloc)?;
-    allocated(string.extend(points))
+    done(string.extend(points))
 }
 
 /// `extend` by code points with a lower size hint from the script.
@@ -217,7 +237,7 @@ fn extend_hinted(string: &mut Wtf8Buf<Global>, tape: &mut Tape<'_>) -> Result<()
     let low = tape.reader.number()?;
     let points = tape.reader.points(tape.alloc)?;
     let points = points.as_slice();
-    allocated(string.extend(Hinted { points, low }))
+    done(string.extend(Hinted { points, low }))
 }
 
 /// `into_string` or `into_string_lossy` of a string. Returns its result as a string.

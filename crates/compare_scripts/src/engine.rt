@@ -1,5 +1,5 @@
 // Further calls on texts, which correspond to methods of a JavaScript engine's strings.
-use crate::stop::{Stop, allocated};
+use crate::stop::{Stop, text_made};
 use crate::tape::Tape;
 use std::alloc::Global;
 use unit_text::UnitText;
@@ -14,7 +14,9 @@ pub fn write_units_at(tape: &mut Tape<'_>, text: &UnitText<Global>) -> Result<()
 /// `split`: writes the number of pieces, then one piece a line.
 pub fn write_pieces(tape: &mut Tape<'_>, text: &UnitText<Global>) -> Result<(), Stop> {
     let separator = tape.reader.unit()?;
-    let pieces = allocated(split(tape.alloc, text, separator))?;
+    let Ok(pieces) = split(tape.alloc, text, separator) else {
+        return Err(Stop::Memory);
+    };
     writeln!(tape, "{} pieces", pieces.len())?;
     for piece in pieces.iter() {
         tape.write_units(piece)?;
@@ -40,13 +42,13 @@ pub fn padded(
     other: &UnitText<Global>,
 ) -> Result<UnitText<Global>, Stop> {
     let width = tape.reader.number()?;
-    allocated(pad_start(tape.alloc, text, width, other))
+    text_made(pad_start(tape.alloc, text, width, other))
 }
 
 /// `repeat`.
 pub fn repeated(tape: &mut Tape<'_>, text: &UnitText<Global>) -> Result<UnitText<Global>, Stop> {
     let count = tape.reader.number()?;
-    allocated(repeat(tape.alloc, text, count))
+    text_made(repeat(tape.alloc, text, count))
 }
 
 /// `replace` of the other text by units of the script.
@@ -56,5 +58,5 @@ pub fn replaced(
     other: &UnitText<Global>,
 ) -> Result<UnitText<Global>, Stop> {
     let replacement = tape.read_units()?;
-    allocated(replace(tape.alloc, text, other, &replacement))
+    text_made(replace(tape.alloc, text, other, &replacement))
 }

@@ -6,7 +6,7 @@ use crate::opcodes::{
     AppendIndexed, ChangeIndexed, CutIndexed, IndexedCall, MakeIndexed, ReadIndexed,
 };
 use crate::recorder::write_hash_input;
-use crate::stop::{Stop, allocated};
+use crate::stop::{Stop, done, indexed_made};
 use crate::tape::Tape;
 use crate::views::{write_all_units, write_slice};
 use std::alloc::Global;
@@ -53,7 +53,7 @@ impl Machine {
             MakeIndexed::WithCapacity => with_capacity(tape),
             MakeIndexed::FromUnits => from_units(tape),
             MakeIndexed::FromBuf => self.indexed_string(tape),
-            MakeIndexed::Clone => allocated(self.indexed.clone()),
+            MakeIndexed::Clone => indexed_made(self.indexed.clone()),
         }
     }
 
@@ -65,14 +65,13 @@ impl Machine {
     /// `push_wtf8` of a clone of a string.
     fn push_to_indexed(&mut self, tape: &mut Tape<'_>) -> Result<(), Stop> {
         let piece = self.copy(tape)?;
-        allocated(self.indexed.push_wtf8(piece.as_wtf8()))
+        done(self.indexed.push_wtf8(piece.as_wtf8()))
     }
 
     /// `push_unit_slice` of the `slice_units` of a clone of a string.
     fn push_slice_to_indexed(&mut self, tape: &mut Tape<'_>) -> Result<(), Stop> {
         let whole = self.copy(tape)?;
-        let begin = tape.reader.number()?;
-        let end = tape.reader.number()?;
+        let (begin, end) = tape.reader.range()?;
         append_slice(&mut self.indexed, whole.as_wtf8(), begin, end)
     }
 
@@ -122,16 +121,17 @@ impl Machine {
 /// `with_capacity`: writes whether the capacity is at least the requested one.
 fn with_capacity(tape: &mut Tape<'_>) -> Result<IndexedBuf<Global>, Stop> {
     let capacity = tape.reader.number()?;
-    let string = allocated(IndexedBuf::with_capacity(tape.alloc, capacity))?;
+    let Ok(string) = IndexedBuf::with_capacity(tape.alloc, capacity) else {
+        return Err(Stop::Memory);
+    };
     tape.write_room(string.capacity() - string.as_wtf8().len(), capacity)?;
     Ok(string)
 }
 
 /// `from_units`.
 fn from_units(tape: &mut Tape<'_>) -> Result<IndexedBuf<Global>, Stop> {
-    let count = usize::from(tape.reader.byte()?);
-    let units = tape.reader.units(tape.alloc, count)?;
-    allocated(IndexedBuf::from_units(tape.alloc, units.as_slice()))
+    let units = tape.reader.counted_units(tape.alloc)?;
+    indexed_made(IndexedBuf::from_units(tape.alloc, units.as_slice()))
 }
 
 /// Runs a call that appends to the indexed string, or `reserve`.
@@ -142,10 +142,10 @@ fn append(
 ) -> Result<(), Stop> {
     match call {
         AppendIndexed::Reserve => reserve(string, tape),
-        AppendIndexed::Push => allocated(string.push(tape.reader.point()?)),
-        AppendIndexed::PushUnit => allocated(string.push_unit(tape.reader.unit()?)),
-        AppendIndexed::PushChar => allocated(string.push_char(tape.reader.character()?)),
-        AppendIndexed::PushStr => allocated(string.push_str(tape.reader.text()?)),
+        AppendIndexed::Push => done(string.push(tape.reader.point()?)),
+        AppendIndexed::PushUnit => done(string.push_unit(tape.reader.unit()?)),
+        AppendIndexed::PushChar => done(string.push_char(tape.reader.character()?)),
+        AppendIndexed::PushStr => done(string.push_str(tape.reader.text()?)),
         AppendIndexed::PushUnits => push_units(string, tape),
     }
 }
@@ -153,15 +153,16 @@ fn append(
 /// `reserve`: writes whether the spare capacity is at least the requested one.
 fn reserve(string: &mut IndexedBuf<Global>, tape: &mut Tape<'_>) -> Result<(), Stop> {
     let additional = tape.reader.number()?;
-    allocated(string.reserve(additional))?;
+    let Ok(()) = string.reserve(additional) else {
+        return Err(Stop::Memory);
+    };
     tape.write_room(string.capacity() - string.as_wtf8().len(), additional)
 }
 
 /// `push_units`.
 fn push_units(string: &mut IndexedBuf<Global>, tape: &mut Tape<'_>) -> Result<(), Stop> {
-    let count = usize::from(tape.reader.byte()?);
-    let units = tape.reader.units(tape.alloc, count)?;
-    allocated(string.push_units(units.as_slice()))
+    let units = tape.reader.counted_units(tape.alloc)?;
+    done(string.push_units(units.as_slice()))
 }
 
 /// `push_unit_slice` of the units of another string from index `begin` to before index `end`.
@@ -174,7 +175,7 @@ fn append_slice(
     if end < begin || whole.unit_len() < end {
         return Err(Stop::Refused);
     }
-    allocated(string.push_unit_slice(whole.slice_units(begin, end)))
+    done(string.push_unit_slice(whole.slice_units(begin, end)))
 }
 
 /// `truncate`, `truncate_units` and `clear`: writes whether the capacity was unchanged.
@@ -214,28 +215,29 @@ fn push_slice(
     string: &mut Wtf8Buf<Global>,
     tape: &mut Tape<'_>,
 ) -> Result<(), Stop> {
-    let begin = tape.reader.number()?;
-    let end = tape.reader.number()?;
+    let (begin, end) = tape.reader.range()?;
     if end < begin || indexed.unit_len() < end {
         return Err(Stop::Refused);
     }
     let slice = indexed.slice_units(begin, end);
     write_slice(tape, slice)?;
-    allocated(string.push_unit_slice(slice))
+    done(string.push_unit_slice(slice))
 }
 
 /// `copy_units` to zeros, one for each unit, with units of the script after them: writes all units of the slice.
 fn write_copied_units(tape: &mut Tape<'_>, string: &IndexedBuf<Global>) -> Result<(), Stop> {
-    let begin = tape.reader.number()?;
-    let end = tape.reader.number()?;
-    let count = usize::from(tape.reader.byte()?);
-    let after = tape.reader.units(tape.alloc, count)?;
+    let (begin, end) = tape.reader.range()?;
+    let after = tape.reader.counted_units(tape.alloc)?;
     if end < begin || string.unit_len() < end {
         return Err(Stop::Refused);
     }
     let mut units = Vec::new(tape.alloc);
-    allocated(units.resize(end - begin, 0))?;
-    allocated(units.extend_from_slice(after.as_slice()))?;
+    let Ok(()) = units.resize(end - begin, 0) else {
+        return Err(Stop::Memory);
+    };
+    let Ok(()) = units.extend_from_slice(after.as_slice()) else {
+        return Err(Stop::Memory);
+    };
     if units.len() < end - begin {
         return Err(Stop::Refused);
     }
@@ -266,6 +268,8 @@ fn write_position(tape: &mut Tape<'_>, string: &IndexedBuf<Global>) -> Result<()
 
 /// Writes the bytes of the debug text.
 fn write_debug_text(tape: &mut Tape<'_>, string: &IndexedBuf<Global>) -> Result<(), Stop> {
-    let text = allocated(format!(in tape.alloc; "{string:?}"))?;
+    let Ok(text) = format!(in tape.alloc; "{string:?}") else {
+        return Err(Stop::Memory);
+    };
     tape.write_text("indexed", text.as_str())
 }

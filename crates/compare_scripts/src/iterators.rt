@@ -2,8 +2,9 @@
 ghost use Rattle.std.specs.Iterator.{IsFinite};
 
 use crate::opcodes::{CloneStep, Step};
-use crate::stop::{Stop, allocated};
+use crate::stop::Stop;
 use crate::tape::{Shown, Tape};
+use std::alloc::AllocError;
 
 /// The word for the end of an iterator.
 const END: &str = "end";
@@ -43,7 +44,10 @@ fn write_step<T: Shown, I: Iterator<Item = T> + Clone>(
 
 /// Replaces an iterator by its clone.
 fn replace_by_clone<I: Clone + Drop>(items: &mut I) -> Result<(), Stop> {
-    *items = allocated(items.clone())?;
+    let Ok(copy) = items.clone() else {
+        return Err(Stop::Memory);
+    };
+    *items = copy;
     Ok(())
 }
 
@@ -55,7 +59,9 @@ fn write_step_of_clone<T: Shown, I: Iterator<Item = T> + Clone>(
 ) -> Result<(), Stop>
     requires { (state : I) → I.can_next state × IsFinite (I.remaining state) }
 {
-    let items = allocated(items.clone())?;
+    let Ok(items) = items.clone() else {
+        return Err(Stop::Memory);
+    };
     match step {
         CloneStep::Drain => drain(tape, items),
         CloneStep::Last => tape.write_item(items.last(), END),
@@ -71,7 +77,10 @@ fn write_collected<T: Shown, I: Iterator<Item = T>>(
 ) -> Result<(), Stop>
     requires { (state : I) → I.can_next state × IsFinite (I.remaining state) }
 {
-    let items: Vec<T> = allocated(items.collect(tape.alloc))?;
+    let collected: Result<Vec<T>, AllocError> = items.collect(tape.alloc);
+    let Ok(items) = collected else {
+        return Err(Stop::Memory);
+    };
     let count = items.len();
     write!(tape, " {count} items")?;
     for item in &items {

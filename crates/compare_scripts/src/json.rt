@@ -1,5 +1,5 @@
 // JSON texts of texts, and JSON strings that are read.
-use crate::stop::{Stop, allocated};
+use crate::stop::Stop;
 use crate::tape::Tape;
 use std::alloc::Global;
 use unit_text::UnitText;
@@ -11,8 +11,12 @@ use wtf8_uses::json_reader::{JsonCause, JsonError, read_json_string};
 /// vector are the same.
 pub fn write_json(tape: &mut Tape<'_>, first: Wtf8<'_>, second: Wtf8<'_>) -> Result<(), Stop> {
     let mut json = String::new(tape.alloc);
-    allocated(append_json_text(&mut json, first))?;
-    allocated(append_json_text(&mut json, second))?;
+    let Ok(()) = append_json_text(&mut json, first) else {
+        return Err(Stop::Memory);
+    };
+    let Ok(()) = append_json_text(&mut json, second) else {
+        return Err(Stop::Memory);
+    };
     tape.write_text("json", json.as_str())?;
     let bytes = json_bytes(tape.alloc, first, second)?;
     let is_same = bytes.as_slice() == json.as_bytes();
@@ -22,8 +26,12 @@ pub fn write_json(tape: &mut Tape<'_>, first: Wtf8<'_>, second: Wtf8<'_>) -> Res
 /// The JSON texts of two strings, appended to a vector one after the other.
 fn json_bytes(alloc: Global, first: Wtf8<'_>, second: Wtf8<'_>) -> Result<Vec<u8>, Stop> {
     let mut bytes = Vec::new(alloc);
-    allocated(append_json_bytes(alloc, &mut bytes, first))?;
-    allocated(append_json_bytes(alloc, &mut bytes, second))?;
+    let Ok(()) = append_json_bytes(alloc, &mut bytes, first) else {
+        return Err(Stop::Memory);
+    };
+    let Ok(()) = append_json_bytes(alloc, &mut bytes, second) else {
+        return Err(Stop::Memory);
+    };
     Ok(bytes)
 }
 
@@ -45,7 +53,9 @@ fn write_read(tape: &mut Tape<'_>, string: Wtf8Buf<Global>, rest: Wtf8<'_>) -> R
     tape.write_word("read ")?;
     tape.write_units(&UnitText::from_wtf8(string))?;
     let mut after = Wtf8Buf::new(tape.alloc);
-    allocated(after.push_wtf8(rest))?;
+    let Ok(()) = after.push_wtf8(rest) else {
+        return Err(Stop::Memory);
+    };
     tape.write_word("rest ")?;
     tape.write_units(&UnitText::from_wtf8(after))
 }

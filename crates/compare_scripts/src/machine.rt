@@ -117,8 +117,7 @@ impl Machine {
     /// Reads a start and an end, and returns that slice of a string. `Refused` unless they are boundaries in order.
     pub fn read_slice(&self, at: Register, reader: &mut Reader<'_>) -> Result<Wtf8<'_>, Stop> {
         let whole = self.view(at);
-        let begin = reader.number()?;
-        let end = reader.number()?;
+        let (begin, end) = reader.range()?;
         let is_slice = begin <= end
             && whole.is_code_point_boundary(begin)
             && whole.is_code_point_boundary(end);

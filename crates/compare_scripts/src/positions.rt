@@ -1,5 +1,5 @@
 // Calls on byte positions in texts, and on lines.
-use crate::stop::{Stop, allocated};
+use crate::stop::Stop;
 use crate::tape::{NONE, Shown, Tape};
 use crate::views::write_mark;
 use std::alloc::Global;
@@ -49,7 +49,9 @@ pub fn write_units_from(tape: &mut Tape<'_>, text: &UnitText<Global>) -> Result<
 
 /// Writes the mark at the start of each line, then the line and the column of each position.
 pub fn write_lines(tape: &mut Tape<'_>, text: Wtf8<'_>) -> Result<(), Stop> {
-    let lines = allocated(lines_of(tape.alloc, text))?;
+    let Ok(lines) = lines_of(tape.alloc, text) else {
+        return Err(Stop::Memory);
+    };
     write_starts(tape, lines.starts.as_slice())?;
     write_columns(tape, &lines)
 }
@@ -77,7 +79,9 @@ fn write_columns(tape: &mut Tape<'_>, lines: &LineColumns<'_, Global>) -> Result
 pub fn write_mark_at_column(tape: &mut Tape<'_>, text: Wtf8<'_>) -> Result<(), Stop> {
     let line = tape.reader.number()?;
     let column = tape.reader.number()?;
-    let lines = allocated(lines_of(tape.alloc, text))?;
+    let Ok(lines) = lines_of(tape.alloc, text) else {
+        return Err(Stop::Memory);
+    };
     tape.write_word("mark")?;
     match mark_at_column(&lines, line, column) {
         Some(mark) => write_mark(tape, mark)?,

@@ -46,32 +46,58 @@ impl<'a> Reader<'a> {
 
     /// Reads a value of four bytes, which may be a code point.
     pub fn value(&mut self) -> Result<u32, Stop> {
-        let ([a, b, c, d], rest) = self.rest.split_first_chunk::<4>().ok_or(Stop::Malformed)?;
+        let Some(([a, b, c, d], rest)) = self.rest.split_first_chunk::<4>() else {
+            return Err(Stop::Malformed);
+        };
         self.rest = rest;
         Ok(u32::from_le_bytes([*a, *b, *c, *d]))
     }
 
     /// Reads a value that must be a code point.
     pub fn point(&mut self) -> Result<CodePoint, Stop> {
-        CodePoint::from_u32(self.value()?).ok_or(Stop::NoCodePoint)
+        match CodePoint::from_u32(self.value()?) {
+            Some(point) => Ok(point),
+            None => Err(Stop::NoCodePoint),
+        }
     }
 
     /// Reads a value that must be a scalar value.
     pub fn character(&mut self) -> Result<char, Stop> {
-        char::from_u32(self.value()?).ok_or(Stop::NoCharacter)
+        match char::from_u32(self.value()?) {
+            Some(c) => Ok(c),
+            None => Err(Stop::NoCharacter),
+        }
     }
 
     /// Reads a count of one byte, then that number of bytes.
     pub fn bytes(&mut self) -> Result<&'a [u8], Stop> {
         let count = usize::from(self.byte()?);
-        let (front, rest) = self.rest.split_at_checked(count).ok_or(Stop::Malformed)?;
+        let Some((front, rest)) = self.rest.split_at_checked(count) else {
+            return Err(Stop::Malformed);
+        };
         self.rest = rest;
         Ok(front)
     }
 
     /// Reads a length of one byte, then a text in UTF-8 of that number of bytes.
     pub fn text(&mut self) -> Result<&'a str, Stop> {
-        str::from_utf8(self.bytes()?).or(Err(Stop::Malformed))
+        match str::from_utf8(self.bytes()?) {
+            Ok(text) => Ok(text),
+            Err(_) => Err(Stop::Malformed),
+        }
+    }
+
+    /// Reads two numbers: a start and an end.
+    pub fn range(&mut self) -> Result<(usize, usize), Stop> {
+        let begin = self.number()?;
+        let end = self.number()?;
+        Ok((begin, end))
+    }
+
+    /// Reads a count of one byte, then that number of code units.
+    pub fn counted_units(&mut self, alloc: Global) -> Result<Vec<u16>, Stop> {
+        let count = usize::from(self.byte()?);
+        self.units(alloc, count)
     }
 
     /// Reads `count` code units of two bytes each.
@@ -96,14 +122,18 @@ impl<'a> Reader<'a> {
 
     /// Reads a byte: an opcode, a kind or a count.
     pub fn byte(&mut self) -> Result<u8, Stop> {
-        let (first, rest) = self.rest.split_first().ok_or(Stop::Malformed)?;
+        let Some((first, rest)) = self.rest.split_first() else {
+            return Err(Stop::Malformed);
+        };
         self.rest = rest;
         Ok(*first)
     }
 
     /// Reads a code unit of two bytes.
     pub fn unit(&mut self) -> Result<u16, Stop> {
-        let ([low, high], rest) = self.rest.split_first_chunk::<2>().ok_or(Stop::Malformed)?;
+        let Some(([low, high], rest)) = self.rest.split_first_chunk::<2>() else {
+            return Err(Stop::Malformed);
+        };
         self.rest = rest;
         Ok(u16::from_le_bytes([*low, *high]))
     }

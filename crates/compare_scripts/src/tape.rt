@@ -1,6 +1,6 @@
 // A running script and its transcript.
 use crate::reader::{Reader, Register};
-use crate::stop::{Stop, allocated};
+use crate::stop::{Stop, done, text_made};
 use std::alloc::Global;
 use std::fmt::Display;
 use unit_text::{IndexedBuf, UnitText};
@@ -37,7 +37,7 @@ impl<'s> Tape<'s> {
     pub fn read_units(&mut self) -> Result<UnitText<Global>, Stop> {
         let count = self.reader.number()?;
         let units = self.reader.units(self.alloc, count)?;
-        allocated(UnitText::from_units(self.alloc, units.as_slice()))
+        text_made(UnitText::from_units(self.alloc, units.as_slice()))
     }
 
     /// What `write!` and `writeln!` call.
@@ -45,7 +45,7 @@ impl<'s> Tape<'s> {
         if self.is_silent {
             return Ok(());
         }
-        allocated(self.transcript.write_fmt(text))
+        done(self.transcript.write_fmt(text))
     }
 
     /// Writes a word as it is.
@@ -53,7 +53,7 @@ impl<'s> Tape<'s> {
         if self.is_silent {
             return Ok(());
         }
-        allocated(self.transcript.push_str(word))
+        done(self.transcript.push_str(word))
     }
 
     /// Writes a line.
@@ -67,7 +67,9 @@ impl<'s> Tape<'s> {
         if self.is_silent {
             return Ok(());
         }
-        let dump = allocated(Wtf8::from_str(text).hex_dump(self.alloc))?;
+        let Ok(dump) = Wtf8::from_str(text).hex_dump(self.alloc) else {
+            return Err(Stop::Memory);
+        };
         writeln!(self, "{word}: {dump}")
     }
 
@@ -88,7 +90,9 @@ impl<'s> Tape<'s> {
         if self.is_silent {
             return Ok(());
         }
-        let dump = allocated(view.hex_dump(self.alloc))?;
+        let Ok(dump) = view.hex_dump(self.alloc) else {
+            return Err(Stop::Memory);
+        };
         writeln!(self, " {}: {dump}", view.len())
     }
 

@@ -7,7 +7,7 @@ use crate::positions::{
     truncate, write_lines, write_mark_at_column, write_position, write_unit_before,
     write_units_from,
 };
-use crate::stop::{Stop, allocated};
+use crate::stop::{Stop, done, text_made};
 use crate::tape::Tape;
 use std::alloc::Global;
 use std::mem;
@@ -53,7 +53,7 @@ impl Texts {
     fn change(&mut self, call: ChangeText, tape: &mut Tape<'_>) -> Result<(), Stop> {
         match call {
             ChangeText::Make(call) => self.first = self.make(call, tape)?,
-            ChangeText::Concat => return allocated(self.first.concat(&self.second)),
+            ChangeText::Concat => return done(self.first.concat(&self.second)),
             ChangeText::Mark => self.first.mark_units(tape.alloc),
             ChangeText::Push => return push_each(&mut self.first, tape),
             ChangeText::PushUnits => return push_units(&mut self.first, tape),
@@ -75,26 +75,25 @@ impl Texts {
     fn make(&self, call: MakeText, tape: &mut Tape<'_>) -> Result<UnitText<Global>, Stop> {
         match call {
             MakeText::New => Ok(UnitText::new(tape.alloc)),
-            MakeText::Clone => allocated(self.second.clone()),
+            MakeText::Clone => text_made(self.second.clone()),
             MakeText::Set => tape.read_units(),
             MakeText::FromStr => from_str(tape),
             MakeText::Slice => self.slice(tape),
             MakeText::PadStart => padded(tape, &self.first, &self.second),
             MakeText::Repeat => repeated(tape, &self.first),
-            MakeText::Trim => allocated(trim_ascii(tape.alloc, &self.first)),
+            MakeText::Trim => text_made(trim_ascii(tape.alloc, &self.first)),
             MakeText::Replace => replaced(tape, &self.first, &self.second),
-            MakeText::ToWellFormed => allocated(to_well_formed(tape.alloc, &self.first)),
+            MakeText::ToWellFormed => text_made(to_well_formed(tape.alloc, &self.first)),
         }
     }
 
     /// The units of the first text from one index to another.
     fn slice(&self, tape: &mut Tape<'_>) -> Result<UnitText<Global>, Stop> {
-        let begin = tape.reader.number()?;
-        let end = tape.reader.number()?;
+        let (begin, end) = tape.reader.range()?;
         if end < begin || self.first.unit_len() < end {
             return Err(Stop::Refused);
         }
-        allocated(self.first.slice_units(tape.alloc, begin, end))
+        text_made(self.first.slice_units(tape.alloc, begin, end))
     }
 
     /// Runs a call that changes neither text, and writes what it returns.
@@ -147,16 +146,19 @@ impl Texts {
 
     /// `substring`.
     fn write_substring(&self, tape: &mut Tape<'_>) -> Result<(), Stop> {
-        let begin = tape.reader.number()?;
-        let end = tape.reader.number()?;
-        let part = allocated(substring(tape.alloc, &self.first, begin, end))?;
+        let (begin, end) = tape.reader.range()?;
+        let Ok(part) = substring(tape.alloc, &self.first, begin, end) else {
+            return Err(Stop::Memory);
+        };
         tape.write_units(&part)
     }
 
     /// `char_at`.
     fn write_char(&self, tape: &mut Tape<'_>) -> Result<(), Stop> {
         let at = tape.reader.number()?;
-        let unit = allocated(char_at(tape.alloc, &self.first, at))?;
+        let Ok(unit) = char_at(tape.alloc, &self.first, at) else {
+            return Err(Stop::Memory);
+        };
         tape.write_units(&unit)
     }
 
@@ -190,33 +192,35 @@ impl Texts {
 /// `from_str`.
 fn from_str(tape: &mut Tape<'_>) -> Result<UnitText<Global>, Stop> {
     let value = tape.reader.text()?;
-    allocated(UnitText::from_str(tape.alloc, value))
+    text_made(UnitText::from_str(tape.alloc, value))
 }
 
 /// `push_str`.
 fn push_str(text: &mut UnitText<Global>, tape: &mut Tape<'_>) -> Result<(), Stop> {
     let value = tape.reader.text()?;
-    allocated(text.push_str(value))
+    done(text.push_str(value))
 }
 
 /// `push_wtf8` of the string of units.
 fn push_string(text: &mut UnitText<Global>, tape: &mut Tape<'_>) -> Result<(), Stop> {
     let units = tape.read_units()?;
-    allocated(text.push_wtf8(units.as_wtf8()))
+    done(text.push_wtf8(units.as_wtf8()))
 }
 
 /// Reads a count of two bytes, then that number of units, and pushes all at once.
 fn push_units(text: &mut UnitText<Global>, tape: &mut Tape<'_>) -> Result<(), Stop> {
     let count = tape.reader.number()?;
     let units = tape.reader.units(tape.alloc, count)?;
-    allocated(text.push_units(units.as_slice()))
+    done(text.push_units(units.as_slice()))
 }
 
 /// Reads a count of two bytes, then that number of units, and pushes each.
 fn push_each(text: &mut UnitText<Global>, tape: &mut Tape<'_>) -> Result<(), Stop> {
     for _ in 0..tape.reader.number()? {
         let unit = tape.reader.unit()?;
-        allocated(text.push(unit))?;
+        let Ok(()) = text.push(unit) else {
+            return Err(Stop::Memory);
+        };
     }
     Ok(())
 }
@@ -225,7 +229,10 @@ fn push_each(text: &mut UnitText<Global>, tape: &mut Tape<'_>) -> Result<(), Sto
 fn whole_cuts(alloc: Global, text: &UnitText<Global>) -> Result<u64, Stop> {
     let mut whole = 0u64;
     for index in 0..=text.unit_len() {
-        if allocated(is_equal_after_cut(alloc, alloc, text, index))? {
+        let Ok(is_equal) = is_equal_after_cut(alloc, alloc, text, index) else {
+            return Err(Stop::Memory);
+        };
+        if is_equal {
             whole = whole.wrapping_add(1);
         }
     }

@@ -5,7 +5,7 @@ use crate::machine::Machine;
 use crate::opcodes::{OperandCall, Read};
 use crate::reader::Register;
 use crate::recorder::write_hash_input;
-use crate::stop::{Stop, allocated};
+use crate::stop::Stop;
 use crate::tape::{NONE, Tape};
 use std::alloc::Global;
 use std::borrow::CowStr;
@@ -119,7 +119,9 @@ fn write_hash_inputs(tape: &mut Tape<'_>, string: &Wtf8Buf<Global>) -> Result<()
 
 /// Writes the bytes of the debug texts of a string and of its view.
 fn write_buffer_texts(tape: &mut Tape<'_>, string: &Wtf8Buf<Global>) -> Result<(), Stop> {
-    let text = allocated(format!(in tape.alloc; "{string:?}"))?;
+    let Ok(text) = format!(in tape.alloc; "{string:?}") else {
+        return Err(Stop::Memory);
+    };
     tape.write_text("buffer", text.as_str())?;
     write_debug_texts(tape, string.as_wtf8())
 }
@@ -155,7 +157,9 @@ fn write_as_text(tape: &mut Tape<'_>, view: Wtf8<'_>) -> Result<(), Stop> {
 
 /// `to_string_lossy`: writes whether the text is borrowed or owned, and its bytes.
 fn write_lossy_text(tape: &mut Tape<'_>, view: Wtf8<'_>) -> Result<(), Stop> {
-    let text = allocated(view.to_string_lossy(tape.alloc))?;
+    let Ok(text) = view.to_string_lossy(tape.alloc) else {
+        return Err(Stop::Memory);
+    };
     let word = match &text {
         CowStr::Borrowed(_) => "borrowed",
         CowStr::Owned(_) => "owned",
@@ -171,13 +175,17 @@ fn write_debug_texts(tape: &mut Tape<'_>, view: Wtf8<'_>) -> Result<(), Stop> {
 
 /// Writes the bytes of a view's debug text.
 fn write_debug_text(tape: &mut Tape<'_>, view: Wtf8<'_>) -> Result<(), Stop> {
-    let text = allocated(format!(in tape.alloc; "{view:?}"))?;
+    let Ok(text) = format!(in tape.alloc; "{view:?}") else {
+        return Err(Stop::Memory);
+    };
     tape.write_text("view", text.as_str())
 }
 
 /// Writes the bytes of a view's debug text with a width and flags.
 fn write_wide_text(tape: &mut Tape<'_>, view: Wtf8<'_>) -> Result<(), Stop> {
-    let text = allocated(format!(in tape.alloc; "{view:#12?}"))?;
+    let Ok(text) = format!(in tape.alloc; "{view:#12?}") else {
+        return Err(Stop::Memory);
+    };
     tape.write_text("wide", text.as_str())
 }
 
@@ -193,8 +201,7 @@ fn write_units_by_index(tape: &mut Tape<'_>, view: Wtf8<'_>) -> Result<(), Stop>
 
 /// `slice_units`: writes the trail, the bytes and the lead.
 fn write_unit_slice(tape: &mut Tape<'_>, view: Wtf8<'_>) -> Result<(), Stop> {
-    let begin = tape.reader.number()?;
-    let end = tape.reader.number()?;
+    let (begin, end) = tape.reader.range()?;
     if end < begin || view.unit_len() < end {
         return Err(Stop::Refused);
     }
@@ -212,15 +219,18 @@ pub fn write_slice(tape: &mut Tape<'_>, slice: UnitSlice<'_>) -> Result<(), Stop
 
 /// Writes the bytes of a view in parentheses.
 fn write_bytes(tape: &mut Tape<'_>, view: Wtf8<'_>) -> Result<(), Stop> {
-    let dump = allocated(view.hex_dump(tape.alloc))?;
+    let Ok(dump) = view.hex_dump(tape.alloc) else {
+        return Err(Stop::Memory);
+    };
     write!(tape, " ({dump})")
 }
 
 /// `append_units` to units of the script: writes all units of the result.
 fn write_appended_units(tape: &mut Tape<'_>, view: Wtf8<'_>) -> Result<(), Stop> {
-    let count = usize::from(tape.reader.byte()?);
-    let mut units = tape.reader.units(tape.alloc, count)?;
-    allocated(view.append_units(&mut units))?;
+    let mut units = tape.reader.counted_units(tape.alloc)?;
+    let Ok(()) = view.append_units(&mut units) else {
+        return Err(Stop::Memory);
+    };
     tape.write_word("appended")?;
     write_all_units(tape, units.as_slice())
 }
@@ -228,11 +238,14 @@ fn write_appended_units(tape: &mut Tape<'_>, view: Wtf8<'_>) -> Result<(), Stop>
 /// `write_units` to zeros, one for each unit, with units of the script after them: writes the number of units that it
 /// returns, and all units of the slice.
 fn write_units_to_slice(tape: &mut Tape<'_>, view: Wtf8<'_>) -> Result<(), Stop> {
-    let count = usize::from(tape.reader.byte()?);
-    let after = tape.reader.units(tape.alloc, count)?;
+    let after = tape.reader.counted_units(tape.alloc)?;
     let mut units = Vec::new(tape.alloc);
-    allocated(units.resize(view.unit_len(), 0))?;
-    allocated(units.extend_from_slice(after.as_slice()))?;
+    let Ok(()) = units.resize(view.unit_len(), 0) else {
+        return Err(Stop::Memory);
+    };
+    let Ok(()) = units.extend_from_slice(after.as_slice()) else {
+        return Err(Stop::Memory);
+    };
     if units.len() < view.unit_len() {
         return Err(Stop::Refused);
     }

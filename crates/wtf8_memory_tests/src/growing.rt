@@ -1,11 +1,12 @@
 // Calls that grow a string: the requests for memory that each makes, and what it leaves if one of them is refused.
-use crate::shared::{FULL, filled, full, push_letters, succeeds};
+use crate::shared::{
+    Change, FULL, Requests, expect_requests, expect_steps, filled, full, push_letters, succeeds,
+};
 use refusing::{Lent, REFUSALS, Refusal, Refusing};
-use std::alloc::{AllocError, Global};
+use std::alloc::{AllocError, Allocator, Global};
 use wtf8::{Build, CodePoint, Wtf8, Wtf8Buf};
 use wtf8_tests::examples::{TEXT, joined};
-use wtf8_tests::way::Way;
-use wtf8_tests::wrong::{Failed, Wrong, expect_bytes, in_row};
+use wtf8_tests::wrong::{Failed, Wrong, expect, expect_bytes, in_row};
 
 /// A call on a string whose four bytes, "a" and D83D, fill its capacity.
 #[derive(Clone, Copy)]
@@ -135,23 +136,19 @@ fn rows<'a>(
     ]
 }
 
-/// Fails unless a trail surrogate is refused, and the string of "a" and D83D is unchanged, also after an empty text.
-fn expect_trail_refused(alloc: Global, text: &mut Wtf8Buf<Lent<'_>>) -> Result<(), Failed> {
-    if text.push(CodePoint::from_unit(0xDCA9)).is_ok() {
-        return Err(Failed::by(Wrong::Outcome));
-    }
-    expect_bytes(alloc, text.as_wtf8(), FULL)?;
-    if text.push_str("").is_err() {
-        return Err(Failed::by(Wrong::Outcome));
-    }
-    expect_bytes(alloc, text.as_wtf8(), FULL)
-}
-
-/// Fails unless a trail surrogate is refused after "a" and D83D, and an empty text is not.
+/// Fails unless a trail surrogate is refused after "a" and D83D, an empty text is not, and the string is unchanged after
+/// both.
 fn expect_full_kept(alloc: Global, heap: Lent<'_>) -> Result<(), Failed> {
-    let mut text = full(heap)?;
+    let Ok(mut text) = full(heap) else {
+        return Err(Failed::by(Wrong::Memory));
+    };
     heap.grant(0);
-    expect_trail_refused(alloc, &mut text)
+    let trail = Build::Push(CodePoint::from_unit(0xDCA9));
+    let rows = [
+        (Change::Method(trail), None, FULL),
+        (Change::Method(Build::PushStr("")), Some(true), FULL),
+    ];
+    expect_steps(alloc, &mut text, &rows)
 }
 
 #[test]
@@ -161,79 +158,52 @@ fn an_empty_text_is_pushed_after_a_refused_trail(rt: HostRuntime) -> Result<(), 
     expect_full_kept(alloc, &heap)
 }
 
-/// Fails unless the call, with all its requests granted, succeeds with the requests and bytes of the row.
-fn expect_granted(alloc: Global, heap: Lent<'_>, row: Row<'_>, way: Way) -> Result<(), Failed> {
-    let mut text = full(heap)?;
-    heap.grant(9);
-    let is_made = succeeds(&mut text, row.call, way);
-    let are_counted = heap.requests() == row.refused.len() as u64 && heap.bytes() == row.requested;
-    if !is_made || !are_counted {
-        return Err(Failed::by(Wrong::Requests));
-    }
-    expect_bytes(alloc, text.as_wtf8(), row.dump)
-}
-
-/// Makes the call with `granted` requests granted, and the following ones, or the next one alone, refused. Fails unless
-/// the call fails at its first refused request and leaves the bytes of `dump`.
-fn expect_stopped(
-    alloc: Global,
-    heap: Lent<'_>,
-    (call, way): (Build<'_>, Way),
-    (granted, refusal): (u64, Refusal),
-    dump: &str,
-) -> Result<(), Failed> {
-    let mut text = full(heap)?;
-    heap.refuse_after(granted, refusal);
-    let is_made = succeeds(&mut text, call, way);
-    if is_made || heap.requests() != granted.wrapping_add(1) {
-        return Err(Failed::by(Wrong::Requests));
-    }
-    expect_bytes(alloc, text.as_wtf8(), dump)
-}
-
-/// Refuses each request of the call in turn. Fails unless the call ends there and leaves the bytes of the row.
+/// Refuses each request of the change in turn. Fails unless the change ends there and leaves the bytes of the row.
 fn expect_kept(
     alloc: Global,
     heap: Lent<'_>,
-    row: Row<'_>,
-    way: Way,
+    change: Change<'_>,
+    refused: &[&str],
     refusal: Refusal,
 ) -> Result<(), Failed> {
     let mut granted = 0u64;
-    for dump in row.refused {
-        expect_stopped(alloc, heap, (row.call, way), (granted, refusal), dump)?;
+    for dump in refused {
+        expect_requests(alloc, heap, change, Requests::first(granted, refusal), dump)?;
         granted = granted.wrapping_add(1);
     }
     Ok(())
 }
 
-/// Fails unless the row's call makes its requests if all are granted and `refusal` is `None`, or ends at each of them
-/// that is refused.
-fn expect_call(
+/// Fails unless the row's call, made in this way, makes its requests if all are granted and `refusal` is `None`, or ends
+/// at each of them that is refused.
+fn expect_change(
     alloc: Global,
     heap: Lent<'_>,
+    change: Change<'_>,
     row: Row<'_>,
-    way: Way,
     refusal: Option<Refusal>,
 ) -> Result<(), Failed> {
     match refusal {
-        None => expect_granted(alloc, heap, row, way),
-        Some(refusal) => expect_kept(alloc, heap, row, way, refusal),
+        None => {
+            let requests = Requests::all(row.refused.len() as u64, row.requested);
+            expect_requests(alloc, heap, change, requests, row.dump)
+        }
+        Some(refusal) => expect_kept(alloc, heap, change, row.refused, refusal),
     }
 }
 
-/// Fails unless the row's call, made as a method and through `apply`, does what `expect_call` requires.
+/// Fails unless the row's call, made as a method and through `apply`, does what `expect_change` requires.
 fn expect_row(
     alloc: Global,
     heap: Lent<'_>,
     row: Row<'_>,
     refusal: Option<Refusal>,
 ) -> Result<(), Failed> {
-    expect_call(alloc, heap, row, Way::Method, refusal)?;
-    expect_call(alloc, heap, row, Way::Apply, refusal)
+    expect_change(alloc, heap, Change::Method(row.call), row, refusal)?;
+    expect_change(alloc, heap, Change::Apply(row.call), row, refusal)
 }
 
-/// Fails unless each call, made as a method and through `apply`, does what `expect_call` requires.
+/// Fails unless each row's call does what `expect_row` requires. `trails` has the units DCA9, DCA9 and 62.
 fn expect_rows(
     alloc: Global,
     heap: Lent<'_>,
@@ -244,15 +214,19 @@ fn expect_rows(
     let points = [CodePoint::from_unit(0x0800); 3];
     let mut index = 0usize;
     for row in rows(trails, &joining, &points) {
-        in_row(index, expect_row(alloc, heap, row, refusal))?;
+        if let Err(failed) = expect_row(alloc, heap, row, refusal) {
+            return in_row(index, Err(failed));
+        }
         index = index.wrapping_add(1);
     }
     Ok(())
 }
 
-/// Fails unless each call, made as a method and through `apply`, does what `expect_call` requires.
+/// Fails unless each row's call, made as a method and through `apply`, does what `expect_change` requires.
 fn expect_table(alloc: Global, refusal: Option<Refusal>) -> Result<(), Failed> {
-    let trails = joined(alloc, &[0xDCA9, 0xDCA9, 0x62])?;
+    let Ok(trails) = joined(alloc, &[0xDCA9, 0xDCA9, 0x62]) else {
+        return Err(Failed::by(Wrong::Memory));
+    };
     let heap = Refusing::new(alloc, 0);
     expect_rows(alloc, &heap, trails.as_wtf8(), refusal)
 }
@@ -271,57 +245,51 @@ fn a_refused_request_leaves_the_string_unchanged(rt: HostRuntime) -> Result<(), 
     Ok(())
 }
 
-/// Whether reserving 1,000 more bytes succeeds.
-fn reserves(text: &mut Wtf8Buf<Lent<'_>>, way: Way) -> bool {
-    match way {
-        Way::Method => text.reserve(1000).is_ok(),
-        Way::Apply => matches!(text.apply(Build::Reserve(1000)), Ok(true)),
-    }
-}
-
 /// Fails unless there is room for 1,000 more bytes after they are reserved.
-fn expect_reserved(heap: Lent<'_>, way: Way) -> Result<(), Failed> {
-    let mut text = full(heap)?;
+fn expect_reserved(heap: Lent<'_>, change: Change<'_>) -> Result<(), Failed> {
+    let Ok(mut text) = full(heap) else {
+        return Err(Failed::by(Wrong::Memory));
+    };
     heap.grant(1);
-    if !reserves(&mut text, way) || text.capacity() < 1004 {
-        return Err(Failed::by(Wrong::Outcome));
-    }
-    Ok(())
+    let is_reserved = succeeds(&mut text, change) && 1004 <= text.capacity();
+    expect(is_reserved, Wrong::Outcome)
 }
 
 #[test]
 fn reserve_gives_the_capacity(rt: HostRuntime) -> Result<(), Failed> {
     let heap = Refusing::new(rt.alloc(), 0);
-    for way in [Way::Method, Way::Apply] {
-        expect_reserved(&heap, way)?;
-    }
-    Ok(())
+    let call = Build::Reserve(1000);
+    expect_reserved(&heap, Change::Method(call))?;
+    expect_reserved(&heap, Change::Apply(call))
 }
 
 /// Fails unless reserving `usize::MAX` bytes is refused, as a method and through `apply`, and leaves "a".
-fn expect_refused_room(alloc: Global, text: &mut Wtf8Buf<Global>) -> Result<(), Failed> {
-    if text.reserve(usize::MAX).is_ok() {
-        return Err(Failed::by(Wrong::Outcome));
-    }
-    expect_bytes(alloc, text.as_wtf8(), "61")?;
-    if text.apply(Build::Reserve(usize::MAX)).is_ok() {
-        return Err(Failed::by(Wrong::Outcome));
-    }
-    expect_bytes(alloc, text.as_wtf8(), "61")
+fn expect_refused_room(alloc: Global) -> Result<(), Failed> {
+    let Ok(mut text) = Wtf8Buf::from_str(alloc, "a") else {
+        return Err(Failed::by(Wrong::Memory));
+    };
+    let call = Build::Reserve(usize::MAX);
+    let rows = [
+        (Change::Method(call), None, "61"),
+        (Change::Apply(call), None, "61"),
+    ];
+    expect_steps(alloc, &mut text, &rows)
 }
 
 #[test]
 fn reserving_usize_max_bytes_is_refused(rt: HostRuntime) -> Result<(), Failed> {
     let alloc = rt.alloc();
-    assert!(rt; Wtf8Buf::with_capacity(alloc, usize::MAX).is_err());
-    let mut text = Wtf8Buf::from_str(alloc, "a")?;
-    expect_refused_room(alloc, &mut text)
+    let is_made = Wtf8Buf::with_capacity(alloc, usize::MAX).is_ok();
+    if is_made {
+        return Err(Failed::by(Wrong::Outcome));
+    }
+    expect_refused_room(alloc)
 }
 
 /// Calls `shrink_to_fit`. Fails unless the capacity is then `capacity` and the string is unchanged.
-fn expect_shrunk(
+fn expect_shrunk<A: Allocator>(
     alloc: Global,
-    text: &mut Wtf8Buf<Lent<'_>>,
+    text: &mut Wtf8Buf<A>,
     capacity: usize,
 ) -> Result<(), Failed> {
     text.shrink_to_fit();
@@ -332,7 +300,7 @@ fn expect_shrunk(
 }
 
 /// Clears and shrinks a string, and returns whether its capacity is then 0.
-fn releases(text: &mut Wtf8Buf<Lent<'_>>) -> bool {
+fn releases<A: Allocator>(text: &mut Wtf8Buf<A>) -> bool {
     text.clear();
     text.shrink_to_fit();
     text.capacity() == 0 && text.is_empty()
@@ -348,19 +316,20 @@ fn expect_released(
     let mut row = 0usize;
     for (granted, capacity) in [(0, 100), (1, 4), (1, 4)] {
         heap.grant(granted);
-        in_row(row, expect_shrunk(alloc, text, capacity))?;
+        if let Err(failed) = expect_shrunk(alloc, text, capacity) {
+            return in_row(row, Err(failed));
+        }
         row = row.wrapping_add(1);
     }
     heap.grant(0);
-    if !releases(text) {
-        return Err(Failed::by(Wrong::Outcome));
-    }
-    Ok(())
+    expect(releases(text), Wrong::Outcome)
 }
 
 /// Fails unless a string with a capacity of 100 bytes releases what it does not need, if memory is granted.
 fn expect_hundred_released(alloc: Global, heap: Lent<'_>) -> Result<(), Failed> {
-    let mut text = filled(heap, 100)?;
+    let Ok(mut text) = filled(heap, 100) else {
+        return Err(Failed::by(Wrong::Memory));
+    };
     expect_released(alloc, heap, &mut text)
 }
 
@@ -373,7 +342,9 @@ fn shrink_to_fit_releases_spare_capacity(rt: HostRuntime) -> Result<(), Failed> 
 
 /// The capacity of a string of `length` bytes after `shrink_to_fit`.
 fn shrunk_capacity(alloc: Global, length: usize) -> Result<usize, AllocError> {
-    let mut text = Wtf8Buf::with_capacity(alloc, 100)?;
+    let Ok(mut text) = Wtf8Buf::with_capacity(alloc, 100) else {
+        return Err(AllocError);
+    };
     push_letters(&mut text, length)?;
     text.shrink_to_fit();
     Ok(text.capacity())
@@ -381,9 +352,12 @@ fn shrunk_capacity(alloc: Global, length: usize) -> Result<usize, AllocError> {
 
 #[test]
 fn shrink_to_fit_leaves_no_spare_capacity_at_each_length(rt: HostRuntime) -> Result<(), Failed> {
+    let alloc = rt.alloc();
     for length in 0..=70 {
-        let capacity = shrunk_capacity(rt.alloc(), length)?;
-        assert_eq!(rt; capacity, length);
+        let is_shrunk = shrunk_capacity(alloc, length) == Ok(length);
+        if let Err(failed) = expect(is_shrunk, Wrong::Outcome) {
+            return in_row(length, Err(failed));
+        }
     }
     Ok(())
 }

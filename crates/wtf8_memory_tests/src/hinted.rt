@@ -1,10 +1,10 @@
 // Iterators whose lower size hint is wrong, or whose upper one is far above it.
 use refusing::{Lent, REFUSALS, Refusing};
-use std::alloc::{AllocError, Global};
+use std::alloc::{AllocError, Allocator, Global};
 use std::cell::Cell;
 use wtf8::{CodePoint, Wtf8, Wtf8Buf};
 use wtf8_tests::examples::{expect_units, joined};
-use wtf8_tests::wrong::{Failed, Wrong, expect_bytes, in_row};
+use wtf8_tests::wrong::{Failed, Wrong, expect, expect_bytes, in_row};
 
 /// Yields a code point `left` times, with size hints that the test chooses, of which the lower one may be wrong. Counts
 /// the items that are taken.
@@ -84,21 +84,48 @@ fn expect_trails(
     if taken.take() != left {
         return Err(Failed::by(Wrong::Outcome));
     }
-    let expected = expected_units(alloc, left, has_lead)?;
+    let Ok(expected) = expected_units(alloc, left, has_lead) else {
+        return Err(Failed::by(Wrong::Memory));
+    };
     expect_units(alloc, text, &expected)
 }
 
-/// Fails unless `from_iter` takes all items, whatever the lower hint.
-fn expect_made(alloc: Global, left: u32, hint: usize, taken: &Cell<u32>) -> Result<(), Failed> {
-    let text = Wtf8Buf::from_iter(alloc, trails(left, hint, taken))?;
-    expect_trails(alloc, text.as_wtf8(), left, false, taken)
+/// Appends the items to a string.
+fn extended<A: Allocator + Drop>(
+    string: Wtf8Buf<A>,
+    items: Hinted<'_>,
+) -> Result<Wtf8Buf<A>, AllocError> {
+    let mut text = string;
+    text.extend(items)?;
+    Ok(text)
 }
 
-/// Fails unless `extend` appends all items to a lead surrogate, whatever the lower hint.
-fn expect_extended(alloc: Global, left: u32, hint: usize, taken: &Cell<u32>) -> Result<(), Failed> {
-    let mut text = joined(alloc, &[0xD83D])?;
-    text.extend(trails(left, hint, taken))?;
-    expect_trails(alloc, text.as_wtf8(), left, true, taken)
+/// The string that `from_iter` makes of the items if `front` is `None`, or else the string of these units extended by
+/// the items.
+fn collected<A: Allocator + Drop>(
+    alloc: A,
+    front: Option<&[u16]>,
+    items: Hinted<'_>,
+) -> Result<Wtf8Buf<A>, AllocError> {
+    match front {
+        None => Wtf8Buf::from_iter(alloc, items),
+        Some(units) => extended(joined(alloc, units)?, items),
+    }
+}
+
+/// Fails unless `from_iter`, or `extend` of a lead surrogate if `has_lead`, takes all items, whatever the lower hint.
+fn expect_collected(
+    alloc: Global,
+    (left, hint): (u32, usize),
+    has_lead: bool,
+    taken: &Cell<u32>,
+) -> Result<(), Failed> {
+    let lead: &[u16] = &[0xD83D];
+    let front = if has_lead { Some(lead) } else { None };
+    let Ok(text) = collected(alloc, front, trails(left, hint, taken)) else {
+        return Err(Failed::by(Wrong::Memory));
+    };
+    expect_trails(alloc, text.as_wtf8(), left, has_lead, taken)
 }
 
 #[test]
@@ -106,48 +133,42 @@ fn a_lower_hint_may_be_false(rt: HostRuntime) -> Result<(), Failed> {
     let alloc = rt.alloc();
     let taken = Cell::new(0);
     let mut row = 0usize;
-    for (left, hint) in [(1000, 0), (2, 5), (0, 3)] {
-        in_row(row, expect_made(alloc, left, hint, &taken))?;
-        in_row(row, expect_extended(alloc, left, hint, &taken))?;
+    for items in [(1000, 0), (2, 5), (0, 3)] {
+        for has_lead in [false, true] {
+            if let Err(failed) = expect_collected(alloc, items, has_lead, &taken) {
+                return in_row(row, Err(failed));
+            }
+        }
         row = row.wrapping_add(1);
     }
     Ok(())
 }
 
-/// Whether extending a string by `left` items, with the lower hint `hint`, succeeds.
-fn is_extended(text: &mut Wtf8Buf<Lent<'_>>, left: u32, hint: usize, taken: &Cell<u32>) -> bool {
-    text.extend(trails(left, hint, taken)).is_ok()
-}
-
-/// Fails unless a lower hint of 50 is reserved by the one request that is granted.
-fn expect_reserved(
+/// Extends a string by `left` items with the lower hint `hint`. Returns whether that succeeds just if `is_extended`, no
+/// item is taken, there is room for 50 bytes, and `requests` requests were made so far.
+fn is_reserved<A: Allocator>(
     heap: Lent<'_>,
-    text: &mut Wtf8Buf<Lent<'_>>,
+    text: &mut Wtf8Buf<A>,
+    (left, hint, is_extended): (u32, usize, bool),
+    requests: u64,
     taken: &Cell<u32>,
-) -> Result<(), Failed> {
-    if !is_extended(text, 0, 50, taken) || text.capacity() < 50 || heap.requests() != 1 {
-        return Err(Failed::by(Wrong::Requests));
-    }
-    Ok(())
+) -> bool {
+    let is_done = text.extend(trails(left, hint, taken)).is_ok();
+    is_done == is_extended
+        && 50 <= text.capacity()
+        && heap.requests() == requests
+        && taken.get() == 0
 }
 
-/// Fails unless the next request, for a lower hint of 51, is refused before an item is taken.
-fn expect_refused(
-    heap: Lent<'_>,
-    text: &mut Wtf8Buf<Lent<'_>>,
-    taken: &Cell<u32>,
-) -> Result<(), Failed> {
-    if is_extended(text, 1, 51, taken) || heap.requests() != 2 || taken.get() != 0 {
-        return Err(Failed::by(Wrong::Requests));
-    }
-    Ok(())
-}
-
-/// Fails unless room for the lower hint is reserved first, and a refusal leaves the string empty.
+/// Fails unless room for the lower hint is reserved first: for 50 by the one request that is granted, and for 51 by the
+/// next one, whose refusal leaves the string empty before an item is taken.
 fn expect_reserved_first(alloc: Global, heap: Lent<'_>, taken: &Cell<u32>) -> Result<(), Failed> {
     let mut text = Wtf8Buf::new(heap);
-    expect_reserved(heap, &mut text, taken)?;
-    expect_refused(heap, &mut text, taken)?;
+    let is_right = is_reserved(heap, &mut text, (0, 50, true), 1, taken)
+        && is_reserved(heap, &mut text, (1, 51, false), 2, taken);
+    if !is_right {
+        return Err(Failed::by(Wrong::Requests));
+    }
     expect_bytes(alloc, text.as_wtf8(), "")
 }
 
@@ -227,36 +248,32 @@ fn items_of(row: Upper, taken: &Cell<u32>) -> Hinted<'_> {
     items(row.left, row.lower, Some(row.upper), taken)
 }
 
-/// The length in bytes of a string made of the items of a row.
-fn len_of_made(heap: Lent<'_>, row: Upper, taken: &Cell<u32>) -> Result<usize, AllocError> {
-    Ok(Wtf8Buf::from_iter(heap, items_of(row, taken))?.len())
-}
-
-/// The length in bytes of an empty string that is extended by the items of a row.
-fn len_of_extended(heap: Lent<'_>, row: Upper, taken: &Cell<u32>) -> Result<usize, AllocError> {
-    let mut text = Wtf8Buf::new(heap);
-    text.extend(items_of(row, taken))?;
+/// The length in bytes of the string that `collected` makes of the items of a row.
+fn len_of<A: Allocator + Drop>(
+    heap: A,
+    front: Option<&[u16]>,
+    row: Upper,
+    taken: &Cell<u32>,
+) -> Result<usize, AllocError> {
+    let Ok(text) = collected(heap, front, items_of(row, taken)) else {
+        return Err(AllocError);
+    };
     Ok(text.len())
 }
 
-/// Fails unless all items of the row were taken, three bytes each, with its requests and bytes.
+/// Fails unless `from_iter` if `front` is `None`, or else `extend` of the string of these units, which are none, takes
+/// all items of the row, three bytes each, with its requests and bytes.
 fn expect_upper(
     heap: Lent<'_>,
+    front: Option<&[u16]>,
     row: Upper,
-    len: Result<usize, AllocError>,
     taken: &Cell<u32>,
 ) -> Result<(), Failed> {
-    let Upper {
-        left,
-        requests,
-        bytes,
-        ..
-    } = row;
-    let are_taken = taken.take() == left && len == Ok(left as usize * 3);
-    if !are_taken || heap.requests() != requests || heap.bytes() != bytes {
-        return Err(Failed::by(Wrong::Requests));
-    }
-    Ok(())
+    heap.grant(99);
+    let len = len_of(heap, front, row, taken);
+    let are_taken = taken.take() == row.left && len == Ok(row.left as usize * 3);
+    let are_made = heap.requests() == row.requests && heap.bytes() == row.bytes;
+    expect(are_taken && are_made, Wrong::Requests)
 }
 
 #[test]
@@ -265,12 +282,12 @@ fn no_room_is_reserved_for_the_upper_hint(rt: HostRuntime) -> Result<(), Failed>
     let heap = Refusing::new(rt.alloc(), 0);
     let mut index = 0usize;
     for row in upper_rows() {
-        heap.grant(99);
-        let len = len_of_made(&heap, row, &taken);
-        in_row(index, expect_upper(&heap, row, len, &taken))?;
-        heap.grant(99);
-        let len = len_of_extended(&heap, row, &taken);
-        in_row(index, expect_upper(&heap, row, len, &taken))?;
+        if let Err(failed) = expect_upper(&heap, None, row, &taken) {
+            return in_row(index, Err(failed));
+        }
+        if let Err(failed) = expect_upper(&heap, Some(&[]), row, &taken) {
+            return in_row(index, Err(failed));
+        }
         index = index.wrapping_add(1);
     }
     Ok(())
@@ -283,12 +300,20 @@ fn are_refused(alloc: Global, text: &mut Wtf8Buf<Global>, taken: &Cell<u32>) -> 
     !is_extended && !is_made
 }
 
+/// Fails unless a lower hint of `usize::MAX` is refused before an item is taken, and leaves "a".
+fn expect_too_large(alloc: Global, taken: &Cell<u32>) -> Result<(), Failed> {
+    let Ok(mut text) = Wtf8Buf::from_str(alloc, "a") else {
+        return Err(Failed::by(Wrong::Memory));
+    };
+    let is_refused = are_refused(alloc, &mut text, taken) && taken.get() == 0;
+    if !is_refused {
+        return Err(Failed::by(Wrong::Outcome));
+    }
+    expect_bytes(alloc, text.as_wtf8(), "61")
+}
+
 #[test]
 fn no_item_is_taken_if_the_hint_is_too_large(rt: HostRuntime) -> Result<(), Failed> {
-    let alloc = rt.alloc();
     let taken = Cell::new(0);
-    let mut text = Wtf8Buf::from_str(alloc, "a")?;
-    assert!(rt; are_refused(alloc, &mut text, &taken));
-    assert!(rt; taken.get() == 0);
-    expect_bytes(alloc, text.as_wtf8(), "61")
+    expect_too_large(rt.alloc(), &taken)
 }

@@ -6,25 +6,38 @@ use std::alloc::{AllocError, Global};
 use wtf8_tests::wrong::{Failed, Wrong, in_row};
 
 /// Eight units that repeat in a string: of one kind alone, or mixed, without lone surrogates and with some.
-const KINDS: [[u16; 8]; 8] = [
-    [0x0061; 8],
-    [0x00E9; 8],
-    [0x3042; 8],
-    [0xD83D; 8],
-    [0xDCA9; 8],
+fn kinds() -> [[u16; 8]; 8] {
     [
-        0xD83D, 0xDCA9, 0xD83D, 0xDCA9, 0xD83D, 0xDCA9, 0xD83D, 0xDCA9,
-    ],
-    [
-        0x0061, 0x00E9, 0x3042, 0xD83D, 0xDCA9, 0x07FF, 0xE000, 0x0020,
-    ],
-    [
-        0x0061, 0x00E9, 0x3042, 0xD83D, 0xDCA9, 0xDCA9, 0x0020, 0xD83D,
-    ],
-];
+        [0x0061; 8],
+        [0x00E9; 8],
+        [0x3042; 8],
+        [0xD83D; 8],
+        [0xDCA9; 8],
+        [
+            0xD83D, 0xDCA9, 0xD83D, 0xDCA9, 0xD83D, 0xDCA9, 0xD83D, 0xDCA9,
+        ],
+        [
+            0x0061, 0x00E9, 0x3042, 0xD83D, 0xDCA9, 0x07FF, 0xE000, 0x0020,
+        ],
+        [
+            0x0061, 0x00E9, 0x3042, 0xD83D, 0xDCA9, 0xDCA9, 0x0020, 0xD83D,
+        ],
+    ]
+}
 
-/// Lengths in units to try besides each length from 0 to 300.
-const LONG: [usize; 4] = [1000, 5000, 20_000, 70_000];
+/// The number of lengths that `length_at` has.
+const LENGTHS: usize = 305;
+
+/// The length in units with this index: each from 0 to 300, then longer ones.
+fn length_at(index: usize) -> usize {
+    match index {
+        301 => 1000,
+        302 => 5000,
+        303 => 20_000,
+        304 => 70_000,
+        _ => index,
+    }
+}
 
 /// A unit, and lengths in units at which a string of it has about 4,096 or 65,536 bytes.
 const ABOUT_POWERS: [(u16, &[usize]); 3] = [
@@ -48,32 +61,36 @@ fn sample_of<'a>(
     heap: Lent<'a>,
     kind: &[u16; 8],
     length: usize,
-) -> Result<Sample<'a>, AllocError> {
-    let units = units_of(alloc, kind, length)?;
+) -> Result<Sample<Lent<'a>>, AllocError> {
+    let Ok(units) = units_of(alloc, kind, length) else {
+        return Err(AllocError);
+    };
     heap.grant(u64::MAX);
     sample_with(alloc, heap, units)
 }
 
-const CALLS: [Call; 18] = [
-    Call::WithCapacity,
-    Call::FromStr,
-    Call::FromUnits,
-    Call::FromIter,
-    Call::Clone,
-    Call::Reserve,
-    Call::PushEach,
-    Call::PushStr,
-    Call::PushWtf8,
-    Call::JoinWtf8,
-    Call::Extend,
-    Call::ApplyExtend,
-    Call::ApplyAll,
-    Call::ToStringLossy,
-    Call::HexDump,
-    Call::AppendHexDump,
-    Call::AppendUnits,
-    Call::AppendUnitsTwice,
-];
+fn calls() -> [Call; 18] {
+    [
+        Call::WithCapacity,
+        Call::FromStr,
+        Call::FromUnits,
+        Call::FromIter,
+        Call::Clone,
+        Call::Reserve,
+        Call::PushEach,
+        Call::PushStr,
+        Call::PushWtf8,
+        Call::JoinWtf8,
+        Call::Extend,
+        Call::ApplyExtend,
+        Call::ApplyAll,
+        Call::ToStringLossy,
+        Call::HexDump,
+        Call::AppendHexDump,
+        Call::AppendUnits,
+        Call::AppendUnitsTwice,
+    ]
+}
 
 /// A model of the memory of a growing string: its length and capacity in bytes, and the number of requests and of the
 /// bytes in them. It grows to the greatest of eight bytes, twice its capacity and what is needed.
@@ -126,7 +143,7 @@ impl Room {
 }
 
 /// The memory of a string of `len` bytes, empty or with a lead at its end, to which the sample is appended as a view.
-fn room_with_view(len: usize, sample: &Sample<'_>) -> Room {
+fn room_with_view(len: usize, sample: &Sample<Lent<'_>>) -> Room {
     let mut room = NO_ROOM;
     room.append(len);
     let begins_with_trail = match sample.units.first() {
@@ -144,7 +161,7 @@ fn room_with_view(len: usize, sample: &Sample<'_>) -> Room {
 }
 
 /// `room` after an extension by the sample, which reserves a byte for each unit and then pushes them one by one.
-fn room_extended(mut room: Room, sample: &Sample<'_>) -> Room {
+fn room_extended(mut room: Room, sample: &Sample<Lent<'_>>) -> Room {
     let before = if room.len == 0 {
         None
     } else {
@@ -156,7 +173,7 @@ fn room_extended(mut room: Room, sample: &Sample<'_>) -> Room {
 }
 
 /// The memory of a string to which the units are pushed one by one.
-fn room_pushed(sample: &Sample<'_>) -> Room {
+fn room_pushed(sample: &Sample<Lent<'_>>) -> Room {
     let mut room = NO_ROOM;
     room.push_each(0, &sample.units);
     room
@@ -186,36 +203,39 @@ fn room_appended_twice(count: usize) -> Room {
     room
 }
 
-/// The memory that a call requests, or `None` if that depends on the blocks in which units are encoded.
-fn room_after(call: Call, sample: &Sample<'_>) -> Option<Room> {
-    let view = sample.text.as_wtf8();
-    let (len, text) = (view.len(), view.as_str());
-    let text_len = text.unwrap_or("").len();
-    let count = sample.units.len();
+/// The number of bytes that a call requests or appends at once, of a string of `count` units, its text if it has one and
+/// its `len` bytes; 0 for a call that does neither.
+fn bytes_of(call: Call, count: usize, text: Option<&str>, len: usize) -> usize {
     match call {
-        Call::WithCapacity => Some(room_of(count)),
-        Call::FromStr => Some(room_of(text_len)),
-        Call::FromUnits if len == count => Some(room_of(len)),
-        Call::FromUnits => None,
-        Call::FromIter | Call::Extend | Call::ApplyExtend => Some(room_extended(NO_ROOM, sample)),
-        Call::Clone => Some(room_of(len)),
-        Call::Reserve => Some(room_appended(count)),
-        Call::PushEach => Some(room_pushed(sample)),
-        Call::PushStr => Some(room_appended(text_len)),
-        Call::PushWtf8 => Some(room_appended(len)),
-        Call::JoinWtf8 => Some(room_with_view(3, sample)),
-        Call::ApplyAll => Some(room_extended(room_with_view(0, sample), sample)),
-        Call::ToStringLossy => Some(room_of(if text.is_some() { 0 } else { len })),
-        Call::HexDump => Some(room_of(len.saturating_mul(3))),
-        Call::AppendHexDump => Some(room_appended(len.saturating_mul(3))),
-        Call::AppendUnits => Some(room_appended(count.saturating_mul(2))),
-        Call::AppendUnitsTwice => Some(room_appended_twice(count.saturating_mul(2))),
+        Call::WithCapacity | Call::Reserve => count,
+        Call::FromStr | Call::PushStr => text.unwrap_or("").len(),
+        Call::FromUnits | Call::Clone | Call::PushWtf8 => len,
+        Call::ToStringLossy if text.is_none() => len,
+        Call::HexDump | Call::AppendHexDump => len.saturating_mul(3),
+        Call::AppendUnits | Call::AppendUnitsTwice => count.saturating_mul(2),
+        _ => 0,
+    }
+}
+
+/// The memory that a call requests, which is not `FromUnits` of a string with other than one byte for each unit.
+fn room_after(call: Call, sample: &Sample<Lent<'_>>) -> Room {
+    let view = sample.text.as_wtf8();
+    let bytes = bytes_of(call, sample.units.len(), view.as_str(), view.len());
+    match call {
+        Call::FromIter | Call::Extend | Call::ApplyExtend => room_extended(NO_ROOM, sample),
+        Call::PushEach => room_pushed(sample),
+        Call::JoinWtf8 => room_with_view(3, sample),
+        Call::ApplyAll => room_extended(room_with_view(0, sample), sample),
+        Call::AppendUnitsTwice => room_appended_twice(bytes),
+        Call::Reserve | Call::PushStr | Call::PushWtf8 | Call::AppendHexDump | Call::AppendUnits =>
+            room_appended(bytes),
+        _ => room_of(bytes),
     }
 }
 
 /// Whether a string made of units requested no more than it may: one byte for each unit at first, then at most two
 /// growths, the first to at most three bytes for each unit, or eight.
-fn is_within(sample: &Sample<'_>, requests: u64, bytes: usize) -> bool {
+fn is_within(sample: &Sample<Lent<'_>>, requests: u64, bytes: usize) -> bool {
     let count = sample.units.len();
     let first = count.saturating_mul(3).max(8);
     requests <= 3
@@ -225,27 +245,39 @@ fn is_within(sample: &Sample<'_>, requests: u64, bytes: usize) -> bool {
                 .saturating_add(first.saturating_mul(2))
 }
 
+/// Whether a call requested the memory that it must, or, if that depends on the blocks in which units are encoded, no
+/// more than it may.
+fn is_as_needed(call: Call, sample: &Sample<Lent<'_>>, requests: u64, bytes: usize) -> bool {
+    let is_in_blocks = matches!(call, Call::FromUnits)
+        && sample.text.as_wtf8().len() != sample.units.len();
+    if is_in_blocks {
+        return is_within(sample, requests, bytes);
+    }
+    let room = room_after(call, sample);
+    bytes == room.bytes && requests == room.requests
+}
+
 /// Fails unless the call succeeds if all is granted, with the expected number of requests and of bytes. Returns the
 /// number of requests.
-fn expect_granted<'a>(heap: Lent<'a>, call: Call, sample: &Sample<'a>) -> Result<u64, Failed> {
+fn expect_granted<'a>(
+    heap: Lent<'a>,
+    call: Call,
+    sample: &Sample<Lent<'a>>,
+) -> Result<u64, Failed> {
     heap.grant(u64::MAX);
     if !succeeds(heap, call, sample) {
         return Err(Failed::by(Wrong::Outcome));
     }
     let (requests, bytes) = (heap.requests(), heap.bytes());
-    let is_as_needed = match room_after(call, sample) {
-        Some(room) => bytes == room.bytes && requests == room.requests,
-        None => is_within(sample, requests, bytes),
-    };
-    if !is_as_needed {
+    if !is_as_needed(call, sample, requests, bytes) {
         return Err(Failed::by(Wrong::Requests));
     }
     Ok(requests)
 }
 
 /// Fails unless each call on a sample succeeds if all is granted, with the expected number of requests and of bytes.
-fn expect_calls<'a>(heap: Lent<'a>, sample: &Sample<'a>) -> Result<(), Failed> {
-    for call in CALLS {
+fn expect_calls<'a>(heap: Lent<'a>, sample: &Sample<Lent<'a>>) -> Result<(), Failed> {
+    for call in calls() {
         expect_granted(heap, call, sample)?;
     }
     Ok(())
@@ -258,7 +290,9 @@ fn expect_done(
     kind: &[u16; 8],
     length: usize,
 ) -> Result<(), Failed> {
-    let sample = sample_of(alloc, heap, kind, length)?;
+    let Ok(sample) = sample_of(alloc, heap, kind, length) else {
+        return Err(Failed::by(Wrong::Memory));
+    };
     expect_calls(heap, &sample)
 }
 
@@ -266,12 +300,12 @@ fn expect_done(
 fn each_call_is_done_at_each_length(rt: HostRuntime) -> Result<(), Failed> {
     let alloc = rt.alloc();
     let heap = Refusing::new(alloc, 0);
-    for kind in &KINDS {
-        for length in 0..=300 {
-            in_row(length, expect_done(alloc, &heap, kind, length))?;
-        }
-        for length in LONG {
-            in_row(length, expect_done(alloc, &heap, kind, length))?;
+    for kind in &kinds() {
+        for index in 0..LENGTHS {
+            let length = length_at(index);
+            if let Err(failed) = expect_done(alloc, &heap, kind, length) {
+                return in_row(length, Err(failed));
+            }
         }
     }
     Ok(())
@@ -283,15 +317,17 @@ fn each_call_is_done_about_powers_of_two(rt: HostRuntime) -> Result<(), Failed> 
     let heap = Refusing::new(alloc, 0);
     for (unit, lengths) in ABOUT_POWERS {
         for length in lengths {
-            in_row(*length, expect_done(alloc, &heap, &[unit; 8], *length))?;
+            if let Err(failed) = expect_done(alloc, &heap, &[unit; 8], *length) {
+                return in_row(*length, Err(failed));
+            }
         }
     }
     Ok(())
 }
 
 /// Fails unless each call on a sample fails at each request that is refused.
-fn expect_refusals<'a>(heap: Lent<'a>, sample: &Sample<'a>) -> Result<(), Failed> {
-    for call in CALLS {
+fn expect_refusals<'a>(heap: Lent<'a>, sample: &Sample<Lent<'a>>) -> Result<(), Failed> {
+    for call in calls() {
         let requests = expect_granted(heap, call, sample)?;
         expect_refused(heap, call, sample, requests)?;
     }
@@ -305,20 +341,26 @@ fn expect_failures(
     kind: &[u16; 8],
     length: usize,
 ) -> Result<(), Failed> {
-    let sample = sample_of(alloc, heap, kind, length)?;
+    let Ok(sample) = sample_of(alloc, heap, kind, length) else {
+        return Err(Failed::by(Wrong::Memory));
+    };
     expect_refusals(heap, &sample)
 }
 
 /// The lengths in units at which each request is refused in turn.
-const REFUSED: [usize; 15] = [0, 1, 2, 3, 8, 15, 16, 17, 31, 32, 33, 64, 100, 300, 1000];
+fn refused() -> [usize; 15] {
+    [0, 1, 2, 3, 8, 15, 16, 17, 31, 32, 33, 64, 100, 300, 1000]
+}
 
 #[test]
 fn each_call_fails_at_each_refusal(rt: HostRuntime) -> Result<(), Failed> {
     let alloc = rt.alloc();
     let heap = Refusing::new(alloc, 0);
-    for kind in &KINDS {
-        for length in REFUSED {
-            in_row(length, expect_failures(alloc, &heap, kind, length))?;
+    for kind in &kinds() {
+        for length in refused() {
+            if let Err(failed) = expect_failures(alloc, &heap, kind, length) {
+                return in_row(length, Err(failed));
+            }
         }
     }
     Ok(())

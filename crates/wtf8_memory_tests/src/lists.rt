@@ -1,17 +1,15 @@
 // Lists of building calls that stop at a refused request for memory.
-use crate::shared::{FULL, call_named, full};
+use crate::shared::{FULL, call_each, full};
 use refusing::{Lent, REFUSALS, Refusal, Refusing};
-use std::alloc::{AllocError, Global};
+use std::alloc::{AllocError, Allocator, Global};
 use wtf8::{Build, CodePoint, Wtf8, Wtf8Buf};
 use wtf8_tests::examples::{expect_made, joined};
-use wtf8_tests::wrong::{Failed, Wrong, expect_bytes, in_row};
+use wtf8_tests::wrong::{Failed, Wrong, expect, expect_bytes, in_row};
 
 /// The string that the calls build, each made by the method of its name.
 fn folded(alloc: Global, calls: &[Build<'_>]) -> Result<Wtf8Buf<Global>, AllocError> {
     let mut text = Wtf8Buf::new(alloc);
-    for call in calls {
-        call_named(&mut text, *call)?;
-    }
+    call_each(&mut text, calls)?;
     Ok(text)
 }
 
@@ -57,8 +55,8 @@ fn stops() -> [Stop; 4] {
 }
 
 /// Appends the first `taken` code points of the call, if it is an extension.
-fn extend_by(
-    text: &mut Wtf8Buf<Global>,
+fn extend_by<A: Allocator>(
+    text: &mut Wtf8Buf<A>,
     call: Option<&Build<'_>>,
     taken: usize,
 ) -> Result<(), AllocError> {
@@ -71,13 +69,15 @@ fn extend_by(
 /// The string built by the calls before the refused one, made as methods, and, if that one is an extension, by the code
 /// points that it appended.
 fn before(alloc: Global, calls: &[Build<'_>], stop: Stop) -> Result<Wtf8Buf<Global>, AllocError> {
-    let mut text = folded(alloc, calls.get(..stop.done).unwrap_or(calls))?;
+    let Ok(mut text) = folded(alloc, calls.get(..stop.done).unwrap_or(calls)) else {
+        return Err(AllocError);
+    };
     extend_by(&mut text, calls.get(stop.done), stop.taken)?;
     Ok(text)
 }
 
 /// Whether `apply_all` stops at the call with index `done`.
-fn stops_at(text: &mut Wtf8Buf<Lent<'_>>, calls: &[Build<'_>], done: usize) -> bool {
+fn stops_at<A: Allocator>(text: &mut Wtf8Buf<A>, calls: &[Build<'_>], done: usize) -> bool {
     match text.apply_all(calls) {
         Ok(_) => false,
         Err(stopped) => stopped.done == done,
@@ -94,9 +94,9 @@ fn expect_stop(
 ) -> Result<(), Failed> {
     heap.refuse_after(stop.granted, refusal);
     let mut text = Wtf8Buf::new(heap);
-    if !stops_at(&mut text, calls, stop.done) || heap.requests() != stop.granted.wrapping_add(1) {
-        return Err(Failed::by(Wrong::Requests));
-    }
+    let is_stopped = stops_at(&mut text, calls, stop.done);
+    let is_counted = heap.requests() == stop.granted.wrapping_add(1);
+    expect(is_stopped && is_counted, Wrong::Requests)?;
     expect_bytes(alloc, text.as_wtf8(), stop.dump)
 }
 
@@ -104,12 +104,13 @@ fn expect_stop(
 fn expect_stops(alloc: Global, heap: Lent<'_>, calls: &[Build<'_>]) -> Result<(), Failed> {
     let mut row = 0usize;
     for stop in stops() {
-        in_row(
-            row,
-            expect_made(alloc, before(alloc, calls, stop), stop.dump),
-        )?;
+        if let Err(failed) = expect_made(alloc, before(alloc, calls, stop), stop.dump) {
+            return in_row(row, Err(failed));
+        }
         for refusal in REFUSALS {
-            in_row(row, expect_stop(alloc, heap, calls, stop, refusal))?;
+            if let Err(failed) = expect_stop(alloc, heap, calls, stop, refusal) {
+                return in_row(row, Err(failed));
+            }
         }
         row = row.wrapping_add(1);
     }
@@ -117,7 +118,7 @@ fn expect_stops(alloc: Global, heap: Lent<'_>, calls: &[Build<'_>]) -> Result<()
 }
 
 /// Whether a list is applied to its end, with `refused` of its truncations refused.
-fn applies_all(text: &mut Wtf8Buf<Lent<'_>>, calls: &[Build<'_>], refused: usize) -> bool {
+fn applies_all<A: Allocator>(text: &mut Wtf8Buf<A>, calls: &[Build<'_>], refused: usize) -> bool {
     match text.apply_all(calls) {
         Ok(found) => found == refused,
         Err(_) => false,
@@ -134,7 +135,8 @@ fn expect_applied(
 ) -> Result<(), Failed> {
     heap.grant(9);
     let mut text = Wtf8Buf::new(heap);
-    if !applies_all(&mut text, calls, 3) || heap.grants_left() != 5 {
+    let is_applied = applies_all(&mut text, calls, 3) && heap.grants_left() == 5;
+    if !is_applied {
         return Err(Failed::by(Wrong::Requests));
     }
     expect_bytes(alloc, text.as_wtf8(), dump)
@@ -172,12 +174,14 @@ fn expect_every_call(alloc: Global, heap: Lent<'_>, joining: Wtf8<'_>) -> Result
 fn a_list_of_every_call_stops_at_each_request(rt: HostRuntime) -> Result<(), Failed> {
     let alloc = rt.alloc();
     let heap = Refusing::new(alloc, 0);
-    let joining = joined(alloc, &[0xDCA9, 0x62])?;
+    let Ok(joining) = joined(alloc, &[0xDCA9, 0x62]) else {
+        return Err(Failed::by(Wrong::Memory));
+    };
     expect_every_call(alloc, &heap, joining.as_wtf8())
 }
 
 /// Whether a list stops at its first push, which makes its only request, if that is refused.
-fn stops_at_push(heap: Lent<'_>, text: &mut Wtf8Buf<Lent<'_>>, refusal: Refusal) -> bool {
+fn stops_at_push<A: Allocator>(heap: Lent<'_>, text: &mut Wtf8Buf<A>, refusal: Refusal) -> bool {
     let calls = [
         Build::Reserve(0),
         Build::Push(CodePoint::from_unit(0xDCA9)),
@@ -188,10 +192,10 @@ fn stops_at_push(heap: Lent<'_>, text: &mut Wtf8Buf<Lent<'_>>, refusal: Refusal)
 }
 
 /// Fails unless a list stops at a refused push and leaves "a" and D83D.
-fn expect_push_refused(
+fn expect_push_refused<A: Allocator>(
     alloc: Global,
     heap: Lent<'_>,
-    text: &mut Wtf8Buf<Lent<'_>>,
+    text: &mut Wtf8Buf<A>,
 ) -> Result<(), Failed> {
     for refusal in REFUSALS {
         if !stops_at_push(heap, text, refusal) {
@@ -204,7 +208,9 @@ fn expect_push_refused(
 
 /// Fails unless a list stops at a refused push, on a string without spare capacity, and leaves that unchanged.
 fn expect_push_refused_where_full(alloc: Global, heap: Lent<'_>) -> Result<(), Failed> {
-    let mut text = full(heap)?;
+    let Ok(mut text) = full(heap) else {
+        return Err(Failed::by(Wrong::Memory));
+    };
     expect_push_refused(alloc, heap, &mut text)
 }
 
@@ -215,31 +221,28 @@ fn a_list_stops_at_the_refused_push(rt: HostRuntime) -> Result<(), Failed> {
     expect_push_refused_where_full(alloc, &heap)
 }
 
-/// Fails unless an extension that needs more than the capacity stops, with the code points appended that fit.
-fn expect_part(text: &mut Wtf8Buf<Lent<'_>>, points: &[CodePoint]) -> Result<(), Failed> {
-    if !stops_at(text, &[Build::Extend(points)], 0) {
-        return Err(Failed::by(Wrong::Outcome));
-    }
+/// Whether an extension that needs more than the capacity, which is the number of the code points, stops, with the code
+/// points appended that fit.
+fn keeps_part<A: Allocator>(text: &mut Wtf8Buf<A>, points: &[CodePoint]) -> bool {
+    let is_stopped = stops_at(text, &[Build::Extend(points)], 0);
     let view = text.as_wtf8();
-    if view.len() != text.capacity() / 3 * 3 {
-        return Err(Failed::by(Wrong::Outcome));
-    }
-    if view.to_ill_formed_utf16().next() != Some(0x0800) {
-        return Err(Failed::by(Wrong::Outcome));
-    }
-    Ok(())
+    is_stopped
+        && text.capacity() == points.len()
+        && view.len() == text.capacity() / 3 * 3
+        && view.to_ill_formed_utf16().next() == Some(0x0800)
 }
 
 /// Fails unless an extension of a string of small capacity stops, with the code points appended that fit.
-fn expect_extension_stopped(alloc: Global, heap: Lent<'_>) -> Result<(), Failed> {
-    let mut text = Wtf8Buf::with_capacity(heap, 4)?;
-    let points: Vec<CodePoint> = vec![in alloc; CodePoint::from_unit(0x0800); text.capacity()]?;
-    expect_part(&mut text, &points)
+fn expect_extension_stopped(heap: Lent<'_>) -> Result<(), Failed> {
+    let Ok(mut text) = Wtf8Buf::with_capacity(heap, 4) else {
+        return Err(Failed::by(Wrong::Memory));
+    };
+    let points = [CodePoint::from_unit(0x0800); 4];
+    expect(keeps_part(&mut text, &points), Wrong::Outcome)
 }
 
 #[test]
 fn a_stopped_extension_keeps_the_code_points_that_fit(rt: HostRuntime) -> Result<(), Failed> {
-    let alloc = rt.alloc();
-    let heap = Refusing::new(alloc, 1);
-    expect_extension_stopped(alloc, &heap)
+    let heap = Refusing::new(rt.alloc(), 1);
+    expect_extension_stopped(&heap)
 }

@@ -137,7 +137,7 @@ fn rows() -> [Row; 18] {
 }
 
 /// Fails unless the call succeeds if all is granted, with the requests and bytes of the row.
-fn expect_granted<'a>(heap: Lent<'a>, row: Row, sample: &Sample<'a>) -> Result<(), Failed> {
+fn expect_granted<'a>(heap: Lent<'a>, row: Row, sample: &Sample<Lent<'a>>) -> Result<(), Failed> {
     heap.grant(9);
     let is_done = succeeds(heap, row.call, sample);
     if !is_done || heap.requests() != row.requests || heap.bytes() != row.bytes {
@@ -150,7 +150,7 @@ fn expect_granted<'a>(heap: Lent<'a>, row: Row, sample: &Sample<'a>) -> Result<(
 fn expect_call<'a>(
     heap: Lent<'a>,
     row: Row,
-    sample: &Sample<'a>,
+    sample: &Sample<Lent<'a>>,
     is_refused: bool,
 ) -> Result<(), Failed> {
     if is_refused {
@@ -160,14 +160,20 @@ fn expect_call<'a>(
 }
 
 /// The sample of these units.
-fn sample_of<'a>(alloc: Global, heap: Lent<'a>, units: &[u16]) -> Result<Sample<'a>, AllocError> {
+fn sample_of<'a>(
+    alloc: Global,
+    heap: Lent<'a>,
+    units: &[u16],
+) -> Result<Sample<Lent<'a>>, AllocError> {
     heap.grant(9);
     sample_with(alloc, heap, Vec::from_slice(alloc, units)?)
 }
 
 /// Fails unless the row's call on a string of its units is as `expect_call` says, and leaves the string unchanged.
 fn expect_row(alloc: Global, heap: Lent<'_>, row: Row, is_refused: bool) -> Result<(), Failed> {
-    let sample = sample_of(alloc, heap, row.units)?;
+    let Ok(sample) = sample_of(alloc, heap, row.units) else {
+        return Err(Failed::by(Wrong::Memory));
+    };
     expect_call(heap, row, &sample, is_refused)?;
     expect_units(alloc, sample.text.as_wtf8(), row.units)
 }
@@ -177,7 +183,9 @@ fn expect_rows(alloc: Global, is_refused: bool) -> Result<(), Failed> {
     let heap = Refusing::new(alloc, 0);
     let mut index = 0usize;
     for row in rows() {
-        in_row(index, expect_row(alloc, &heap, row, is_refused))?;
+        if let Err(failed) = expect_row(alloc, &heap, row, is_refused) {
+            return in_row(index, Err(failed));
+        }
         index = index.wrapping_add(1);
     }
     Ok(())
@@ -195,12 +203,18 @@ fn a_making_call_fails_at_each_refusal(rt: HostRuntime) -> Result<(), Failed> {
 
 /// The capacity of a clone.
 fn cloned_capacity(text: &Wtf8Buf<Lent<'_>>) -> Result<usize, AllocError> {
-    let copy = text.clone()?;
+    let Ok(copy) = text.clone() else {
+        return Err(AllocError);
+    };
     Ok(copy.capacity())
 }
 
 /// Fails unless a clone of the sample's text requests just its `letters` bytes, at once, and fails if that is refused.
-fn expect_clone<'a>(heap: Lent<'a>, sample: &Sample<'a>, letters: usize) -> Result<(), Failed> {
+fn expect_clone<'a>(
+    heap: Lent<'a>,
+    sample: &Sample<Lent<'a>>,
+    letters: usize,
+) -> Result<(), Failed> {
     heap.grant(9);
     let capacity = cloned_capacity(&sample.text);
     let requests = u64::from(0 < letters);
@@ -215,8 +229,10 @@ fn sample_of_letters<'a>(
     alloc: Global,
     heap: Lent<'a>,
     letters: usize,
-) -> Result<Sample<'a>, AllocError> {
-    let mut sample = sample_of(alloc, heap, &[])?;
+) -> Result<Sample<Lent<'a>>, AllocError> {
+    let Ok(mut sample) = sample_of(alloc, heap, &[]) else {
+        return Err(AllocError);
+    };
     sample.text.reserve(200)?;
     push_letters(&mut sample.text, letters)?;
     Ok(sample)
@@ -225,7 +241,9 @@ fn sample_of_letters<'a>(
 /// Fails unless a clone of a string of `letters` bytes, with a capacity of at least 200, makes one request for its
 /// bytes alone, or none if it is empty.
 fn expect_cloned(alloc: Global, heap: Lent<'_>, letters: usize) -> Result<(), Failed> {
-    let sample = sample_of_letters(alloc, heap, letters)?;
+    let Ok(sample) = sample_of_letters(alloc, heap, letters) else {
+        return Err(Failed::by(Wrong::Memory));
+    };
     expect_clone(heap, &sample, letters)
 }
 
@@ -234,7 +252,9 @@ fn a_clone_has_no_spare_capacity(rt: HostRuntime) -> Result<(), Failed> {
     let alloc = rt.alloc();
     let heap = Refusing::new(alloc, 0);
     for letters in [0, 1, 31, 32, 33, 64, 100, 199, 200] {
-        in_row(letters, expect_cloned(alloc, &heap, letters))?;
+        if let Err(failed) = expect_cloned(alloc, &heap, letters) {
+            return in_row(letters, Err(failed));
+        }
     }
     Ok(())
 }

@@ -1,16 +1,19 @@
 // Calls that make no request for memory, not even one whose refusal they ignore: of nine requests granted before them
 // all are left after them. The calls also succeed if every request is refused.
-use crate::shared::{Step, expect_step};
+use crate::shared::{Change, call_each, expect_step, expect_steps};
 use refusing::{Lent, Refusing};
-use std::alloc::{AllocError, Global};
+use std::alloc::{AllocError, Allocator, Global};
 use std::borrow::CowStr;
 use wtf8::{Build, CodePoint, Wtf8, Wtf8Buf};
-use wtf8_tests::examples::{TEXT, TEXT_DUMP, expect_made, expect_true, pushed};
-use wtf8_tests::wrong::{Failed, Wrong, expect_bytes, in_row};
+use wtf8_tests::examples::{TEXT, TEXT_DUMP, expect_made, pushed};
+use wtf8_tests::wrong::{Failed, Wrong, expect, expect_bytes, in_row};
 
 const LEAD: u16 = 0xD83D;
 
 const TRAIL: u16 = 0xDCA9;
+
+/// The bytes of the pair.
+const PAIR_DUMP: &str = "F0 9F 92 A9";
 
 /// The numbers of requests granted: none, or nine.
 const GRANTS: [u64; 2] = [0, 9];
@@ -18,65 +21,90 @@ const GRANTS: [u64; 2] = [0, 9];
 /// Fails if `outcome` did, or unless `grants` requests are still granted, so that none was made.
 fn expect_left(heap: Lent<'_>, grants: u64, outcome: Result<(), Failed>) -> Result<(), Failed> {
     outcome?;
-    if heap.grants_left() != grants {
-        return Err(Failed::by(Wrong::Requests));
-    }
-    Ok(())
+    expect(heap.grants_left() == grants, Wrong::Requests)
 }
 
 /// An empty string with a capacity of `room` bytes, after which `grants` requests are granted.
-fn with_room(heap: Lent<'_>, room: usize, grants: u64) -> Result<Wtf8Buf<Lent<'_>>, AllocError> {
+fn with_room(heap: Lent<'_>, room: usize, grants: u64) -> Result<Wtf8Buf<Lent<'_>>, Failed> {
     heap.grant(1);
-    let text = Wtf8Buf::with_capacity(heap, room)?;
+    let Ok(text) = Wtf8Buf::with_capacity(heap, room) else {
+        return Err(Failed::by(Wrong::Memory));
+    };
     heap.grant(grants);
     Ok(text)
 }
 
 /// Appends nothing, by each call that appends.
-fn append_nothing(text: &mut Wtf8Buf<Lent<'_>>) -> Result<(), AllocError> {
-    text.reserve(0)?;
-    text.push_str("")?;
-    text.push_wtf8(Wtf8::from_str(""))?;
+fn append_nothing<A: Allocator>(text: &mut Wtf8Buf<A>) -> Result<(), AllocError> {
+    let calls = [
+        Build::Reserve(0),
+        Build::PushStr(""),
+        Build::PushWtf8(Wtf8::from_str("")),
+    ];
+    call_each(text, &calls)?;
     text.extend([])
 }
 
-/// Whether the hex dump is empty.
-fn is_dump_empty(heap: Lent<'_>, view: Wtf8<'_>) -> Result<bool, AllocError> {
-    let dump = view.hex_dump(heap)?;
-    Ok(dump.as_str().is_empty())
+/// Whether the hex dump is made and empty.
+fn is_dump_empty<A: Allocator + Drop>(heap: A, view: Wtf8<'_>) -> bool {
+    match view.hex_dump(heap) {
+        Ok(dump) => dump.as_str().is_empty(),
+        Err(_) => false,
+    }
 }
 
-/// Whether the lossy text is empty.
-fn is_lossy_text_empty(heap: Lent<'_>, view: Wtf8<'_>) -> Result<bool, AllocError> {
-    let lossy = view.to_string_lossy(heap)?;
-    Ok(lossy.as_str().is_empty())
-}
-
-/// Whether the hex dump and the lossy text are empty.
-fn has_no_texts(heap: Lent<'_>, view: Wtf8<'_>) -> Result<bool, AllocError> {
-    Ok(is_dump_empty(heap, view)? && is_lossy_text_empty(heap, view)?)
+/// Whether the lossy text is `text`, borrowed.
+fn is_lossy_text_borrowed<A: Allocator + Drop>(heap: A, view: Wtf8<'_>, text: &str) -> bool {
+    match view.to_string_lossy(heap) {
+        Ok(CowStr::Borrowed(lossy)) => lossy == text,
+        _ => false,
+    }
 }
 
 /// Fails unless an empty string to which nothing is appended is empty, and so are its hex dump and lossy text.
-fn expect_nothing(alloc: Global, heap: Lent<'_>) -> Result<(), Failed> {
+fn expect_nothing<A: Allocator + Drop + Copy>(alloc: Global, heap: A) -> Result<(), Failed> {
     let mut text = Wtf8Buf::new(heap);
-    append_nothing(&mut text)?;
-    expect_bytes(alloc, text.as_wtf8(), "")?;
-    expect_true(has_no_texts(heap, text.as_wtf8()))
+    let Ok(()) = append_nothing(&mut text) else {
+        return Err(Failed::by(Wrong::Memory));
+    };
+    let view = text.as_wtf8();
+    expect_bytes(alloc, view, "")?;
+    let has_no_texts = is_dump_empty(heap, view) && is_lossy_text_borrowed(heap, view, "");
+    expect(has_no_texts, Wrong::Outcome)
 }
 
 /// Fails unless each call that makes a string of nothing makes an empty one.
-fn expect_made_of_nothing(alloc: Global, heap: Lent<'_>) -> Result<(), Failed> {
+fn expect_made_of_nothing<A: Allocator + Drop + Copy>(
+    alloc: Global,
+    heap: A,
+) -> Result<(), Failed> {
     expect_made(alloc, Wtf8Buf::with_capacity(heap, 0), "")?;
     expect_made(alloc, Wtf8Buf::from_str(heap, ""), "")?;
     expect_made(alloc, Wtf8Buf::from_ill_formed_utf16(heap, &[]), "")?;
     expect_made(alloc, Wtf8Buf::from_iter(heap, []), "")
 }
 
-/// Whether the lossy text is `text`, borrowed.
-fn is_lossy_text_borrowed(heap: Lent<'_>, view: Wtf8<'_>, text: &str) -> Result<bool, AllocError> {
-    let lossy = view.to_string_lossy(heap)?;
-    Ok(matches!(lossy, CowStr::Borrowed(_)) && lossy.as_str() == text)
+/// What makes no request.
+#[derive(Clone, Copy)]
+enum Quiet {
+    /// Appending nothing, and texts of an empty string.
+    Nothing,
+    /// Making a string of nothing.
+    Made,
+    /// The lossy text of a text.
+    Borrowed,
+}
+
+/// Fails unless one of the three does what its check requires.
+fn expect_quiet(alloc: Global, heap: Lent<'_>, quiet: Quiet) -> Result<(), Failed> {
+    match quiet {
+        Quiet::Nothing => expect_nothing(alloc, heap),
+        Quiet::Made => expect_made_of_nothing(alloc, heap),
+        Quiet::Borrowed => expect(
+            is_lossy_text_borrowed(heap, Wtf8::from_str("a"), "a"),
+            Wrong::Outcome,
+        ),
+    }
 }
 
 #[test]
@@ -85,94 +113,30 @@ fn nothing_and_borrowed_texts_make_no_request(rt: HostRuntime) -> Result<(), Fai
     let heap = Refusing::new(alloc, 0);
     for grants in GRANTS {
         heap.grant(grants);
-        expect_left(&heap, grants, expect_nothing(alloc, &heap))?;
-        expect_left(&heap, grants, expect_made_of_nothing(alloc, &heap))?;
-        let found = is_lossy_text_borrowed(&heap, Wtf8::from_str("a"), "a");
-        expect_left(&heap, grants, expect_true(found))?;
+        for quiet in [Quiet::Nothing, Quiet::Made, Quiet::Borrowed] {
+            expect_left(&heap, grants, expect_quiet(alloc, &heap, quiet))?;
+        }
     }
     Ok(())
-}
-
-/// Appends the two surrogates of a pair.
-fn push_pair(text: &mut Wtf8Buf<Lent<'_>>) -> Result<(), AllocError> {
-    text.push(CodePoint::from_unit(LEAD))?;
-    text.push(CodePoint::from_unit(TRAIL))
-}
-
-/// Empties a string and appends the pair as one character.
-fn push_anew(text: &mut Wtf8Buf<Lent<'_>>) -> Result<(), AllocError> {
-    text.reserve(0)?;
-    text.clear();
-    text.push_char('💩')
 }
 
 /// Fails unless two pushed surrogates become one code point, and it can be pushed again once the string is cleared.
-fn expect_pair(alloc: Global, text: &mut Wtf8Buf<Lent<'_>>) -> Result<(), Failed> {
-    push_pair(text)?;
-    expect_bytes(alloc, text.as_wtf8(), "F0 9F 92 A9")?;
-    push_anew(text)?;
-    Ok(())
+fn expect_pushed_pair<A: Allocator>(alloc: Global, text: &mut Wtf8Buf<A>) -> Result<(), Failed> {
+    let lead = Build::Push(CodePoint::from_unit(LEAD));
+    let trail = Build::Push(CodePoint::from_unit(TRAIL));
+    let rows = [
+        (Change::Method(lead), Some(true), "ED A0 BD"),
+        (Change::Method(trail), Some(true), PAIR_DUMP),
+        (Change::Method(Build::Reserve(0)), Some(true), PAIR_DUMP),
+        (Change::Clear, Some(true), ""),
+        (Change::Method(Build::PushChar('💩')), Some(true), PAIR_DUMP),
+    ];
+    expect_steps(alloc, text, &rows)
 }
 
-/// Fails unless a surrogate pair, pushed in halves and then as a character, fits in a capacity of four bytes.
-fn expect_room_for_pair(alloc: Global, heap: Lent<'_>, grants: u64) -> Result<(), Failed> {
-    let mut text = with_room(heap, 4, grants)?;
-    expect_pair(alloc, &mut text)
-}
-
-#[test]
-fn pushes_within_capacity_make_no_request(rt: HostRuntime) -> Result<(), Failed> {
-    let alloc = rt.alloc();
-    let heap = Refusing::new(alloc, 0);
-    for grants in GRANTS {
-        expect_left(&heap, grants, expect_room_for_pair(alloc, &heap, grants))?;
-    }
-    Ok(())
-}
-
-/// Appends `TEXT`, "a" and a lead surrogate.
-fn push_text_and_lead(text: &mut Wtf8Buf<Lent<'_>>) -> Result<(), AllocError> {
-    text.push_str(TEXT)?;
-    text.push_char('a')?;
-    text.push(CodePoint::from_unit(LEAD))
-}
-
-/// Appends a string and the two surrogates of a pair, and reserves two bytes.
-fn push_string_and_pair(text: &mut Wtf8Buf<Lent<'_>>, other: Wtf8<'_>) -> Result<(), AllocError> {
-    text.push_wtf8(other)?;
-    text.extend([CodePoint::from_unit(LEAD), CodePoint::from_unit(TRAIL)])?;
-    text.reserve(2)
-}
-
-/// Makes each call that appends; `push_wtf8` appends a trail after a lead.
-fn push_each(alloc: Global, text: &mut Wtf8Buf<Lent<'_>>) -> Result<(), Failed> {
-    let trail = pushed(alloc, &[0xDCA9, 0x62])?;
-    push_text_and_lead(text)?;
-    push_string_and_pair(text, trail.as_wtf8())?;
-    Ok(())
-}
-
-/// Fails unless each call that appends succeeds within the capacity of the string.
-fn expect_room_for_each(alloc: Global, heap: Lent<'_>) -> Result<(), Failed> {
-    let mut text = with_room(heap, 20, 9)?;
-    push_each(alloc, &mut text)?;
-    expect_bytes(
-        alloc,
-        text.as_wtf8(),
-        "61 C3 A9 20 F0 9F 92 A9 61 F0 9F 92 A9 62 F0 9F 92 A9",
-    )
-}
-
-#[test]
-fn each_call_within_capacity_makes_no_request(rt: HostRuntime) -> Result<(), Failed> {
-    let alloc = rt.alloc();
-    let heap = Refusing::new(alloc, 0);
-    expect_left(&heap, 9, expect_room_for_each(alloc, &heap))
-}
-
-/// Whether a list that appends the two surrogates of a pair, by an extension each with an empty push between them, is
-/// applied with no truncation refused.
-fn is_pair_applied(text: &mut Wtf8Buf<Lent<'_>>) -> bool {
+/// Fails unless a list that appends the two surrogates of a pair, by an extension each with an empty push between them,
+/// is applied with no truncation refused.
+fn expect_pair_list<A: Allocator>(alloc: Global, text: &mut Wtf8Buf<A>) -> Result<(), Failed> {
     let lead = [CodePoint::from_unit(LEAD)];
     let trail = [CodePoint::from_unit(TRAIL)];
     let calls = [
@@ -180,30 +144,81 @@ fn is_pair_applied(text: &mut Wtf8Buf<Lent<'_>>) -> bool {
         Build::PushStr(""),
         Build::Extend(&trail),
     ];
-    matches!(text.apply_all(&calls), Ok(0))
+    expect(matches!(text.apply_all(&calls), Ok(0)), Wrong::Outcome)?;
+    expect_bytes(alloc, text.as_wtf8(), PAIR_DUMP)
 }
 
-/// Fails unless a list that appends the two surrogates of a pair fits in a capacity of four bytes.
-fn expect_room_for_list(alloc: Global, heap: Lent<'_>, grants: u64) -> Result<(), Failed> {
-    let mut text = with_room(heap, 4, grants)?;
-    if !is_pair_applied(&mut text) {
-        return Err(Failed::by(Wrong::Outcome));
+/// Fails unless a surrogate pair fits in a capacity of four bytes: pushed in halves and then as a character, or, if
+/// `is_list`, appended by a list.
+fn expect_room_for_pair(
+    alloc: Global,
+    heap: Lent<'_>,
+    grants: u64,
+    is_list: bool,
+) -> Result<(), Failed> {
+    let Ok(mut text) = with_room(heap, 4, grants) else {
+        return Err(Failed::by(Wrong::Memory));
+    };
+    if is_list {
+        return expect_pair_list(alloc, &mut text);
     }
-    expect_bytes(alloc, text.as_wtf8(), "F0 9F 92 A9")
+    expect_pushed_pair(alloc, &mut text)
 }
 
-#[test]
-fn a_list_within_capacity_makes_no_request(rt: HostRuntime) -> Result<(), Failed> {
-    let alloc = rt.alloc();
+/// Fails unless the pair of `expect_room_for_pair` is appended without a request.
+fn expect_quiet_pair(alloc: Global, is_list: bool) -> Result<(), Failed> {
     let heap = Refusing::new(alloc, 0);
     for grants in GRANTS {
-        expect_left(&heap, grants, expect_room_for_list(alloc, &heap, grants))?;
+        let outcome = expect_room_for_pair(alloc, &heap, grants, is_list);
+        expect_left(&heap, grants, outcome)?;
     }
     Ok(())
 }
 
+#[test]
+fn pushes_within_capacity_make_no_request(rt: HostRuntime) -> Result<(), Failed> {
+    expect_quiet_pair(rt.alloc(), false)
+}
+
+#[test]
+fn a_list_within_capacity_makes_no_request(rt: HostRuntime) -> Result<(), Failed> {
+    expect_quiet_pair(rt.alloc(), true)
+}
+
+/// Makes each call that appends; `trail`, which begins with a trail, is pushed after a lead.
+fn push_each<A: Allocator>(text: &mut Wtf8Buf<A>, trail: Wtf8<'_>) -> Result<(), AllocError> {
+    let calls = [
+        Build::PushStr(TEXT),
+        Build::PushChar('a'),
+        Build::Push(CodePoint::from_unit(LEAD)),
+        Build::PushWtf8(trail),
+    ];
+    call_each(text, &calls)?;
+    text.extend([CodePoint::from_unit(LEAD), CodePoint::from_unit(TRAIL)])?;
+    text.reserve(2)
+}
+
+/// Fails unless each call of `push_each` succeeds.
+fn expect_each_pushed<A: Allocator>(
+    alloc: Global,
+    text: &mut Wtf8Buf<A>,
+    trail: Wtf8<'_>,
+) -> Result<(), Failed> {
+    let Ok(()) = push_each(text, trail) else {
+        return Err(Failed::by(Wrong::Memory));
+    };
+    expect_bytes(
+        alloc,
+        text.as_wtf8(),
+        "61 C3 A9 20 F0 9F 92 A9 61 F0 9F 92 A9 62 F0 9F 92 A9",
+    )
+}
+
+/// A call, whether it is applied, and the bytes after it.
+type Applied<'a> = (Build<'a>, bool, &'static str);
+
 /// Calls made one after another, the first of them on the empty string.
-fn applied_rows<'a>(lead: &'a [CodePoint; 1], piece: Wtf8<'a>) -> [Step<'a>; 10] {
+fn applied_rows<'a>(lead: &'a [CodePoint; 1], piece: Wtf8<'a>) -> [Applied<'a>; 10] {
     [
         (Build::Push(lead[0]), true, "ED A0 BD"),
         (Build::PushWtf8(piece), true, "F0 9F 92 A9 62"),
@@ -223,110 +238,142 @@ fn applied_rows<'a>(lead: &'a [CodePoint; 1], piece: Wtf8<'a>) -> [Step<'a>; 10]
 }
 
 /// Fails unless each call of `applied_rows` in turn does what its row says; `piece` is pushed after a lead.
-fn expect_each_applied(
+fn expect_each_applied<A: Allocator>(
     alloc: Global,
-    text: &mut Wtf8Buf<Lent<'_>>,
+    text: &mut Wtf8Buf<A>,
     piece: Wtf8<'_>,
 ) -> Result<(), Failed> {
     let lead = [CodePoint::from_unit(LEAD)];
     let mut index = 0usize;
-    for row in applied_rows(&lead, piece) {
-        in_row(index, expect_step(alloc, text, row))?;
+    for (call, is_done, dump) in applied_rows(&lead, piece) {
+        let row = (Change::Apply(call), Some(is_done), dump);
+        if let Err(failed) = expect_step(alloc, text, row) {
+            return in_row(index, Err(failed));
+        }
         index = index.wrapping_add(1);
     }
     Ok(())
 }
 
-/// Fails unless the calls of `applied_rows` do what their rows say within a capacity of 20 bytes.
-fn expect_room_for_applied(alloc: Global, heap: Lent<'_>, piece: Wtf8<'_>) -> Result<(), Failed> {
-    let mut text = with_room(heap, 20, 9)?;
-    expect_each_applied(alloc, &mut text, piece)
+/// Fails unless calls with `piece` do what they must within a capacity of 20 bytes: those of `applied_rows` if
+/// `is_applied`, or those of `push_each`.
+fn expect_room_for_piece(
+    alloc: Global,
+    heap: Lent<'_>,
+    piece: Wtf8<'_>,
+    is_applied: bool,
+) -> Result<(), Failed> {
+    let Ok(mut text) = with_room(heap, 20, 9) else {
+        return Err(Failed::by(Wrong::Memory));
+    };
+    if is_applied {
+        return expect_each_applied(alloc, &mut text, piece);
+    }
+    expect_each_pushed(alloc, &mut text, piece)
 }
 
-/// Fails unless the calls of `applied_rows`, with a trail and "b" as the piece, fit in a capacity of 20 bytes.
-fn expect_trail_applied(alloc: Global, heap: Lent<'_>) -> Result<(), Failed> {
+/// Fails unless the calls of `expect_room_for_piece`, with a trail and "b" as the piece, make no request.
+fn expect_quiet_piece(alloc: Global, is_applied: bool) -> Result<(), Failed> {
     let piece = pushed(alloc, &[0xDCA9, 0x62])?;
-    expect_room_for_applied(alloc, heap, piece.as_wtf8())
+    let heap = Refusing::new(alloc, 0);
+    let outcome = expect_room_for_piece(alloc, &heap, piece.as_wtf8(), is_applied);
+    expect_left(&heap, 9, outcome)
+}
+
+#[test]
+fn each_call_within_capacity_makes_no_request(rt: HostRuntime) -> Result<(), Failed> {
+    expect_quiet_piece(rt.alloc(), false)
 }
 
 #[test]
 fn applied_calls_within_capacity_make_no_request(rt: HostRuntime) -> Result<(), Failed> {
-    let alloc = rt.alloc();
-    let heap = Refusing::new(alloc, 0);
-    expect_left(&heap, 9, expect_trail_applied(alloc, &heap))
+    expect_quiet_piece(rt.alloc(), true)
 }
 
 /// Appends `TEXT`, and a lone lead surrogate if `has_lead`.
-fn push_text(text: &mut Wtf8Buf<Lent<'_>>, has_lead: bool) -> Result<(), AllocError> {
-    text.push_str(TEXT)?;
+fn push_text<A: Allocator>(text: &mut Wtf8Buf<A>, has_lead: bool) -> Result<(), AllocError> {
+    let lead = Build::Push(CodePoint::from_unit(0xD800));
     if has_lead {
-        text.push(CodePoint::from_unit(0xD800))?;
+        return call_each(text, &[Build::PushStr(TEXT), lead]);
     }
-    Ok(())
+    text.push_str(TEXT)
 }
 
 /// A string of `TEXT`, with a lone lead surrogate if `has_lead`, and `grants` requests granted after its allocation.
-fn text_of(heap: Lent<'_>, has_lead: bool, grants: u64) -> Result<Wtf8Buf<Lent<'_>>, AllocError> {
-    let mut text = with_room(heap, 11, grants)?;
-    push_text(&mut text, has_lead)?;
+fn text_of(heap: Lent<'_>, has_lead: bool, grants: u64) -> Result<Wtf8Buf<Lent<'_>>, Failed> {
+    let Ok(mut text) = with_room(heap, 11, grants) else {
+        return Err(Failed::by(Wrong::Memory));
+    };
+    let Ok(()) = push_text(&mut text, has_lead) else {
+        return Err(Failed::by(Wrong::Memory));
+    };
     Ok(text)
 }
 
-/// Whether the view is `TEXT` as a text, and as a lossy text, borrowed.
-fn is_text_borrowed(heap: Lent<'_>, view: Wtf8<'_>) -> Result<bool, AllocError> {
-    Ok(view.as_str() == Some(TEXT) && is_lossy_text_borrowed(heap, view, TEXT)?)
+/// Whether the view is `TEXT` as a text, and as a lossy text, borrowed; or, if `has_lead`, has no text.
+fn has_texts<A: Allocator + Drop>(heap: A, view: Wtf8<'_>, has_lead: bool) -> bool {
+    match view.as_str() {
+        Some(text) => !has_lead && text == TEXT && is_lossy_text_borrowed(heap, view, TEXT),
+        None => has_lead,
+    }
+}
+
+/// Fails unless the string has the bytes of `dump` and is `text` as a lossy text.
+fn expect_lossy<A: Allocator + Drop>(
+    alloc: Global,
+    string: Wtf8Buf<A>,
+    dump: &str,
+    text: &str,
+) -> Result<(), Failed> {
+    expect_bytes(alloc, string.as_wtf8(), dump)?;
+    expect(string.into_string_lossy().as_str() == text, Wrong::Outcome)
 }
 
 /// Fails unless `owned` is `TEXT`, also as a string made of it and as that string's lossy text.
-fn expect_again(alloc: Global, owned: String<Lent<'_>>) -> Result<(), Failed> {
+fn expect_again<A: Allocator + Drop>(alloc: Global, owned: String<A>) -> Result<(), Failed> {
     if owned.as_str() != TEXT {
         return Err(Failed::by(Wrong::Outcome));
     }
-    let again = Wtf8Buf::from_string(owned);
-    expect_bytes(alloc, again.as_wtf8(), TEXT_DUMP)?;
-    if again.into_string_lossy().as_str() != TEXT {
-        return Err(Failed::by(Wrong::Outcome));
-    }
-    Ok(())
-}
-
-/// Fails unless `into_string` succeeds, and its text makes the string and the lossy text again.
-fn expect_owned(alloc: Global, text: Wtf8Buf<Lent<'_>>) -> Result<(), Failed> {
-    match text.into_string() {
-        Ok(owned) => expect_again(alloc, owned),
-        Err(_) => Err(Failed::by(Wrong::Outcome)),
-    }
-}
-
-/// Fails unless the string of `TEXT` is borrowed as text, and converts to an owned text.
-fn expect_text(alloc: Global, heap: Lent<'_>, grants: u64) -> Result<(), Failed> {
-    let text = text_of(heap, false, grants)?;
-    expect_true(is_text_borrowed(heap, text.as_wtf8()))?;
-    expect_owned(alloc, text)
+    expect_lossy(alloc, Wtf8Buf::from_string(owned), TEXT_DUMP, TEXT)
 }
 
 /// Fails unless `back` is `TEXT` and a lead surrogate, which is U+FFFD in the lossy text.
-fn expect_lossy(alloc: Global, back: Wtf8Buf<Lent<'_>>) -> Result<(), Failed> {
-    expect_bytes(alloc, back.as_wtf8(), "61 C3 A9 20 F0 9F 92 A9 ED A0 80")?;
-    if back.into_string_lossy().as_str() != "aé 💩\u{FFFD}" {
-        return Err(Failed::by(Wrong::Outcome));
-    }
-    Ok(())
+fn expect_back<A: Allocator + Drop>(alloc: Global, back: Wtf8Buf<A>) -> Result<(), Failed> {
+    expect_lossy(
+        alloc,
+        back,
+        "61 C3 A9 20 F0 9F 92 A9 ED A0 80",
+        "aé 💩\u{FFFD}",
+    )
 }
 
-/// Fails unless a string was made and is not UTF-8, and `into_string` returns it with its bytes.
-fn expect_no_text(
+/// Fails unless `into_string` succeeds, and its text makes the string and the lossy text again; or, if `has_lead`,
+/// returns the string with its bytes.
+fn expect_converted<A: Allocator + Drop>(
     alloc: Global,
-    made: Result<Wtf8Buf<Lent<'_>>, AllocError>,
+    text: Wtf8Buf<A>,
+    has_lead: bool,
 ) -> Result<(), Failed> {
-    let text = made?;
-    if text.as_wtf8().as_str().is_some() {
+    let converted = text.into_string();
+    if converted.is_err() != has_lead {
         return Err(Failed::by(Wrong::Outcome));
     }
-    match text.into_string() {
-        Ok(_) => Err(Failed::by(Wrong::Outcome)),
-        Err(back) => expect_lossy(alloc, back),
+    match converted {
+        Ok(owned) => expect_again(alloc, owned),
+        Err(back) => expect_back(alloc, back),
     }
+}
+
+/// Fails unless the string of `TEXT` is borrowed as text, and converts to an owned text; or, with a lone lead surrogate
+/// if `has_lead`, has no text, and comes back from `into_string`.
+fn expect_text(alloc: Global, heap: Lent<'_>, has_lead: bool, grants: u64) -> Result<(), Failed> {
+    let Ok(text) = text_of(heap, has_lead, grants) else {
+        return Err(Failed::by(Wrong::Memory));
+    };
+    if !has_texts(heap, text.as_wtf8(), has_lead) {
+        return Err(Failed::by(Wrong::Outcome));
+    }
+    expect_converted(alloc, text, has_lead)
 }
 
 #[test]
@@ -334,9 +381,10 @@ fn texts_of_a_string_make_no_request(rt: HostRuntime) -> Result<(), Failed> {
     let alloc = rt.alloc();
     let heap = Refusing::new(alloc, 0);
     for grants in GRANTS {
-        expect_left(&heap, grants, expect_text(alloc, &heap, grants))?;
-        let made = text_of(&heap, true, grants);
-        expect_left(&heap, grants, expect_no_text(alloc, made))?;
+        for has_lead in [false, true] {
+            let outcome = expect_text(alloc, &heap, has_lead, grants);
+            expect_left(&heap, grants, outcome)?;
+        }
     }
     Ok(())
 }

@@ -1,12 +1,12 @@
 // Units pushed to a string: at each spare capacity, with every request for memory refused, and with each refused in
 // turn.
-use crate::shared::{FULL, full};
-use refusing::{Lent, REFUSALS, Refusal, Refusing};
-use std::alloc::{AllocError, Global};
+use crate::shared::{Change, FULL, Requests, expect_requests, succeeds};
+use refusing::{Lent, REFUSALS, Refusing};
+use std::alloc::{AllocError, Allocator, Global};
 use wtf8::{Wtf8, Wtf8Buf};
 use wtf8_tests::examples::{expect_units, joining};
 use wtf8_tests::unit_lists::{lists, long_list};
-use wtf8_tests::wrong::{Failed, Wrong, expect, expect_bytes, in_row};
+use wtf8_tests::wrong::{Failed, Wrong, expect, in_row};
 
 /// A lead and its trail, by which a split between them joins.
 const PAIR: [u16; 2] = [0xD83D, 0xDCA9];
@@ -34,7 +34,7 @@ fn byte_len(units: &[u16]) -> usize {
 }
 
 /// Appends units one by one.
-fn push_each(text: &mut Wtf8Buf<Lent<'_>>, units: &[u16]) -> Result<(), AllocError> {
+fn push_each<A: Allocator>(text: &mut Wtf8Buf<A>, units: &[u16]) -> Result<(), AllocError> {
     for unit in units {
         text.push_unit(*unit)?;
     }
@@ -47,78 +47,92 @@ fn with_spare<'a>(
     heap: Lent<'a>,
     units: &[u16],
     spare: usize,
-) -> Result<Wtf8Buf<Lent<'a>>, AllocError> {
+) -> Result<Wtf8Buf<Lent<'a>>, Failed> {
+    let capacity = byte_len(units).wrapping_add(spare);
     heap.grant(1);
-    let mut text = Wtf8Buf::with_capacity(heap, byte_len(units).wrapping_add(spare))?;
+    let Ok(mut text) = Wtf8Buf::with_capacity(heap, capacity) else {
+        return Err(Failed::by(Wrong::Memory));
+    };
     heap.grant(0);
-    push_each(&mut text, units)?;
+    let Ok(()) = push_each(&mut text, units) else {
+        return Err(Failed::by(Wrong::Memory));
+    };
     Ok(text)
 }
 
-/// Pushes the units after index `cut` to the string of the units before it, with `spare` bytes of spare capacity and
-/// every request refused. Fails unless they are appended without a request if their bytes fit, and else change nothing.
+/// The number of bytes by which the string of `units` is longer than that of `front`, its first ones.
+fn growth_of(front: &[u16], units: &[u16]) -> usize {
+    byte_len(units).wrapping_sub(byte_len(front))
+}
+
+/// Makes a change of the string of `front`, which has `spare` bytes of spare capacity, with every request refused. The
+/// change appends the rest of `units`. Fails unless that is done without a request if the bytes fit, and else changes
+/// nothing.
 fn expect_pushed(
     alloc: Global,
     heap: Lent<'_>,
+    (front, spare): (&[u16], usize),
+    change: Change<'_>,
     units: &[u16],
-    cut: usize,
-    spare: usize,
 ) -> Result<(), Failed> {
-    let (front, back) = units.split_at(cut.min(units.len()));
-    let mut text = with_spare(heap, front, spare)?;
-    let growth = byte_len(units).wrapping_sub(byte_len(front));
-    let fits = growth <= spare;
-    let is_pushed = text.push_ill_formed_utf16(back).is_ok();
-    expect(is_pushed == fits, Wrong::Outcome)?;
+    let Ok(mut text) = with_spare(heap, front, spare) else {
+        return Err(Failed::by(Wrong::Memory));
+    };
+    let fits = growth_of(front, units) <= spare;
+    let is_pushed = succeeds(&mut text, change);
+    if is_pushed != fits {
+        return Err(Failed::by(Wrong::Outcome));
+    }
     expect((heap.requests() == 0) == fits, Wrong::Requests)?;
     expect_units(alloc, text.as_wtf8(), if fits { units } else { front })
 }
 
-/// Like `expect_pushed`, for a push of the slice of `whole` after unit `cut`.
-fn expect_slice_pushed(
+/// Fails unless pushes of the units from index `cut` on, by `push_ill_formed_utf16` and by `push_unit_slice` of `whole`,
+/// the string of all of them, do what `expect_pushed` requires at each spare capacity up to one byte more than they
+/// need.
+fn expect_cut(
     alloc: Global,
     heap: Lent<'_>,
-    (units, whole): (&[u16], Wtf8<'_>),
+    units: &[u16],
+    whole: Wtf8<'_>,
     cut: usize,
-    spare: usize,
 ) -> Result<(), Failed> {
-    let front = &units[..cut.min(units.len())];
-    let mut text = with_spare(heap, front, spare)?;
-    let fits = byte_len(units).wrapping_sub(byte_len(front)) <= spare;
+    let (front, back) = units.split_at(cut.min(units.len()));
     let end = whole.unit_len();
-    let is_pushed = text
-        .push_unit_slice(whole.slice_units(cut.min(end), end))
-        .is_ok();
-    expect(is_pushed == fits, Wrong::Outcome)?;
-    expect((heap.requests() == 0) == fits, Wrong::Requests)?;
-    expect_units(alloc, text.as_wtf8(), if fits { units } else { front })
+    let slice = whole.slice_units(cut.min(end), end);
+    for spare in 0..=growth_of(front, units).saturating_add(1) {
+        let start = (front, spare);
+        expect_pushed(alloc, heap, start, Change::PushUnits(back), units)?;
+        expect_pushed(alloc, heap, start, Change::PushSlice(slice), units)?;
+    }
+    Ok(())
 }
 
-/// Fails unless pushes from each index on, at each spare capacity up to one byte more than they need, do what
-/// `expect_pushed` and `expect_slice_pushed` require.
+/// Fails unless pushes from each index on do what `expect_cut` requires.
 fn expect_each_push(alloc: Global, heap: Lent<'_>, units: &[u16]) -> Result<(), Failed> {
-    let len = byte_len(units);
-    let whole = Wtf8Buf::from_ill_formed_utf16(alloc, units)?;
+    let Ok(whole) = Wtf8Buf::from_ill_formed_utf16(alloc, units) else {
+        return Err(Failed::by(Wrong::Memory));
+    };
     for cut in 0..=units.len() {
-        let growth = len.wrapping_sub(byte_len(&units[..cut]));
-        for spare in 0..=growth.saturating_add(1) {
-            expect_pushed(alloc, heap, units, cut, spare)?;
-            expect_slice_pushed(alloc, heap, (units, whole.as_wtf8()), cut, spare)?;
-        }
+        expect_cut(alloc, heap, units, whole.as_wtf8(), cut)?;
     }
     Ok(())
 }
 
 /// A pair, `letters` times "a", and units of each kind.
 fn around_letters(alloc: Global, letters: usize) -> Result<Vec<u16>, AllocError> {
-    let mut units = Vec::from_slice(alloc, &PAIR)?;
+    let Ok(mut units) = Vec::from_slice(alloc, &PAIR) else {
+        return Err(AllocError);
+    };
     units.extend_from_slice(&long_list(alloc, letters)?)?;
     Ok(units)
 }
 
 /// Fails unless `expect_each_push` succeeds for `letters` times "a" among other units.
 fn expect_letters(alloc: Global, heap: Lent<'_>, letters: usize) -> Result<(), Failed> {
-    let units = around_letters(alloc, letters)?;
+    let Ok(units) = around_letters(alloc, letters) else {
+        return Err(Failed::by(Wrong::Memory));
+    };
     expect_each_push(alloc, heap, &units)
 }
 
@@ -126,11 +140,15 @@ fn expect_letters(alloc: Global, heap: Lent<'_>, letters: usize) -> Result<(), F
 fn expect_tables(alloc: Global, heap: Lent<'_>) -> Result<(), Failed> {
     let mut row = 0usize;
     for (units, _, _) in joining() {
-        in_row(row, expect_each_push(alloc, heap, units))?;
+        if let Err(failed) = expect_each_push(alloc, heap, units) {
+            return in_row(row, Err(failed));
+        }
         row = row.wrapping_add(1);
     }
     for units in lists() {
-        in_row(row, expect_each_push(alloc, heap, units))?;
+        if let Err(failed) = expect_each_push(alloc, heap, units) {
+            return in_row(row, Err(failed));
+        }
         row = row.wrapping_add(1);
     }
     in_row(row, expect_each_push(alloc, heap, &WIDE))
@@ -142,7 +160,9 @@ fn units_are_pushed_without_a_request_just_if_they_fit(rt: HostRuntime) -> Resul
     let heap = Refusing::new(alloc, 0);
     expect_tables(alloc, &heap)?;
     for letters in [7, 8, 9, 16, 17, 32, 33, 40] {
-        in_row(letters, expect_letters(alloc, &heap, letters))?;
+        if let Err(failed) = expect_letters(alloc, &heap, letters) {
+            return in_row(letters, Err(failed));
+        }
     }
     Ok(())
 }
@@ -215,49 +235,35 @@ fn rows() -> [Row; 8] {
     ]
 }
 
-/// Pushes the units, by `push_unit` if there is one, and returns whether that succeeds both ways.
-fn pushes(text: &mut Wtf8Buf<Lent<'_>>, units: &[u16], is_single: bool) -> bool {
+/// A push of the units, by `push_unit` if there is one and `is_single`.
+fn push_of(units: &[u16], is_single: bool) -> Change<'_> {
     match units {
-        [unit] if is_single => text.push_unit(*unit).is_ok(),
-        _ => text.push_ill_formed_utf16(units).is_ok(),
+        [unit] if is_single => Change::PushUnit(*unit),
+        _ => Change::PushUnits(units),
     }
 }
 
-/// Fails unless the push, with all its requests granted, makes the requests of the row.
-fn expect_granted(alloc: Global, heap: Lent<'_>, row: Row, is_single: bool) -> Result<(), Failed> {
-    let mut text = full(heap)?;
-    heap.grant(9);
-    let is_pushed = pushes(&mut text, row.units, is_single);
-    let is_asked = heap.requests() == row.requests && heap.bytes() == row.bytes;
-    expect(is_pushed && is_asked, Wrong::Requests)?;
-    expect_bytes(alloc, text.as_wtf8(), row.dump)
-}
-
-/// Grants `granted` requests and refuses the next one. Fails unless the push fails there and leaves the string as it
-/// was.
+/// Fails unless the row's push fails at each of its requests that is refused, and leaves the string as it was.
 fn expect_refused(
     alloc: Global,
     heap: Lent<'_>,
-    (units, is_single): (&[u16], bool),
-    (granted, refusal): (u64, Refusal),
+    push: Change<'_>,
+    requests: u64,
 ) -> Result<(), Failed> {
-    let mut text = full(heap)?;
-    heap.refuse_after(granted, refusal);
-    let is_pushed = pushes(&mut text, units, is_single);
-    let is_asked = heap.requests() == granted.wrapping_add(1);
-    expect(!is_pushed && is_asked, Wrong::Requests)?;
-    expect_bytes(alloc, text.as_wtf8(), FULL)
+    for refusal in REFUSALS {
+        for granted in 0..requests {
+            expect_requests(alloc, heap, push, Requests::first(granted, refusal), FULL)?;
+        }
+    }
+    Ok(())
 }
 
 /// Fails unless the row's push makes its requests, and fails at each of them that is refused.
 fn expect_row(alloc: Global, heap: Lent<'_>, row: Row, is_single: bool) -> Result<(), Failed> {
-    expect_granted(alloc, heap, row, is_single)?;
-    for refusal in REFUSALS {
-        for granted in 0..row.requests {
-            expect_refused(alloc, heap, (row.units, is_single), (granted, refusal))?;
-        }
-    }
-    Ok(())
+    let push = push_of(row.units, is_single);
+    let requests = Requests::all(row.requests, row.bytes);
+    expect_requests(alloc, heap, push, requests, row.dump)?;
+    expect_refused(alloc, heap, push, row.requests)
 }
 
 #[test]
@@ -268,8 +274,12 @@ fn a_push_of_units_fails_at_each_refusal_and_changes_nothing(
     let heap = Refusing::new(alloc, 0);
     let mut index = 0usize;
     for row in rows() {
-        in_row(index, expect_row(alloc, &heap, row, true))?;
-        in_row(index, expect_row(alloc, &heap, row, false))?;
+        if let Err(failed) = expect_row(alloc, &heap, row, true) {
+            return in_row(index, Err(failed));
+        }
+        if let Err(failed) = expect_row(alloc, &heap, row, false) {
+            return in_row(index, Err(failed));
+        }
         index = index.wrapping_add(1);
     }
     Ok(())

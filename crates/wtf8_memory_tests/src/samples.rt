@@ -1,33 +1,40 @@
 // A string, the units and the code points that it is made of, and each call that requests memory on them.
+use crate::shared::{Change, call_each, changes};
 use refusing::{Lent, REFUSALS};
-use std::alloc::{AllocError, Global};
+use std::alloc::{AllocError, Allocator, Global};
 use wtf8::{Build, CodePoint, Wtf8, Wtf8Buf};
 use wtf8_tests::examples::points_of_units;
-use wtf8_tests::wrong::{Failed, Wrong};
+use wtf8_tests::wrong::{Failed, Wrong, expect};
 
 /// A string with spare capacity, and the units and the code points that it is made of.
 #[derive(Drop)]
-pub struct Sample<'a> {
+pub struct Sample<A: Allocator> {
     pub units: Vec<u16>,
     pub points: Vec<CodePoint>,
-    pub text: Wtf8Buf<Lent<'a>>,
+    pub text: Wtf8Buf<A>,
 }
 
 /// The string of these units, with 64 more bytes reserved.
-fn text_of<'a>(heap: Lent<'a>, units: &[u16]) -> Result<Wtf8Buf<Lent<'a>>, AllocError> {
-    let mut text = Wtf8Buf::from_ill_formed_utf16(heap, units)?;
+fn text_of<A: Allocator + Drop>(heap: A, units: &[u16]) -> Result<Wtf8Buf<A>, AllocError> {
+    let Ok(mut text) = Wtf8Buf::from_ill_formed_utf16(heap, units) else {
+        return Err(AllocError);
+    };
     text.reserve(64)?;
     Ok(text)
 }
 
 /// The sample of these units.
-pub fn sample_with<'a>(
+pub fn sample_with<A: Allocator + Drop>(
     alloc: Global,
-    heap: Lent<'a>,
+    heap: A,
     units: Vec<u16>,
-) -> Result<Sample<'a>, AllocError> {
-    let points = points_of_units(alloc, &units)?;
-    let text = text_of(heap, &units)?;
+) -> Result<Sample<A>, AllocError> {
+    let Ok(points) = points_of_units(alloc, &units) else {
+        return Err(AllocError);
+    };
+    let Ok(text) = text_of(heap, &units) else {
+        return Err(AllocError);
+    };
     Ok(Sample {
         units,
         points,
@@ -59,68 +66,74 @@ pub enum Call {
 }
 
 /// Pushes code points one by one.
-fn push_each(text: &mut Wtf8Buf<Lent<'_>>, points: &[CodePoint]) -> Result<(), AllocError> {
+fn push_each<A: Allocator>(text: &mut Wtf8Buf<A>, points: &[CodePoint]) -> Result<(), AllocError> {
     for point in points {
         text.push(*point)?;
     }
     Ok(())
 }
 
-/// Appends a lead surrogate, then the string of the sample.
-fn join(text: &mut Wtf8Buf<Lent<'_>>, sample: &Sample<'_>) -> Result<(), AllocError> {
-    text.push(CodePoint::from_unit(0xD83D))?;
-    text.push_wtf8(sample.text.as_wtf8())
+/// Whether a lead surrogate, then a view, are appended.
+fn joins<A: Allocator>(text: &mut Wtf8Buf<A>, view: Wtf8<'_>) -> bool {
+    let lead = CodePoint::from_unit(0xD83D);
+    call_each(text, &[Build::Push(lead), Build::PushWtf8(view)]).is_ok()
 }
 
-/// Whether a list of calls that appends the sample as a view, then as code points, is applied.
-fn applies(text: &mut Wtf8Buf<Lent<'_>>, sample: &Sample<'_>) -> bool {
-    let calls = [
-        Build::PushWtf8(sample.text.as_wtf8()),
-        Build::Extend(&sample.points),
-    ];
+/// Whether a list of calls that appends a view, then code points, is applied.
+fn applies<A: Allocator>(text: &mut Wtf8Buf<A>, view: Wtf8<'_>, points: &[CodePoint]) -> bool {
+    let calls = [Build::PushWtf8(view), Build::Extend(points)];
     text.apply_all(&calls).is_ok()
 }
 
-/// Whether the call on an empty string succeeds.
-fn appends(text: &mut Wtf8Buf<Lent<'_>>, call: Call, sample: &Sample<'_>) -> bool {
-    let view = sample.text.as_wtf8();
+/// The change of a call that is a single one; of any other call the one through `apply`.
+fn change_of<'a>(call: Call, view: Wtf8<'a>, count: usize, points: &'a [CodePoint]) -> Change<'a> {
     match call {
-        Call::Reserve => text.reserve(sample.units.len()).is_ok(),
-        Call::PushEach => push_each(text, &sample.points).is_ok(),
-        Call::PushStr => text.push_str(view.as_str().unwrap_or("")).is_ok(),
-        Call::PushWtf8 => text.push_wtf8(view).is_ok(),
-        Call::JoinWtf8 => join(text, sample).is_ok(),
-        Call::Extend => text.extend(sample.points.iter().copied()).is_ok(),
-        Call::ApplyExtend => text.apply(Build::Extend(&sample.points)).is_ok(),
-        _ => applies(text, sample),
+        Call::Reserve => Change::Method(Build::Reserve(count)),
+        Call::PushStr => Change::Method(Build::PushStr(view.as_str().unwrap_or(""))),
+        Call::PushWtf8 => Change::Method(Build::PushWtf8(view)),
+        Call::Extend => Change::Method(Build::Extend(points)),
+        _ => Change::Apply(Build::Extend(points)),
+    }
+}
+
+/// Whether the call on an empty string succeeds.
+fn appends<A: Allocator>(text: &mut Wtf8Buf<A>, call: Call, sample: &Sample<A>) -> bool {
+    let view = sample.text.as_wtf8();
+    let points = sample.points.as_slice();
+    match call {
+        Call::PushEach => push_each(text, points).is_ok(),
+        Call::JoinWtf8 => joins(text, view),
+        Call::ApplyAll => applies(text, view, points),
+        _ => changes(text, change_of(call, view, sample.units.len(), points)).is_some(),
     }
 }
 
 /// Appends the units of a view to a vector twice.
-fn append_twice(units: &mut Vec<u16, Lent<'_>>, view: Wtf8<'_>) -> Result<(), AllocError> {
+fn append_twice<A: Allocator>(units: &mut Vec<u16, A>, view: Wtf8<'_>) -> Result<(), AllocError> {
     view.append_units(units)?;
     view.append_units(units)
 }
 
 /// Whether a string was made.
-fn is_made(made: Result<Wtf8Buf<Lent<'_>>, AllocError>) -> bool {
+fn is_made<A: Allocator + Drop>(made: Result<Wtf8Buf<A>, AllocError>) -> bool {
     made.is_ok()
 }
 
 /// Whether a call that makes a string succeeds.
-fn makes(heap: Lent<'_>, call: Call, sample: &Sample<'_>) -> bool {
-    let view = sample.text.as_wtf8();
+fn makes<A: Allocator + Drop>(heap: A, call: Call, sample: &Sample<A>) -> bool {
     match call {
         Call::WithCapacity => is_made(Wtf8Buf::with_capacity(heap, sample.units.len())),
-        Call::FromStr => is_made(Wtf8Buf::from_str(heap, view.as_str().unwrap_or(""))),
+        Call::FromStr => {
+            let text = sample.text.as_wtf8().as_str();
+            is_made(Wtf8Buf::from_str(heap, text.unwrap_or("")))
+        }
         Call::FromUnits => is_made(Wtf8Buf::from_ill_formed_utf16(heap, &sample.units)),
-        Call::FromIter => is_made(Wtf8Buf::from_iter(heap, sample.points.iter().copied())),
-        _ => is_made(sample.text.clone()),
+        _ => is_made(Wtf8Buf::from_iter(heap, sample.points.iter().copied())),
     }
 }
 
 /// Whether a call that writes a text or the units succeeds.
-fn writes(heap: Lent<'_>, call: Call, view: Wtf8<'_>) -> bool {
+fn writes<A: Allocator + Drop>(heap: A, call: Call, view: Wtf8<'_>) -> bool {
     match call {
         Call::ToStringLossy => view.to_string_lossy(heap).is_ok(),
         Call::HexDump => view.hex_dump(heap).is_ok(),
@@ -131,9 +144,10 @@ fn writes(heap: Lent<'_>, call: Call, view: Wtf8<'_>) -> bool {
 }
 
 /// Whether the call succeeds.
-pub fn succeeds(heap: Lent<'_>, call: Call, sample: &Sample<'_>) -> bool {
+pub fn succeeds<A: Allocator + Clone + Drop>(heap: A, call: Call, sample: &Sample<A>) -> bool {
     match call {
-        Call::WithCapacity | Call::FromStr | Call::FromUnits | Call::FromIter | Call::Clone => {
+        Call::Clone => is_made(sample.text.clone()),
+        Call::WithCapacity | Call::FromStr | Call::FromUnits | Call::FromIter => {
             makes(heap, call, sample)
         }
         Call::ToStringLossy
@@ -146,19 +160,18 @@ pub fn succeeds(heap: Lent<'_>, call: Call, sample: &Sample<'_>) -> bool {
 }
 
 /// Refuses each request of the call in turn, for good and once. Fails unless the call fails and makes no more requests.
-pub fn expect_refused(
-    heap: Lent<'_>,
+pub fn expect_refused<'a>(
+    heap: Lent<'a>,
     call: Call,
-    sample: &Sample<'_>,
+    sample: &Sample<Lent<'a>>,
     requests: u64,
 ) -> Result<(), Failed> {
     for refusal in REFUSALS {
         for granted in 0..requests {
             heap.refuse_after(granted, refusal);
             let is_done = succeeds(heap, call, sample);
-            if is_done || heap.requests() != granted.wrapping_add(1) {
-                return Err(Failed::by(Wrong::Requests));
-            }
+            let is_counted = heap.requests() == granted.wrapping_add(1);
+            expect(!is_done && is_counted, Wrong::Requests)?;
         }
     }
     Ok(())

@@ -1,28 +1,29 @@
 // Strings and calls that several test modules use.
-use refusing::Lent;
+use refusing::{Lent, Refusal};
 use std::alloc::{AllocError, Allocator, Global};
-use wtf8::{Build, CodePoint, Wtf8Buf};
-use wtf8_tests::way::Way;
-use wtf8_tests::wrong::{Failed, Wrong, expect_bytes};
+use wtf8::{Build, CodePoint, UnitSlice, Wtf8Buf};
+use wtf8_tests::wrong::{Failed, Wrong, expect_bytes, in_row};
 
 /// The bytes of "a" and D83D.
 pub const FULL: &str = "61 ED A0 BD";
 
-/// Appends "a" and the lead surrogate D83D.
-fn fill<A: Allocator>(text: &mut Wtf8Buf<A>) -> Result<(), AllocError> {
-    text.push_char('a')?;
-    text.push(CodePoint::from_unit(0xD83D))
-}
-
 /// A string of "a" and D83D with a capacity of `capacity` bytes.
-pub fn filled<A: Allocator + Drop>(alloc: A, capacity: usize) -> Result<Wtf8Buf<A>, AllocError> {
-    let mut text = Wtf8Buf::with_capacity(alloc, capacity)?;
-    fill(&mut text)?;
+pub fn filled<A: Allocator + Drop>(alloc: A, capacity: usize) -> Result<Wtf8Buf<A>, Failed> {
+    let Ok(mut text) = Wtf8Buf::with_capacity(alloc, capacity) else {
+        return Err(Failed::by(Wrong::Memory));
+    };
+    let calls = [
+        Build::PushChar('a'),
+        Build::Push(CodePoint::from_unit(0xD83D)),
+    ];
+    let Ok(()) = call_each(&mut text, &calls) else {
+        return Err(Failed::by(Wrong::Memory));
+    };
     Ok(text)
 }
 
 /// A string of "a" and D83D, whose four bytes fill its capacity.
-pub fn full(heap: Lent<'_>) -> Result<Wtf8Buf<Lent<'_>>, AllocError> {
+pub fn full(heap: Lent<'_>) -> Result<Wtf8Buf<Lent<'_>>, Failed> {
     heap.grant(1);
     filled(heap, 4)
 }
@@ -69,26 +70,154 @@ pub fn call_named<A: Allocator>(text: &mut Wtf8Buf<A>, call: Build<'_>) -> Resul
     }
 }
 
-/// Makes a call, and returns whether it succeeded.
-pub fn succeeds(text: &mut Wtf8Buf<Lent<'_>>, call: Build<'_>, way: Way) -> bool {
-    match way {
-        Way::Method => call_named(text, call).is_ok(),
-        Way::Apply => matches!(text.apply(call), Ok(true)),
+/// Makes calls one after another, each by the method of its name.
+pub fn call_each<A: Allocator>(
+    text: &mut Wtf8Buf<A>,
+    calls: &[Build<'_>],
+) -> Result<(), AllocError> {
+    for call in calls {
+        call_named(text, *call)?;
+    }
+    Ok(())
+}
+
+/// A change of a string.
+#[derive(Clone, Copy)]
+pub enum Change<'a> {
+    /// A building call, by the method of its name.
+    Method(Build<'a>),
+    /// A building call, by `apply`.
+    Apply(Build<'a>),
+    /// `push_unit`.
+    PushUnit(u16),
+    /// `push_ill_formed_utf16`.
+    PushUnits(&'a [u16]),
+    /// `push_unit_slice`.
+    PushSlice(UnitSlice<'a>),
+    /// `clear`.
+    Clear,
+}
+
+/// `Some(true)` for a change that was made, or `None` for one whose request was refused.
+fn outcome_of(returned: Result<(), AllocError>) -> Option<bool> {
+    match returned {
+        Ok(()) => Some(true),
+        Err(_) => None,
     }
 }
 
-/// A call, whether it is applied, and the bytes after it.
-pub type Step<'a> = (Build<'a>, bool, &'static str);
+/// Makes a change. Returns whether it was made, which `apply` denies of a truncation, or `None` if a request was
+/// refused.
+pub fn changes<A: Allocator>(text: &mut Wtf8Buf<A>, change: Change<'_>) -> Option<bool> {
+    match change {
+        Change::Method(call) => outcome_of(call_named(text, call)),
+        Change::Apply(call) => text.apply(call).ok(),
+        Change::PushUnit(unit) => outcome_of(text.push_unit(unit)),
+        Change::PushUnits(units) => outcome_of(text.push_ill_formed_utf16(units)),
+        Change::PushSlice(slice) => outcome_of(text.push_unit_slice(slice)),
+        Change::Clear => {
+            text.clear();
+            Some(true)
+        }
+    }
+}
 
-/// Fails unless a call is applied or refused as its row says, and leaves the bytes of the row.
-pub fn expect_step(
+/// Makes a change, and returns whether it was made.
+pub fn succeeds<A: Allocator>(text: &mut Wtf8Buf<A>, change: Change<'_>) -> bool {
+    matches!(changes(text, change), Some(true))
+}
+
+/// A change, what `changes` returns for it, and the bytes after it.
+pub type Step<'a> = (Change<'a>, Option<bool>, &'static str);
+
+/// Fails unless a change comes to what its row says, and leaves the bytes of the row.
+pub fn expect_step<A: Allocator>(
     alloc: Global,
-    text: &mut Wtf8Buf<Lent<'_>>,
+    text: &mut Wtf8Buf<A>,
     row: Step<'_>,
 ) -> Result<(), Failed> {
-    let (call, is_done, dump) = row;
-    if text.apply(call) != Ok(is_done) {
+    let (change, outcome, dump) = row;
+    if changes(text, change) != outcome {
         return Err(Failed::by(Wrong::Outcome));
+    }
+    expect_bytes(alloc, text.as_wtf8(), dump)
+}
+
+/// Fails unless each change in turn does what its row says.
+pub fn expect_steps<A: Allocator>(
+    alloc: Global,
+    text: &mut Wtf8Buf<A>,
+    rows: &[Step<'_>],
+) -> Result<(), Failed> {
+    let mut index = 0usize;
+    for row in rows {
+        if let Err(failed) = expect_step(alloc, text, *row) {
+            return in_row(index, Err(failed));
+        }
+        index = index.wrapping_add(1);
+    }
+    Ok(())
+}
+
+/// The requests for memory that are granted to a change, and those that it must make.
+#[derive(Clone, Copy)]
+pub struct Requests {
+    /// The first `granted` requests are granted, and the ones after them refused.
+    pub granted: u64,
+    pub refusal: Refusal,
+    /// The number of requests.
+    pub count: u64,
+    /// The number of bytes in them, unless one is refused. It is then not compared.
+    pub bytes: Option<usize>,
+}
+
+impl Requests {
+    /// Those of a change whose requests are all granted.
+    pub fn all(count: u64, bytes: usize) -> Requests {
+        Requests {
+            granted: 9,
+            refusal: Refusal::ForGood,
+            count,
+            bytes: Some(bytes),
+        }
+    }
+
+    /// Those of a change that ends at the request after `granted` ones, which is refused.
+    pub fn first(granted: u64, refusal: Refusal) -> Requests {
+        Requests {
+            granted,
+            refusal,
+            count: granted.wrapping_add(1),
+            bytes: None,
+        }
+    }
+
+    /// Whether a change that was made or not, and made the requests that `heap` counted, is as it must be.
+    fn are_made(self, heap: Lent<'_>, is_changed: bool) -> bool {
+        let is_counted = heap.requests() == self.count;
+        match self.bytes {
+            Some(bytes) => is_changed && is_counted && heap.bytes() == bytes,
+            None => !is_changed && is_counted,
+        }
+    }
+}
+
+/// Makes a change of the string of "a" and D83D, whose four bytes fill its capacity. Fails unless the change is made if
+/// all its requests are granted, and only then, makes the requests that it must, and leaves the bytes of `dump`.
+pub fn expect_requests(
+    alloc: Global,
+    heap: Lent<'_>,
+    change: Change<'_>,
+    requests: Requests,
+    dump: &str,
+) -> Result<(), Failed> {
+    let Ok(mut text) = full(heap) else {
+        return Err(Failed::by(Wrong::Memory));
+    };
+    heap.refuse_after(requests.granted, requests.refusal);
+    let is_changed = succeeds(&mut text, change);
+    if !requests.are_made(heap, is_changed) {
+        return Err(Failed::by(Wrong::Requests));
     }
     expect_bytes(alloc, text.as_wtf8(), dump)
 }

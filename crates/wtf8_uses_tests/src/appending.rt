@@ -2,14 +2,20 @@
 use crate::shared::{LEAD, TRAIL, expect_made, string_of};
 use std::alloc::Global;
 use wtf8::{Build, Stopped, Wtf8, Wtf8Buf};
-use wtf8_tests::wrong::{Failed, Wrong, expect_bytes, made};
+use wtf8_tests::wrong::{Failed, Wrong, expect, expect_bytes, made};
 use wtf8_uses::{appending, joining, refusals};
 
 /// Appends the two surrogates of the pair, and then nothing.
 fn append_halves(alloc: Global, text: &mut Wtf8Buf<Global>) -> Result<(), Failed> {
-    let lead = string_of(alloc, &[LEAD])?;
-    let trail = string_of(alloc, &[TRAIL])?;
-    made(refusals::push_both(text, lead.as_wtf8(), trail.as_wtf8()))?;
+    let Ok(lead) = string_of(alloc, &[LEAD]) else {
+        return Err(Failed::by(Wrong::Memory));
+    };
+    let Ok(trail) = string_of(alloc, &[TRAIL]) else {
+        return Err(Failed::by(Wrong::Memory));
+    };
+    let Ok(()) = refusals::push_both(text, lead.as_wtf8(), trail.as_wtf8()) else {
+        return Err(Failed::by(Wrong::Memory));
+    };
     made(appending::push_nothing(text))
 }
 
@@ -22,12 +28,20 @@ fn expect_cut(alloc: Global, text: Wtf8<'_>, dump: &str) -> Result<(), Failed> {
     expect_made(alloc, whole, dump)
 }
 
+/// Appends the two surrogates of the pair to "a". Fails unless the bytes are right, also cut and joined.
+fn expect_halves_appended(alloc: Global, text: &mut Wtf8Buf<Global>) -> Result<(), Failed> {
+    append_halves(alloc, text)?;
+    expect_bytes(alloc, text.as_wtf8(), "61 F0 9F 92 A9")?;
+    expect_cut(alloc, text.as_wtf8(), "61 F0 9F 92 A9")
+}
+
 #[test]
 fn a_pair_is_appended_by_its_halves(rt: HostRuntime) -> Result<(), Failed> {
-    let mut text = made(Wtf8Buf::from_str(rt.alloc(), "a"))?;
-    append_halves(rt.alloc(), &mut text)?;
-    expect_bytes(rt.alloc(), text.as_wtf8(), "61 F0 9F 92 A9")?;
-    expect_cut(rt.alloc(), text.as_wtf8(), "61 F0 9F 92 A9")
+    let alloc = rt.alloc();
+    let Ok(mut text) = Wtf8Buf::from_str(alloc, "a") else {
+        return Err(Failed::by(Wrong::Memory));
+    };
+    expect_halves_appended(alloc, &mut text)
 }
 
 /// Appends a string to another. Fails unless it then has the bytes of `dump`.
@@ -37,34 +51,46 @@ fn expect_appended(
     other: &Wtf8Buf<Global>,
     dump: &str,
 ) -> Result<(), Failed> {
-    made(appending::append_string(string, other))?;
+    let Ok(()) = appending::append_string(string, other) else {
+        return Err(Failed::by(Wrong::Memory));
+    };
     expect_bytes(alloc, string.as_wtf8(), dump)
 }
 
 /// Appends a trail and "a" twice. Fails unless the bytes are right each time.
 fn expect_appended_twice(alloc: Global, string: &mut Wtf8Buf<Global>) -> Result<(), Failed> {
-    let other = string_of(alloc, &[TRAIL, 0x0061])?;
+    let Ok(other) = string_of(alloc, &[TRAIL, 0x0061]) else {
+        return Err(Failed::by(Wrong::Memory));
+    };
     expect_appended(alloc, string, &other, "F0 9F 92 A9 61")?;
     expect_appended(alloc, string, &other, "F0 9F 92 A9 61 ED B2 A9 61")
 }
 
 #[test]
 fn a_string_is_appended_to_another(rt: HostRuntime) -> Result<(), Failed> {
-    let mut string = string_of(rt.alloc(), &[LEAD])?;
-    expect_appended_twice(rt.alloc(), &mut string)
+    let alloc = rt.alloc();
+    let Ok(mut string) = string_of(alloc, &[LEAD]) else {
+        return Err(Failed::by(Wrong::Memory));
+    };
+    expect_appended_twice(alloc, &mut string)
 }
 
-#[test]
-fn the_same_calls_leave_equal_strings(rt: HostRuntime) {
-    let mut string = Wtf8Buf::new(rt.alloc());
-    let mut other = Wtf8Buf::new(rt.alloc());
+/// Whether the same calls, applied to two empty strings, leave equal ones, the first of them "é".
+fn are_alike(alloc: Global) -> bool {
+    let mut string = Wtf8Buf::new(alloc);
+    let mut other = Wtf8Buf::new(alloc);
     let calls = [
         Build::PushStr("é/"),
         Build::Truncate(1),
         Build::TruncateUnits(1),
     ];
     let is_alike = appending::apply_to_equals(&mut string, &mut other, &calls);
-    assert!(rt; matches!(is_alike, Ok(true)) && string.as_wtf8().as_str() == Some("é"));
+    matches!(is_alike, Ok(true)) && string.as_wtf8().as_str() == Some("é")
+}
+
+#[test]
+fn the_same_calls_leave_equal_strings(rt: HostRuntime) -> Result<(), Failed> {
+    expect(are_alike(rt.alloc()), Wrong::Outcome)
 }
 
 /// Applies two lists of calls, and returns whether each has one refused truncation.
@@ -75,17 +101,23 @@ fn apply_both(string: &mut Wtf8Buf<Global>) -> Result<bool, Stopped> {
     Ok(refused == (1, 1))
 }
 
-#[test]
-fn two_lists_are_applied_as_one(rt: HostRuntime) {
-    let mut string = Wtf8Buf::new(rt.alloc());
-    assert!(rt; matches!(apply_both(&mut string), Ok(true)));
-    assert!(rt; string.len() == 4 && string.as_wtf8().unit_at(1) == Some(LEAD));
+/// Fails unless `apply_both` returns true, and leaves the string of "a" and a lead.
+fn expect_both_applied(string: &mut Wtf8Buf<Global>) -> Result<(), Failed> {
+    expect(matches!(apply_both(string), Ok(true)), Wrong::Outcome)?;
+    let is_right = string.len() == 4 && string.as_wtf8().unit_at(1) == Some(LEAD);
+    expect(is_right, Wrong::Units)
 }
 
 #[test]
-fn equal_units_build_equal_strings(rt: HostRuntime) {
+fn two_lists_are_applied_as_one(rt: HostRuntime) -> Result<(), Failed> {
+    let mut string = Wtf8Buf::new(rt.alloc());
+    expect_both_applied(&mut string)
+}
+
+#[test]
+fn equal_units_build_equal_strings(rt: HostRuntime) -> Result<(), Failed> {
     let calls = [Build::PushStr("ab"), Build::PushChar('c')];
     let others = [Build::PushChar('a'), Build::PushStr("bc")];
     let is_alike = appending::build_equals(rt.alloc(), &calls, &others);
-    assert!(rt; matches!(is_alike, Ok(true)));
+    expect(matches!(is_alike, Ok(true)), Wrong::Outcome)
 }

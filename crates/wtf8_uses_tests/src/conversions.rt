@@ -3,7 +3,7 @@ use crate::shared::{LEAD, TRAIL, string_of};
 use refusing::Refusing;
 use std::alloc::{AllocError, Allocator, Global};
 use wtf8::Wtf8;
-use wtf8_tests::wrong::{Failed, Wrong, expect, in_row, made};
+use wtf8_tests::wrong::{Failed, Wrong, expect, in_row};
 use wtf8_uses::ascii_case::eq_ignore_ascii_case;
 use wtf8_uses::environment::{Variable, environment_block};
 use wtf8_uses::json::{append_json_bytes, append_json_text, json_text};
@@ -11,7 +11,9 @@ use wtf8_uses::{round_trips, units, well_formed};
 
 /// Fails unless `units_round_trip` returns the units of `list`.
 fn expect_units_again(alloc: Global, list: &[u16]) -> Result<(), Failed> {
-    let again = made(round_trips::units_round_trip(alloc, list))?;
+    let Ok(again) = round_trips::units_round_trip(alloc, list) else {
+        return Err(Failed::by(Wrong::Memory));
+    };
     expect(again.as_slice() == list, Wrong::Units)
 }
 
@@ -25,7 +27,9 @@ fn comes_back(owned: String, text: &str) -> bool {
 
 /// Fails unless `text_round_trip` and `string_round_trip` return `text`.
 fn expect_text_again(alloc: Global, text: &str) -> Result<(), Failed> {
-    let owned = made(String::from_str(alloc, text))?;
+    let Ok(owned) = String::from_str(alloc, text) else {
+        return Err(Failed::by(Wrong::Memory));
+    };
     let is_same = round_trips::text_round_trip(text) == Some(text);
     expect(comes_back(owned, text) && is_same, Wrong::Bytes)
 }
@@ -38,26 +42,50 @@ fn expect_lossy(alloc: Global, list: &[u16], text: &str) -> Result<(), Failed> {
 
 #[test]
 fn round_trips_return_their_input(rt: HostRuntime) -> Result<(), Failed> {
-    expect_units_again(rt.alloc(), &[TRAIL, LEAD, TRAIL, 0x0041, LEAD])?;
-    expect_text_again(rt.alloc(), "aé 💩")?;
-    expect_lossy(rt.alloc(), &[0x0041, LEAD], "A\u{FFFD}")
+    let alloc = rt.alloc();
+    expect_units_again(alloc, &[TRAIL, LEAD, TRAIL, 0x0041, LEAD])?;
+    expect_text_again(alloc, "aé 💩")?;
+    expect_lossy(alloc, &[0x0041, LEAD], "A\u{FFFD}")
+}
+
+/// Whether the text of "a" and a pair has these units by index, and no fourth one.
+fn has_each_unit(text: Wtf8<'_>) -> bool {
+    for (index, unit) in [(1, Some(LEAD)), (2, Some(TRAIL)), (3, None)] {
+        if units::nth_unit(text, index) != unit {
+            return false;
+        }
+    }
+    true
 }
 
 #[test]
-fn units_are_counted(rt: HostRuntime) {
+fn units_are_counted() -> Result<(), Failed> {
     let text = Wtf8::from_str("a💩");
-    assert!(rt; units::unit_count(text) == 3);
-    for (index, unit) in [(1, Some(LEAD)), (2, Some(TRAIL)), (3, None)] {
-        assert!(rt; units::nth_unit(text, index) == unit);
+    if units::unit_count(text) != 3 {
+        return Err(Failed::by(Wrong::Units));
     }
-    assert!(rt; units::next_unit(text, 0) == Some(LEAD) && units::next_unit(text, 2).is_none());
+    if !has_each_unit(text) {
+        return Err(Failed::by(Wrong::Units));
+    }
+    let is_next = units::next_unit(text, 0) == Some(LEAD) && units::next_unit(text, 2).is_none();
+    expect(is_next, Wrong::Units)
+}
+
+/// Fails unless the well-formed text of `broken` is `text`.
+fn expect_mended(alloc: Global, broken: Wtf8<'_>, text: &str) -> Result<(), Failed> {
+    let Ok(mended) = well_formed::well_formed_text(alloc, broken) else {
+        return Err(Failed::by(Wrong::Memory));
+    };
+    expect(mended.as_str() == text, Wrong::Bytes)
 }
 
 #[test]
 fn lone_surrogates_are_mended(rt: HostRuntime) -> Result<(), Failed> {
-    let broken = string_of(rt.alloc(), &[0x0061, TRAIL, LEAD, TRAIL])?;
-    let mended = made(well_formed::well_formed_text(rt.alloc(), broken.as_wtf8()))?;
-    expect(mended.as_str() == "a\u{FFFD}💩", Wrong::Bytes)
+    let alloc = rt.alloc();
+    let Ok(broken) = string_of(alloc, &[0x0061, TRAIL, LEAD, TRAIL]) else {
+        return Err(Failed::by(Wrong::Memory));
+    };
+    expect_mended(alloc, broken.as_wtf8(), "a\u{FFFD}💩")
 }
 
 /// The number of requests for a text that grows to twelve bytes, and for a full vector to which they are appended.
@@ -87,15 +115,25 @@ fn json_rows() -> [(&'static [u16], &'static str); 6] {
     ]
 }
 
-/// Fails unless the JSON text of the string is `text`.
-fn expect_json(alloc: Global, string: Wtf8<'_>, text: &str) -> Result<(), Failed> {
-    let mut json = made(json_text(alloc, string))?;
+/// Fails unless the JSON text is `text`, and the one of "a" and a tab is appended to it.
+fn expect_appended<A: Allocator>(json: &mut String<A>, text: &str) -> Result<(), Failed> {
     expect(json.as_str() == text, Wrong::Bytes)?;
-    made(append_json_text(&mut json, Wtf8::from_str("a\t")))?;
-    expect(
-        json.as_str().strip_prefix(text) == Some("\"a\\t\""),
-        Wrong::Bytes,
-    )
+    let Ok(()) = append_json_text(json, Wtf8::from_str("a\t")) else {
+        return Err(Failed::by(Wrong::Memory));
+    };
+    let is_appended = json.as_str().strip_prefix(text) == Some("\"a\\t\"");
+    expect(is_appended, Wrong::Bytes)
+}
+
+/// Fails unless the JSON text of the string of `units` is `text`, to which another one can be appended.
+fn expect_json(alloc: Global, units: &[u16], text: &str) -> Result<(), Failed> {
+    let Ok(string) = string_of(alloc, units) else {
+        return Err(Failed::by(Wrong::Memory));
+    };
+    let Ok(mut json) = json_text(alloc, string.as_wtf8()) else {
+        return Err(Failed::by(Wrong::Memory));
+    };
+    expect_appended(&mut json, text)
 }
 
 /// Whether JSON text is appended to bytes after 2C, as `text`.
@@ -108,8 +146,13 @@ fn is_appended(alloc: Global, string: Wtf8<'_>, text: &str) -> Result<bool, Allo
 
 #[test]
 fn json_bytes_follow_others(rt: HostRuntime) -> Result<(), Failed> {
-    let string = string_of(rt.alloc(), &[0x0061, LEAD, 0x00E9])?;
-    let is_there = made(is_appended(rt.alloc(), string.as_wtf8(), "\"a\\ud83dé\""))?;
+    let alloc = rt.alloc();
+    let Ok(string) = string_of(alloc, &[0x0061, LEAD, 0x00E9]) else {
+        return Err(Failed::by(Wrong::Memory));
+    };
+    let Ok(is_there) = is_appended(alloc, string.as_wtf8(), "\"a\\ud83dé\"") else {
+        return Err(Failed::by(Wrong::Memory));
+    };
     expect(is_there, Wrong::Bytes)
 }
 
@@ -119,19 +162,27 @@ fn is_kept_in_bytes<A: Allocator, B: Allocator>(alloc: A, out: &mut Vec<u8, B>) 
         && out.as_slice() == [0x2C].as_slice()
 }
 
+/// Fails unless JSON text is refused at each of its requests, and appended if all are granted.
+fn expect_kept_in_bytes<B: Allocator>(
+    heap: &Refusing<Global>,
+    out: &mut Vec<u8, B>,
+) -> Result<(), Failed> {
+    for grants in 0..REQUESTS {
+        heap.grant(grants);
+        expect(is_kept_in_bytes(heap, out), Wrong::Outcome)?;
+    }
+    heap.grant(REQUESTS);
+    let is_appended = !is_kept_in_bytes(heap, out) && heap.grants_left() == 0;
+    expect(is_appended, Wrong::Outcome)
+}
+
 #[test]
 fn refused_json_bytes_are_left_out(rt: HostRuntime) -> Result<(), Failed> {
     let heap = Refusing::new(rt.alloc(), 1);
-    let mut out = made(Vec::from_slice(&heap, &[0x2C]))?;
-    for grants in 0..REQUESTS {
-        heap.grant(grants);
-        expect(is_kept_in_bytes(&heap, &mut out), Wrong::Outcome)?;
-    }
-    heap.grant(REQUESTS);
-    expect(
-        !is_kept_in_bytes(&heap, &mut out) && heap.grants_left() == 0,
-        Wrong::Outcome,
-    )
+    let Ok(mut out) = Vec::from_slice(&heap, &[0x2C]) else {
+        return Err(Failed::by(Wrong::Memory));
+    };
+    expect_kept_in_bytes(&heap, &mut out)
 }
 
 /// Whether JSON text is refused, for want of memory, after "ab", which stays.
@@ -139,24 +190,34 @@ fn is_kept<A: Allocator>(json: &mut String<A>, string: Wtf8<'_>) -> bool {
     append_json_text(json, string).is_err() && json.as_str() == "ab"
 }
 
+/// Fails unless JSON text of the string is refused, after "ab", at the request after the one that is granted.
+fn expect_cut_off(heap: &Refusing<Global>, string: Wtf8<'_>) -> Result<(), Failed> {
+    let Ok(mut json) = String::from_str(heap, "ab") else {
+        return Err(Failed::by(Wrong::Memory));
+    };
+    heap.grant(1);
+    let is_cut_off = is_kept(&mut json, string) && heap.grants_left() == 0;
+    expect(is_cut_off, Wrong::Outcome)
+}
+
 #[test]
 fn refused_json_text_is_cut_off(rt: HostRuntime) -> Result<(), Failed> {
-    let string = string_of(rt.alloc(), &[0x001F; 40])?;
-    let heap = Refusing::new(rt.alloc(), 1);
-    let mut json = made(String::from_str(&heap, "ab"))?;
-    heap.grant(1);
-    expect(
-        is_kept(&mut json, string.as_wtf8()) && heap.grants_left() == 0,
-        Wrong::Outcome,
-    )
+    let alloc = rt.alloc();
+    let Ok(string) = string_of(alloc, &[0x001F; 40]) else {
+        return Err(Failed::by(Wrong::Memory));
+    };
+    let heap = Refusing::new(alloc, 1);
+    expect_cut_off(&heap, string.as_wtf8())
 }
 
 #[test]
 fn json_texts_are_those_of_an_engine(rt: HostRuntime) -> Result<(), Failed> {
+    let alloc = rt.alloc();
     let mut row = 0usize;
     for (units, text) in json_rows() {
-        let string = string_of(rt.alloc(), units)?;
-        in_row(row, expect_json(rt.alloc(), string.as_wtf8(), text))?;
+        if let Err(failed) = expect_json(alloc, units, text) {
+            return in_row(row, Err(failed));
+        }
         row = row.wrapping_add(1);
     }
     Ok(())
@@ -164,17 +225,18 @@ fn json_texts_are_those_of_an_engine(rt: HostRuntime) -> Result<(), Failed> {
 
 /// Fails unless the block of the variables has `units`.
 fn expect_block(alloc: Global, variables: &[Variable<'_>], units: &[u16]) -> Result<(), Failed> {
-    let block = made(environment_block(alloc, variables))?;
+    let Ok(block) = environment_block(alloc, variables) else {
+        return Err(Failed::by(Wrong::Memory));
+    };
     expect(block.as_slice() == units, Wrong::Units)
 }
 
-#[test]
-fn an_environment_is_one_block(rt: HostRuntime) -> Result<(), Failed> {
-    let value = string_of(rt.alloc(), &[LEAD, 0x003D])?;
+/// Fails unless the blocks of two variables, of which the first one has `value`, and of none are as expected.
+fn expect_blocks(alloc: Global, value: Wtf8<'_>) -> Result<(), Failed> {
     let variables = [
         Variable {
             name: Wtf8::from_str("a"),
-            value: value.as_wtf8(),
+            value,
         },
         Variable {
             name: Wtf8::from_str("=C:"),
@@ -184,8 +246,17 @@ fn an_environment_is_one_block(rt: HostRuntime) -> Result<(), Failed> {
     let units: [u16; 11] = [
         0x0061, 0x003D, LEAD, 0x003D, 0, 0x003D, 0x0043, 0x003A, 0x003D, 0, 0,
     ];
-    expect_block(rt.alloc(), &variables, &units)?;
-    expect_block(rt.alloc(), &[], &[0])
+    expect_block(alloc, &variables, &units)?;
+    expect_block(alloc, &[], &[0])
+}
+
+#[test]
+fn an_environment_is_one_block(rt: HostRuntime) -> Result<(), Failed> {
+    let alloc = rt.alloc();
+    let Ok(value) = string_of(alloc, &[LEAD, 0x003D]) else {
+        return Err(Failed::by(Wrong::Memory));
+    };
+    expect_blocks(alloc, value.as_wtf8())
 }
 
 /// Two texts, and whether they are equal if the case of ASCII letters is ignored.
@@ -201,18 +272,38 @@ fn cases() -> [(&'static str, &'static str, bool); 5] {
 
 /// Fails unless `is_equal` says whether `text` equals the string of `units` if the case of ASCII letters is ignored.
 fn expect_case(alloc: Global, text: Wtf8<'_>, units: &[u16], is_equal: bool) -> Result<(), Failed> {
-    let other = string_of(alloc, units)?;
+    let Ok(other) = string_of(alloc, units) else {
+        return Err(Failed::by(Wrong::Memory));
+    };
     let is_found = eq_ignore_ascii_case(text, other.as_wtf8());
     expect(is_found == is_equal, Wrong::Outcome)
 }
 
-#[test]
-fn ascii_letters_are_equal_in_both_cases(rt: HostRuntime) -> Result<(), Failed> {
+/// Fails unless each row of `cases` has two texts that are equal, or not, if the case of ASCII letters is ignored.
+fn expect_cases() -> Result<(), Failed> {
+    let mut row = 0usize;
     for (text, other, is_equal) in cases() {
         let found = eq_ignore_ascii_case(Wtf8::from_str(text), Wtf8::from_str(other));
-        assert!(rt; found == is_equal, "{text} and {other}");
+        if let Err(failed) = expect(found == is_equal, Wrong::Outcome) {
+            return in_row(row, Err(failed));
+        }
+        row = row.wrapping_add(1);
     }
-    let capital = string_of(rt.alloc(), &[0x0041, LEAD])?;
-    expect_case(rt.alloc(), capital.as_wtf8(), &[0x0061, LEAD], true)?;
-    expect_case(rt.alloc(), capital.as_wtf8(), &[0x0061], false)
+    Ok(())
+}
+
+/// Fails unless "A" and a lead are equal to "a" and a lead, but not to "a".
+fn expect_capital(alloc: Global, capital: Wtf8<'_>) -> Result<(), Failed> {
+    expect_case(alloc, capital, &[0x0061, LEAD], true)?;
+    expect_case(alloc, capital, &[0x0061], false)
+}
+
+#[test]
+fn ascii_letters_are_equal_in_both_cases(rt: HostRuntime) -> Result<(), Failed> {
+    let alloc = rt.alloc();
+    expect_cases()?;
+    let Ok(capital) = string_of(alloc, &[0x0041, LEAD]) else {
+        return Err(Failed::by(Wrong::Memory));
+    };
+    expect_capital(alloc, capital.as_wtf8())
 }

@@ -1,5 +1,6 @@
 // Places in a text of "a", a surrogate pair and "é", which take bytes 0, 1 to 4 and 5 to 6.
 use wtf8::Wtf8;
+use wtf8_tests::wrong::{Failed, Wrong, expect, in_row};
 use wtf8_uses::cursor::{Cursor, there_and_back};
 
 const TEXT: &str = "a\u{1F4A9}\u{E9}";
@@ -15,9 +16,11 @@ fn moved(position: usize) -> Option<(usize, usize, usize)> {
     Some((cursor.mark.position, cursor.mark.units, cursor.rest().len()))
 }
 
-#[test]
-fn places_are_at_boundaries(rt: HostRuntime) {
-    let rows = [
+/// A byte position, and the place to which `moved` moves.
+type Row = (usize, Option<(usize, usize, usize)>);
+
+fn rows() -> [Row; 7] {
+    [
         (0, Some((0, 0, 7))),
         (1, Some((1, 1, 6))),
         (4, Some((1, 1, 6))),
@@ -25,18 +28,32 @@ fn places_are_at_boundaries(rt: HostRuntime) {
         (6, Some((5, 3, 2))),
         (7, Some((7, 4, 0))),
         (8, None),
-    ];
-    for (position, place) in rows {
-        assert!(rt; moved(position) == place, "{position}");
-    }
+    ]
 }
 
 #[test]
-fn boundaries_are_found_again(rt: HostRuntime) {
-    let text = Wtf8::from_str(TEXT);
-    for position in [0, 1, 5, 7] {
-        if text.is_code_point_boundary(position) {
-            assert!(rt; there_and_back(text, position) == position, "{position}");
+fn places_are_at_boundaries() -> Result<(), Failed> {
+    for (position, place) in rows() {
+        let is_there = moved(position) == place;
+        if let Err(failed) = expect(is_there, Wrong::Outcome) {
+            return in_row(position, Err(failed));
         }
     }
+    Ok(())
+}
+
+/// Whether `there_and_back` returns each boundary of the text.
+fn comes_back(text: Wtf8<'_>, position: usize) -> bool {
+    !text.is_code_point_boundary(position) || there_and_back(text, position) == position
+}
+
+#[test]
+fn boundaries_are_found_again() -> Result<(), Failed> {
+    for position in [0, 1, 5, 7] {
+        let is_found = comes_back(Wtf8::from_str(TEXT), position);
+        if let Err(failed) = expect(is_found, Wrong::Outcome) {
+            return in_row(position, Err(failed));
+        }
+    }
+    Ok(())
 }

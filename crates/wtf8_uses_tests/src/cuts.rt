@@ -17,7 +17,9 @@ fn expect_joined(
     if index > text.unit_len() {
         return Err(Failed::by(Wrong::Row));
     }
-    let whole = made(cut_and_joined(alloc, alloc, text, index))?;
+    let Ok(whole) = cut_and_joined(alloc, alloc, text, index) else {
+        return Err(Failed::by(Wrong::Memory));
+    };
     if !has_units(whole.as_wtf8(), units) {
         return Err(Failed::by(Wrong::Units));
     }
@@ -34,7 +36,9 @@ fn expect_whole(alloc: Global, text: &UnitText<Global>, index: usize) -> Result<
 
 /// Fails unless the text of `units`, cut at each unit index and joined by both callers, is whole again.
 fn expect_whole_anywhere(alloc: Global, units: &[u16], dump: &str) -> Result<(), Failed> {
-    let text = made(UnitText::from_units(alloc, units))?;
+    let Ok(text) = UnitText::from_units(alloc, units) else {
+        return Err(Failed::by(Wrong::Memory));
+    };
     for index in 0..=units.len() {
         expect_whole(alloc, &text, index)?;
         expect_joined(alloc, &text, units, dump, index)?;
@@ -44,9 +48,12 @@ fn expect_whole_anywhere(alloc: Global, units: &[u16], dump: &str) -> Result<(),
 
 #[test]
 fn cut_and_joined_texts_are_equal_to_the_whole(rt: HostRuntime) -> Result<(), Failed> {
+    let alloc = rt.alloc();
     let mut row = 0usize;
     for (units, _, dump) in joining() {
-        in_row(row, expect_whole_anywhere(rt.alloc(), units, dump))?;
+        if let Err(failed) = expect_whole_anywhere(alloc, units, dump) {
+            return in_row(row, Err(failed));
+        }
         row = row.wrapping_add(1);
     }
     Ok(())

@@ -2,7 +2,7 @@
 use crate::shared::{LEAD, TRAIL, expect_made, string_of};
 use std::alloc::{AllocError, Global};
 use wtf8::{Wtf8, Wtf8Buf};
-use wtf8_tests::wrong::{Failed, Wrong, expect, expect_bytes, in_row, made};
+use wtf8_tests::wrong::{Failed, Wrong, expect, expect_bytes, in_row};
 use wtf8_uses::file_names;
 
 /// The path `C:\a/b<lone trail>.tar.gz`.
@@ -34,8 +34,11 @@ fn expect_folder_and_name(alloc: Global, path: Wtf8<'_>) -> Result<(), Failed> {
 
 #[test]
 fn a_path_has_a_folder_and_a_name(rt: HostRuntime) -> Result<(), Failed> {
-    let path = string_of(rt.alloc(), &PATH)?;
-    expect_folder_and_name(rt.alloc(), path.as_wtf8())
+    let alloc = rt.alloc();
+    let Ok(path) = string_of(alloc, &PATH) else {
+        return Err(Failed::by(Wrong::Memory));
+    };
+    expect_folder_and_name(alloc, path.as_wtf8())
 }
 
 /// Whether `path` is in `folder`, but not in `name`, nor `folder` in itself.
@@ -52,7 +55,9 @@ fn expect_path_of(
     folder: Wtf8<'_>,
     name: Wtf8<'_>,
 ) -> Result<(), Failed> {
-    let same = made(file_names::join_bytes(alloc, folder, name))?;
+    let Ok(same) = file_names::join_bytes(alloc, folder, name) else {
+        return Err(Failed::by(Wrong::Memory));
+    };
     let is_right = path == same.as_wtf8() && is_path_of(path, folder, name);
     expect(is_right, Wrong::Outcome)
 }
@@ -64,17 +69,26 @@ fn expect_pushed(
     name: Wtf8<'_>,
     dump: &str,
 ) -> Result<(), Failed> {
-    let mut path = made(folder.clone())?;
-    made(file_names::push_name(&mut path, name))?;
+    let Ok(mut path) = folder.clone() else {
+        return Err(Failed::by(Wrong::Memory));
+    };
+    let Ok(()) = file_names::push_name(&mut path, name) else {
+        return Err(Failed::by(Wrong::Memory));
+    };
     expect_bytes(alloc, path.as_wtf8(), dump)?;
     expect_path_of(alloc, path.as_wtf8(), folder.as_wtf8(), name)
 }
 
 #[test]
 fn a_name_is_pushed_and_found_in_its_folder(rt: HostRuntime) -> Result<(), Failed> {
-    let lead = string_of(rt.alloc(), &[LEAD])?;
-    let trail = string_of(rt.alloc(), &[TRAIL])?;
-    expect_pushed(rt.alloc(), &lead, trail.as_wtf8(), "ED A0 BD 5C ED B2 A9")
+    let alloc = rt.alloc();
+    let Ok(lead) = string_of(alloc, &[LEAD]) else {
+        return Err(Failed::by(Wrong::Memory));
+    };
+    let Ok(trail) = string_of(alloc, &[TRAIL]) else {
+        return Err(Failed::by(Wrong::Memory));
+    };
+    expect_pushed(alloc, &lead, trail.as_wtf8(), "ED A0 BD 5C ED B2 A9")
 }
 
 /// Fails unless a stem and an extension have the expected bytes, the extension has none, and both give `name` again.
@@ -86,7 +100,9 @@ fn expect_named(
 ) -> Result<(), Failed> {
     expect_bytes(alloc, stem, "62 ED B2 A9 2E 74 61 72")?;
     expect_bytes(alloc, extension, "67 7A")?;
-    let again = made(file_names::with_extension(alloc, stem, extension))?;
+    let Ok(again) = file_names::with_extension(alloc, stem, extension) else {
+        return Err(Failed::by(Wrong::Memory));
+    };
     let has_none = file_names::stem_and_extension(extension).is_none();
     expect(again.as_wtf8() == name && has_none, Wrong::Outcome)
 }
@@ -99,26 +115,40 @@ fn expect_stem(alloc: Global, name: Wtf8<'_>) -> Result<(), Failed> {
     }
 }
 
+/// Fails unless a name is shown as `text`.
+fn expect_shown(alloc: Global, name: Wtf8<'_>, text: &str) -> Result<(), Failed> {
+    let Ok(shown) = file_names::shown(alloc, name) else {
+        return Err(Failed::by(Wrong::Memory));
+    };
+    expect(shown.as_str() == text, Wrong::Bytes)
+}
+
 #[test]
 fn a_name_has_a_stem_and_an_extension(rt: HostRuntime) -> Result<(), Failed> {
-    let name = string_of(rt.alloc(), &PATH[5..])?;
-    expect_stem(rt.alloc(), name.as_wtf8())?;
-    let shown = made(file_names::shown(rt.alloc(), name.as_wtf8()))?;
-    expect(shown.as_str() == "b\u{FFFD}.tar.gz", Wrong::Bytes)
+    let alloc = rt.alloc();
+    let Ok(name) = string_of(alloc, &PATH[5..]) else {
+        return Err(Failed::by(Wrong::Memory));
+    };
+    expect_stem(alloc, name.as_wtf8())?;
+    expect_shown(alloc, name.as_wtf8(), "b\u{FFFD}.tar.gz")
 }
 
 /// Fails unless `parts` are the components of `PATH`.
-fn expect_components(alloc: Global, parts: &[Wtf8<'_>]) -> Result<(), Failed> {
-    let dumps = ["43 3A", "61", "62 ED B2 A9 2E 74 61 72 2E 67 7A"];
-    if parts.len() != dumps.len() {
+fn expect_parts_of_path(alloc: Global, parts: &[Wtf8<'_>]) -> Result<(), Failed> {
+    let [drive, folder, name] = parts else {
         return Err(Failed::by(Wrong::Outcome));
-    }
-    let mut row = 0usize;
-    for (part, dump) in parts.iter().zip(dumps) {
-        in_row(row, expect_bytes(alloc, *part, dump))?;
-        row = row.wrapping_add(1);
-    }
-    Ok(())
+    };
+    expect_bytes(alloc, *drive, "43 3A")?;
+    expect_bytes(alloc, *folder, "61")?;
+    expect_bytes(alloc, *name, "62 ED B2 A9 2E 74 61 72 2E 67 7A")
+}
+
+/// Fails unless the components of a path are those of `PATH`.
+fn expect_components(alloc: Global, path: Wtf8<'_>) -> Result<(), Failed> {
+    let Ok(parts) = file_names::components(alloc, path) else {
+        return Err(Failed::by(Wrong::Memory));
+    };
+    expect_parts_of_path(alloc, &parts)
 }
 
 /// Fails unless the folder of a path is that of `PATH`.
@@ -131,19 +161,27 @@ fn expect_parent(alloc: Global, path: Wtf8<'_>) -> Result<(), Failed> {
 
 #[test]
 fn a_path_has_components(rt: HostRuntime) -> Result<(), Failed> {
-    let path = string_of(rt.alloc(), &PATH)?;
-    let parts = made(file_names::components(rt.alloc(), path.as_wtf8()))?;
-    expect_components(rt.alloc(), &parts)?;
-    expect_parent(rt.alloc(), path.as_wtf8())
+    let alloc = rt.alloc();
+    let Ok(path) = string_of(alloc, &PATH) else {
+        return Err(Failed::by(Wrong::Memory));
+    };
+    expect_components(alloc, path.as_wtf8())?;
+    expect_parent(alloc, path.as_wtf8())
+}
+
+/// Fails unless a path has `count` components.
+fn expect_count(alloc: Global, path: &str, count: usize) -> Result<(), Failed> {
+    let Ok(parts) = file_names::components(alloc, Wtf8::from_str(path)) else {
+        return Err(Failed::by(Wrong::Memory));
+    };
+    expect(parts.len() == count, Wrong::Outcome)
 }
 
 #[test]
 fn a_path_has_one_component_more_than_separators(rt: HostRuntime) -> Result<(), Failed> {
-    for (path, count) in [("/", 2), ("", 1)] {
-        let parts = made(file_names::components(rt.alloc(), Wtf8::from_str(path)))?;
-        expect(parts.len() == count, Wrong::Outcome)?;
-    }
-    Ok(())
+    let alloc = rt.alloc();
+    expect_count(alloc, "/", 2)?;
+    expect_count(alloc, "", 1)
 }
 
 /// The results of `/`, `suffix` and `is_relative_to` of CPython's `PureWindowsPath`.
@@ -269,10 +307,15 @@ fn is_windows_path(alloc: Global, row: WindowsPath) -> Result<bool, AllocError> 
 
 #[test]
 fn paths_are_those_of_windows(rt: HostRuntime) -> Result<(), Failed> {
+    let alloc = rt.alloc();
     let mut index = 0usize;
     for row in windows_paths() {
-        let is_right = made(is_windows_path(rt.alloc(), row))?;
-        in_row(index, expect(is_right, Wrong::Outcome))?;
+        let Ok(is_right) = is_windows_path(alloc, row) else {
+            return Err(Failed::by(Wrong::Memory));
+        };
+        if let Err(failed) = expect(is_right, Wrong::Outcome) {
+            return in_row(index, Err(failed));
+        }
         index = index.wrapping_add(1);
     }
     Ok(())
@@ -290,10 +333,13 @@ fn ended_rows() -> [(&'static [u16], &'static str); 4] {
 
 #[test]
 fn a_name_ends_at_a_zero(rt: HostRuntime) -> Result<(), Failed> {
+    let alloc = rt.alloc();
     let mut row = 0usize;
     for (units, dump) in ended_rows() {
-        let name = file_names::before_zero(rt.alloc(), units);
-        in_row(row, expect_made(rt.alloc(), name, dump))?;
+        let name = file_names::before_zero(alloc, units);
+        if let Err(failed) = expect_made(alloc, name, dump) {
+            return in_row(row, Err(failed));
+        }
         row = row.wrapping_add(1);
     }
     Ok(())

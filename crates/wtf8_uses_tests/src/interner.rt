@@ -2,12 +2,14 @@
 use crate::shared::{LEAD, string_of};
 use std::alloc::Global;
 use wtf8::Wtf8;
-use wtf8_tests::wrong::{Failed, Wrong, expect, expect_bytes, in_row, made};
+use wtf8_tests::wrong::{Failed, Wrong, expect, expect_bytes, in_row};
 use wtf8_uses::interner::Interner;
 
 /// Fails unless the interner returns `number` for `string`.
 fn expect_number(interner: &mut Interner, string: Wtf8<'_>, number: usize) -> Result<(), Failed> {
-    let found = made(interner.number(string))?;
+    let Ok(found) = interner.number(string) else {
+        return Err(Failed::by(Wrong::Memory));
+    };
     expect(found == number, Wrong::Outcome)
 }
 
@@ -32,26 +34,49 @@ fn expect_numbers(interner: &mut Interner, first: Wtf8<'_>) -> Result<(), Failed
         expect_number(interner, first, 0)?;
         for (text, number) in [("", 1), ("Aa", 2), ("BB", 3)] {
             let outcome = expect_number(interner, Wtf8::from_str(text), number);
-            in_row(number, outcome)?;
+            if let Err(failed) = outcome {
+                return in_row(number, Err(failed));
+            }
         }
     }
     expect(interner.len() == 4, Wrong::Outcome)
 }
 
-#[test]
-fn a_string_keeps_its_number(rt: HostRuntime) -> Result<(), Failed> {
-    let mut interner = Interner::new(rt.alloc());
-    let first = string_of(rt.alloc(), &[LEAD])?;
-    expect_numbers(&mut interner, first.as_wtf8())?;
-    let dumps = [
+/// The bytes of each number's string, up to a number that has none.
+fn dumps() -> [Option<&'static str>; 5] {
+    [
         Some("ED A0 BD"),
         Some(""),
         Some("41 61"),
         Some("42 42"),
         None,
-    ];
-    for (number, dump) in dumps.into_iter().enumerate() {
-        in_row(number, expect_string(rt.alloc(), &interner, number, dump))?;
+    ]
+}
+
+/// Fails unless the interner has the strings of `dumps`.
+fn expect_strings(alloc: Global, interner: &Interner) -> Result<(), Failed> {
+    let mut number = 0usize;
+    for dump in dumps() {
+        if let Err(failed) = expect_string(alloc, interner, number, dump) {
+            return in_row(number, Err(failed));
+        }
+        number = number.wrapping_add(1);
     }
     Ok(())
+}
+
+/// Fails unless the interner numbers a string, which is a lead, and others, and returns them by their numbers.
+fn expect_interned(alloc: Global, first: Wtf8<'_>) -> Result<(), Failed> {
+    let mut interner = Interner::new(alloc);
+    expect_numbers(&mut interner, first)?;
+    expect_strings(alloc, &interner)
+}
+
+#[test]
+fn a_string_keeps_its_number(rt: HostRuntime) -> Result<(), Failed> {
+    let alloc = rt.alloc();
+    let Ok(first) = string_of(alloc, &[LEAD]) else {
+        return Err(Failed::by(Wrong::Memory));
+    };
+    expect_interned(alloc, first.as_wtf8())
 }

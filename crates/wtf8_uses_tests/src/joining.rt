@@ -2,7 +2,7 @@
 use crate::shared::{LEAD, PAIR_DUMP, TRAIL, expect_made};
 use std::alloc::Global;
 use wtf8::Wtf8;
-use wtf8_tests::wrong::{Failed, Wrong, expect, expect_bytes, in_row, made};
+use wtf8_tests::wrong::{Failed, Wrong, expect, expect_bytes, in_row};
 use wtf8_uses::{joining, paths};
 
 #[test]
@@ -38,15 +38,20 @@ fn the_part_after_an_ascii_byte_is_whole(rt: HostRuntime) -> Result<(), Failed> 
 
 /// Fails unless the path, cut at its first slash and joined, is unchanged.
 fn expect_kept(alloc: Global, path: Wtf8<'_>) -> Result<(), Failed> {
-    let whole = made(joining::cut_at_slash_and_joined(alloc, path))?;
+    let Ok(whole) = joining::cut_at_slash_and_joined(alloc, path) else {
+        return Err(Failed::by(Wrong::Memory));
+    };
     expect(whole.as_wtf8() == path, Wrong::Outcome)
 }
 
 #[test]
 fn a_path_is_cut_and_joined(rt: HostRuntime) -> Result<(), Failed> {
+    let alloc = rt.alloc();
     let mut row = 0usize;
     for path in ["a/b/c", "/", "", "no slash", "é/💩"] {
-        in_row(row, expect_kept(rt.alloc(), Wtf8::from_str(path)))?;
+        if let Err(failed) = expect_kept(alloc, Wtf8::from_str(path)) {
+            return in_row(row, Err(failed));
+        }
         row = row.wrapping_add(1);
     }
     Ok(())

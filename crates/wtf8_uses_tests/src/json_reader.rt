@@ -4,7 +4,7 @@ use crate::shared::{LEAD, TRAIL, has_units, string_of};
 use refusing::Refusing;
 use std::alloc::{Allocator, Global};
 use wtf8::Wtf8;
-use wtf8_tests::wrong::{Failed, Wrong, expect};
+use wtf8_tests::wrong::{Failed, Wrong, expect, in_row};
 use wtf8_uses::json_reader::{JsonCause, JsonError, read_json_string};
 
 /// A text, the units of the JSON string at its front, and the text after it.
@@ -95,26 +95,42 @@ fn is_refused(alloc: Global, text: &str, position: usize, cause: JsonCause) -> b
     }
 }
 
-#[test]
-fn strings_are_read_as_an_engine_does(rt: HostRuntime) -> Result<(), Failed> {
+/// Fails unless each row of `strings` is read.
+fn expect_all_read(alloc: Global) -> Result<(), Failed> {
+    let mut row = 0usize;
     for (text, units, rest) in strings() {
-        assert!(rt;
-            is_read(rt.alloc(), Wtf8::from_str(text), units, rest),
-            "{text}"
-        );
+        let is_read = is_read(alloc, Wtf8::from_str(text), units, rest);
+        if let Err(failed) = expect(is_read, Wrong::Outcome) {
+            return in_row(row, Err(failed));
+        }
+        row = row.wrapping_add(1);
     }
-    let lone = string_of(rt.alloc(), &[0x0022, TRAIL, LEAD, 0x0022])?;
-    expect(
-        is_read(rt.alloc(), lone.as_wtf8(), &[TRAIL, LEAD], ""),
-        Wrong::Outcome,
-    )
+    Ok(())
 }
 
 #[test]
-fn malformed_strings_are_refused(rt: HostRuntime) {
+fn strings_are_read_as_an_engine_does(rt: HostRuntime) -> Result<(), Failed> {
+    let alloc = rt.alloc();
+    expect_all_read(alloc)?;
+    let Ok(lone) = string_of(alloc, &[0x0022, TRAIL, LEAD, 0x0022]) else {
+        return Err(Failed::by(Wrong::Memory));
+    };
+    let is_read = is_read(alloc, lone.as_wtf8(), &[TRAIL, LEAD], "");
+    expect(is_read, Wrong::Outcome)
+}
+
+#[test]
+fn malformed_strings_are_refused(rt: HostRuntime) -> Result<(), Failed> {
+    let alloc = rt.alloc();
+    let mut row = 0usize;
     for (text, position, cause) in malformed() {
-        assert!(rt; is_refused(rt.alloc(), text, position, cause), "{text}");
+        let is_refused = is_refused(alloc, text, position, cause);
+        if let Err(failed) = expect(is_refused, Wrong::Outcome) {
+            return in_row(row, Err(failed));
+        }
+        row = row.wrapping_add(1);
     }
+    Ok(())
 }
 
 /// The number of requests for a string that grows to twenty bytes.
@@ -129,12 +145,13 @@ fn is_out_of_memory<A: Allocator>(alloc: A) -> bool {
 }
 
 #[test]
-fn each_refused_request_is_told(rt: HostRuntime) {
+fn each_refused_request_is_told(rt: HostRuntime) -> Result<(), Failed> {
     let heap = Refusing::new(rt.alloc(), 0);
     for grants in 0..REQUESTS {
         heap.grant(grants);
-        assert!(rt; is_out_of_memory(&heap), "{grants}");
+        expect(is_out_of_memory(&heap), Wrong::Outcome)?;
     }
     heap.grant(REQUESTS);
-    assert!(rt; !is_out_of_memory(&heap) && heap.grants_left() == 0);
+    let is_read = !is_out_of_memory(&heap) && heap.grants_left() == 0;
+    expect(is_read, Wrong::Outcome)
 }

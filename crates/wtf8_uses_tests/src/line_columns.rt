@@ -2,7 +2,7 @@
 use refusing::Refusing;
 use std::alloc::{AllocError, Allocator, Global};
 use wtf8::Wtf8;
-use wtf8_tests::wrong::{Failed, Wrong, expect, made};
+use wtf8_tests::wrong::{Failed, Wrong, expect};
 use wtf8_uses::line_columns::{LineColumns, line_column_at, lines_of, mark_at_column};
 
 /// In bytes 61 0A, F0 9F 92 A9 62 0A, 0A and C3 A9. The second line begins with a surrogate pair.
@@ -27,18 +27,20 @@ fn columns() -> [(usize, usize, Option<(usize, usize)>); 12] {
 }
 
 /// A byte position, and the line and the column there.
-const POSITIONS: [(usize, usize, usize); 10] = [
-    (0, 0, 0),
-    (1, 0, 1),
-    (2, 1, 0),
-    (5, 1, 0),
-    (6, 1, 2),
-    (7, 1, 3),
-    (8, 2, 0),
-    (9, 3, 0),
-    (10, 3, 0),
-    (11, 3, 1),
-];
+fn positions() -> [(usize, usize, usize); 10] {
+    [
+        (0, 0, 0),
+        (1, 0, 1),
+        (2, 1, 0),
+        (5, 1, 0),
+        (6, 1, 2),
+        (7, 1, 3),
+        (8, 2, 0),
+        (9, 3, 0),
+        (10, 3, 0),
+        (11, 3, 1),
+    ]
+}
 
 /// The number of requests for a vector that grows to ten marks.
 const REQUESTS: u64 = 3;
@@ -56,7 +58,7 @@ fn has_columns(lines: &LineColumns<'_, Global>) -> bool {
 
 /// Whether each byte position has its line and column.
 fn has_positions(lines: &LineColumns<'_, Global>) -> bool {
-    for (position, line, column) in POSITIONS {
+    for (position, line, column) in positions() {
         if lines.text.len() < position {
             return false;
         }
@@ -76,7 +78,9 @@ fn is_mapped(alloc: Global) -> Result<bool, AllocError> {
 
 #[test]
 fn columns_count_units(rt: HostRuntime) -> Result<(), Failed> {
-    let is_mapped = made(is_mapped(rt.alloc()))?;
+    let Ok(is_mapped) = is_mapped(rt.alloc()) else {
+        return Err(Failed::by(Wrong::Memory));
+    };
     expect(is_mapped, Wrong::Outcome)
 }
 
@@ -86,12 +90,13 @@ fn is_out_of_memory<A: Allocator>(alloc: A) -> bool {
 }
 
 #[test]
-fn each_refused_request_is_told(rt: HostRuntime) {
+fn each_refused_request_is_told(rt: HostRuntime) -> Result<(), Failed> {
     let heap = Refusing::new(rt.alloc(), 0);
     for grants in 0..REQUESTS {
         heap.grant(grants);
-        assert!(rt; is_out_of_memory(&heap), "{grants}");
+        expect(is_out_of_memory(&heap), Wrong::Outcome)?;
     }
     heap.grant(REQUESTS);
-    assert!(rt; !is_out_of_memory(&heap) && heap.grants_left() == 0);
+    let are_found = !is_out_of_memory(&heap) && heap.grants_left() == 0;
+    expect(are_found, Wrong::Outcome)
 }

@@ -2,7 +2,7 @@
 use crate::shared::{LEAD, TRAIL, expect_made, string_of};
 use std::alloc::Global;
 use wtf8::{Wtf8, Wtf8Buf};
-use wtf8_tests::wrong::{Failed, Wrong, expect_bytes, made};
+use wtf8_tests::wrong::{Failed, Wrong, expect, expect_bytes};
 use wtf8_uses::points;
 
 const WHOLE: &str = "ED B2 A9 F0 9F 92 A9 41 ED A0 BD";
@@ -24,7 +24,9 @@ fn expect_common(
 ) -> Result<(), Failed> {
     let with_front = points::common_points(text, front.as_wtf8());
     let with_back = points::common_points(text, back);
-    made(points::push_points(front, back))?;
+    let Ok(()) = points::push_points(front, back) else {
+        return Err(Failed::by(Wrong::Memory));
+    };
     let with_both = points::common_points(front.as_wtf8(), text);
     match (with_front, with_back, with_both) {
         (2, 0, 4) => expect_bytes(alloc, front.as_wtf8(), WHOLE),
@@ -35,17 +37,20 @@ fn expect_common(
 /// Fails unless the points of a text after its first two are the expected ones, none is supplementary, and both parts
 /// join to the text again.
 fn expect_back(alloc: Global, text: Wtf8<'_>, front: &mut Wtf8Buf<Global>) -> Result<(), Failed> {
-    let back = made(points::points_after(alloc, text, 2))?;
+    let Ok(back) = points::points_after(alloc, text, 2) else {
+        return Err(Failed::by(Wrong::Memory));
+    };
     expect_bytes(alloc, back.as_wtf8(), "41 ED A0 BD")?;
-    if points::supplementary_count(back.as_wtf8()) != 0 {
-        return Err(Failed::by(Wrong::Outcome));
-    }
+    let count = points::supplementary_count(back.as_wtf8());
+    expect(count == 0, Wrong::Outcome)?;
     expect_common(alloc, text, front, back.as_wtf8())
 }
 
 /// Fails unless a text splits into its first two code points and the rest, and these join to the text again.
 fn expect_halves(alloc: Global, text: Wtf8<'_>) -> Result<(), Failed> {
-    let mut front = made(points::first_points(alloc, text, 2))?;
+    let Ok(mut front) = points::first_points(alloc, text, 2) else {
+        return Err(Failed::by(Wrong::Memory));
+    };
     expect_bytes(alloc, front.as_wtf8(), "ED B2 A9 F0 9F 92 A9")?;
     expect_back(alloc, text, &mut front)
 }
@@ -56,15 +61,24 @@ fn expect_copies(alloc: Global, text: Wtf8<'_>) -> Result<(), Failed> {
     expect_made(alloc, points::collect_points(alloc, text), WHOLE)
 }
 
-#[test]
-fn a_string_is_copied_by_its_code_points(rt: HostRuntime) -> Result<(), Failed> {
-    let text = string_of(rt.alloc(), &[TRAIL, LEAD, TRAIL, 0x0041, LEAD])?;
-    expect_copies(rt.alloc(), text.as_wtf8())?;
-    expect_counts(text.as_wtf8())?;
-    expect_halves(rt.alloc(), text.as_wtf8())
+/// Fails unless the copies, the counts and the halves of a text are as expected.
+fn expect_points(alloc: Global, text: Wtf8<'_>) -> Result<(), Failed> {
+    expect_copies(alloc, text)?;
+    expect_counts(text)?;
+    expect_halves(alloc, text)
 }
 
 #[test]
-fn supplementary_code_points_begin_at_10000(rt: HostRuntime) {
-    assert!(rt; points::supplementary_count(Wtf8::from_str("\u{FFFF}\u{10000}")) == 1);
+fn a_string_is_copied_by_its_code_points(rt: HostRuntime) -> Result<(), Failed> {
+    let alloc = rt.alloc();
+    let Ok(text) = string_of(alloc, &[TRAIL, LEAD, TRAIL, 0x0041, LEAD]) else {
+        return Err(Failed::by(Wrong::Memory));
+    };
+    expect_points(alloc, text.as_wtf8())
+}
+
+#[test]
+fn supplementary_code_points_begin_at_10000() -> Result<(), Failed> {
+    let count = points::supplementary_count(Wtf8::from_str("\u{FFFF}\u{10000}"));
+    expect(count == 1, Wrong::Outcome)
 }

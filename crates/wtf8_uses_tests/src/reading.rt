@@ -85,14 +85,23 @@ fn expect_read(
     expect(reader.calls as usize == calls, Wrong::Requests)
 }
 
+/// Fails unless reading pieces of each size from 1 to 7 gives `expected`.
+fn expect_read_in_pieces(alloc: Global, bytes: &[u8], expected: &str) -> Result<(), Failed> {
+    for most in 1..8 {
+        // One call for each piece, one for the interruption and one for the end.
+        let calls = bytes.len().div_ceil(most).wrapping_add(2);
+        expect_read(alloc, bytes, most, calls, expected)?;
+    }
+    Ok(())
+}
+
 #[test]
 fn pieces_of_any_size_are_one_input(rt: HostRuntime) -> Result<(), Failed> {
+    let alloc = rt.alloc();
     let mut row = 0usize;
     for (bytes, expected) in rows() {
-        for most in 1..8 {
-            // One call for each piece, one for the interruption and one for the end.
-            let calls = bytes.len().div_ceil(most).wrapping_add(2);
-            in_row(row, expect_read(rt.alloc(), bytes, most, calls, expected))?;
+        if let Err(failed) = expect_read_in_pieces(alloc, bytes, expected) {
+            return in_row(row, Err(failed));
         }
         row = row.wrapping_add(1);
     }
@@ -141,9 +150,7 @@ fn expect_handed_on(
     };
     let is_handed_on = is_handed_on(alloc, &mut reader, error, number);
     // The reader was not called after the error, and the bytes that were not read are still there.
-    if !is_handed_on || reader.calls != calls {
-        return Err(Failed::by(Wrong::Outcome));
-    }
+    expect(is_handed_on && reader.calls == calls, Wrong::Outcome)?;
     expect_told(alloc, read_utf16(alloc, &mut reader), left)
 }
 
@@ -155,14 +162,16 @@ fn expect_all_handed_on(
 ) -> Result<(), Failed> {
     let mut index = 0usize;
     for row in failing_rows() {
-        in_row(index, expect_handed_on(alloc, error, number, row))?;
+        if let Err(failed) = expect_handed_on(alloc, error, number, row) {
+            return in_row(index, Err(failed));
+        }
         index = index.wrapping_add(1);
     }
     Ok(())
 }
 
-#[test]
-fn an_error_is_handed_on(rt: HostRuntime) -> Result<(), Failed> {
+/// Fails unless an error of each kind is handed on.
+fn expect_kinds_handed_on(alloc: Global) -> Result<(), Failed> {
     for kind in [
         ErrorKind::BrokenPipe,
         ErrorKind::WouldBlock,
@@ -170,11 +179,18 @@ fn an_error_is_handed_on(rt: HostRuntime) -> Result<(), Failed> {
         ErrorKind::Other,
         ErrorKind::TimedOut,
     ] {
-        expect_all_handed_on(rt.alloc(), io::Error::from(kind), None)?;
+        expect_all_handed_on(alloc, io::Error::from(kind), None)?;
     }
+    Ok(())
+}
+
+#[test]
+fn an_error_is_handed_on(rt: HostRuntime) -> Result<(), Failed> {
+    let alloc = rt.alloc();
+    expect_kinds_handed_on(alloc)?;
     for number in [5, 32] {
         let error = io::Error::from_raw_os_error(number);
-        expect_all_handed_on(rt.alloc(), error, Some(number))?;
+        expect_all_handed_on(alloc, error, Some(number))?;
     }
     Ok(())
 }

@@ -3,39 +3,52 @@ use crate::shared::{LEAD, TRAIL, string_of};
 use refusing::Refusing;
 use std::alloc::{Allocator, Global};
 use wtf8::{Build, CodePoint, Wtf8, Wtf8Buf};
-use wtf8_tests::wrong::{Failed, Wrong, expect, expect_bytes, made};
+use wtf8_tests::wrong::{Failed, Wrong, expect, expect_bytes};
 use wtf8_uses::refusals;
 
 /// Pushes "a" and "b" by a list of calls. Fails unless the string then has the bytes of `dump`.
 fn expect_list(alloc: Global, string: &mut Wtf8Buf<Global>, dump: &str) -> Result<(), Failed> {
     let calls = [Build::PushChar('a'), Build::PushStr("b")];
-    made(refusals::push_list(string, &calls, 2))?;
+    let Ok(()) = refusals::push_list(string, &calls, 2) else {
+        return Err(Failed::by(Wrong::Memory));
+    };
     expect_bytes(alloc, string.as_wtf8(), dump)
 }
 
 /// Pushes a trail and "é" to a lead, and then a list of calls. Fails unless the bytes are right after each step.
 fn expect_pushed(alloc: Global, string: &mut Wtf8Buf<Global>) -> Result<(), Failed> {
-    let trail = string_of(alloc, &[TRAIL])?;
-    made(refusals::push_both(string, trail.as_wtf8(), Wtf8::from_str("é")))?;
+    let Ok(trail) = string_of(alloc, &[TRAIL]) else {
+        return Err(Failed::by(Wrong::Memory));
+    };
+    let Ok(()) = refusals::push_both(string, trail.as_wtf8(), Wtf8::from_str("é")) else {
+        return Err(Failed::by(Wrong::Memory));
+    };
     expect_bytes(alloc, string.as_wtf8(), "F0 9F 92 A9 C3 A9")?;
     expect_list(alloc, string, "F0 9F 92 A9 C3 A9 61 62")
 }
 
 /// Fails unless "é" and a trail are pushed to a lead as two code points.
 fn expect_two_points(alloc: Global) -> Result<(), Failed> {
-    let mut both = string_of(alloc, &[LEAD])?;
+    let Ok(mut both) = string_of(alloc, &[LEAD]) else {
+        return Err(Failed::by(Wrong::Memory));
+    };
     let trail = CodePoint::from_unit(TRAIL);
-    made(refusals::push_two_points(&mut both, CodePoint::from_char('é'), trail))?;
+    let Ok(()) = refusals::push_two_points(&mut both, CodePoint::from_char('é'), trail) else {
+        return Err(Failed::by(Wrong::Memory));
+    };
     expect_bytes(alloc, both.as_wtf8(), "ED A0 BD C3 A9 ED B2 A9")
 }
 
 #[test]
 fn memory_is_reserved_once_for_all_pushes(rt: HostRuntime) -> Result<(), Failed> {
-    let mut string = string_of(rt.alloc(), &[LEAD])?;
-    expect_pushed(rt.alloc(), &mut string)?;
+    let alloc = rt.alloc();
+    let Ok(mut string) = string_of(alloc, &[LEAD]) else {
+        return Err(Failed::by(Wrong::Memory));
+    };
+    expect_pushed(alloc, &mut string)?;
     let is_kept = refusals::is_kept_by_a_refusal(&mut string, CodePoint::from_char('c'));
     expect(matches!(is_kept, Ok(true)), Wrong::Outcome)?;
-    expect_two_points(rt.alloc())
+    expect_two_points(alloc)
 }
 
 /// "a" twenty times.
@@ -47,14 +60,22 @@ fn are_pushed<A: Allocator>(string: &mut Wtf8Buf<A>) -> bool {
     refusals::push_both(string, text, text).is_ok()
 }
 
+/// Fails unless both texts are pushed just if the one request for their 40 bytes is granted.
+fn expect_reserved<A: Allocator>(
+    heap: &Refusing<Global>,
+    string: &mut Wtf8Buf<A>,
+) -> Result<(), Failed> {
+    expect(!are_pushed(string) && string.is_empty(), Wrong::Outcome)?;
+    heap.grant(1);
+    expect(are_pushed(string) && string.len() == 40, Wrong::Outcome)?;
+    expect(heap.requests() == 1 && heap.bytes() == 40, Wrong::Requests)
+}
+
 #[test]
-fn both_strings_are_pushed_into_the_reserved_room(rt: HostRuntime) {
+fn both_strings_are_pushed_into_the_reserved_room(rt: HostRuntime) -> Result<(), Failed> {
     let heap = Refusing::new(rt.alloc(), 0);
     let mut string = Wtf8Buf::new(&heap);
-    assert!(rt; !are_pushed(&mut string) && string.is_empty());
-    heap.grant(1);
-    assert!(rt; are_pushed(&mut string) && string.len() == 40);
-    assert!(rt; heap.requests() == 1 && heap.bytes() == 40);
+    expect_reserved(&heap, &mut string)
 }
 
 /// Whether `push_two_points` of two code points of four bytes each succeeds.
@@ -72,7 +93,9 @@ fn is_list_pushed<A: Allocator>(string: &mut Wtf8Buf<A>) -> bool {
 #[test]
 fn nothing_is_pushed_without_room_for_all(rt: HostRuntime) -> Result<(), Failed> {
     let heap = Refusing::new(rt.alloc(), 1);
-    let mut string = made(Wtf8Buf::with_capacity(&heap, 7))?;
+    let Ok(mut string) = Wtf8Buf::with_capacity(&heap, 7) else {
+        return Err(Failed::by(Wrong::Memory));
+    };
     let is_pushed = are_points_pushed(&mut string) || is_list_pushed(&mut string);
     expect(!is_pushed && string.is_empty(), Wrong::Outcome)
 }

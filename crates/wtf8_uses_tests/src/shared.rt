@@ -1,7 +1,7 @@
 // Strings and checks that several test modules use.
 use std::alloc::{AllocError, Global};
 use wtf8::{Wtf8, Wtf8Buf};
-use wtf8_tests::wrong::{Failed, expect_bytes, made};
+use wtf8_tests::wrong::{Failed, Wrong, expect_bytes, made};
 
 /// The code units of U+1F4A9; `PAIR_DUMP` is its bytes.
 pub const LEAD: u16 = 0xD83D;
@@ -21,16 +21,20 @@ pub fn expect_made(
     returned: Result<Wtf8Buf<Global>, AllocError>,
     dump: &str,
 ) -> Result<(), Failed> {
-    let string = made(returned)?;
+    let Ok(string) = returned else {
+        return Err(Failed::by(Wrong::Memory));
+    };
     expect_bytes(alloc, string.as_wtf8(), dump)
 }
 
 /// Whether the string has `units` by index, and no more.
 pub fn has_units(text: Wtf8<'_>, units: &[u16]) -> bool {
-    for (index, unit) in units.iter().enumerate() {
+    let mut index = 0usize;
+    for unit in units {
         if text.unit_at(index) != Some(*unit) {
             return false;
         }
+        index = index.wrapping_add(1);
     }
     text.unit_len() == units.len()
 }

@@ -7,11 +7,15 @@ use std::alloc::{AllocError, Global};
 use std::collections::HashMap;
 use std::hash::{BuildHasherDefault, FoldHasher};
 use wtf8::{Wtf8, Wtf8Buf};
-use wtf8_tests::wrong::{Failed, Wrong, expect, expect_bytes, in_row, made};
+use wtf8_tests::wrong::{Failed, Wrong, expect, expect_bytes};
 use wtf8_uses::{joining, maps, sorting, table};
 
-/// The bytes of U+E000 and U+10000, in code point order. By code units the order is the other way round.
-const IN_ORDER: [&str; 2] = ["EE 80 80", "F0 90 80 80"];
+/// Fails unless two views have the bytes of U+E000 and U+10000, which are in code point order. By code units the order
+/// is the other way round.
+fn expect_in_order(alloc: Global, first: Wtf8<'_>, second: Wtf8<'_>) -> Result<(), Failed> {
+    expect_bytes(alloc, first, "EE 80 80")?;
+    expect_bytes(alloc, second, "F0 90 80 80")
+}
 
 /// Two views, sorted.
 fn sorted_views<'a>(
@@ -26,22 +30,27 @@ fn sorted_views<'a>(
     Ok(views)
 }
 
-/// Fails unless the two views, sorted, have the bytes of `IN_ORDER`.
+/// Fails unless the two views, sorted, are as `expect_in_order` requires.
 fn expect_sorted(alloc: Global, first: Wtf8<'_>, second: Wtf8<'_>) -> Result<(), Failed> {
-    let views = made(sorted_views(alloc, first, second))?;
-    let mut row = 0usize;
-    for (view, dump) in views.iter().zip(IN_ORDER) {
-        in_row(row, expect_bytes(alloc, *view, dump))?;
-        row = row.wrapping_add(1);
+    let Ok(views) = sorted_views(alloc, first, second) else {
+        return Err(Failed::by(Wrong::Memory));
+    };
+    match views.as_slice() {
+        [first, second] => expect_in_order(alloc, *first, *second),
+        _ => Err(Failed::by(Wrong::Outcome)),
     }
-    Ok(())
 }
 
 #[test]
 fn views_are_sorted(rt: HostRuntime) -> Result<(), Failed> {
-    let first = string_of(rt.alloc(), &[0xD800, 0xDC00])?;
-    let second = string_of(rt.alloc(), &[0xE000])?;
-    expect_sorted(rt.alloc(), first.as_wtf8(), second.as_wtf8())
+    let alloc = rt.alloc();
+    let Ok(first) = string_of(alloc, &[0xD800, 0xDC00]) else {
+        return Err(Failed::by(Wrong::Memory));
+    };
+    let Ok(second) = string_of(alloc, &[0xE000]) else {
+        return Err(Failed::by(Wrong::Memory));
+    };
+    expect_sorted(alloc, first.as_wtf8(), second.as_wtf8())
 }
 
 /// Appends the string of `units`.
@@ -65,14 +74,12 @@ fn sorted(alloc: Global) -> Result<Vec<Wtf8Buf<Global>>, AllocError>
     Ok(strings)
 }
 
-/// Fails unless the strings have the bytes of `IN_ORDER`.
+/// Fails unless the strings are as `expect_in_order` requires.
 fn expect_strings(alloc: Global, strings: &[Wtf8Buf<Global>]) -> Result<(), Failed> {
-    let mut row = 0usize;
-    for (string, dump) in strings.iter().zip(IN_ORDER) {
-        in_row(row, expect_bytes(alloc, string.as_wtf8(), dump))?;
-        row = row.wrapping_add(1);
+    match strings {
+        [first, second] => expect_in_order(alloc, first.as_wtf8(), second.as_wtf8()),
+        _ => Err(Failed::by(Wrong::Outcome)),
     }
-    Ok(())
 }
 
 /// Fails unless the search in a sorted table for the string of these units returns `index`, also by its view.
@@ -84,7 +91,9 @@ fn expect_index(
 ) -> Result<(), Failed>
     requires { AreInPointOrder table.now }
 {
-    let string = string_of(alloc, units)?;
+    let Ok(string) = string_of(alloc, units) else {
+        return Err(Failed::by(Wrong::Memory));
+    };
     let by_view = table::search_table_for_view(table, string.as_wtf8());
     let is_found = table::search_table(table, &string) == index && by_view == index;
     expect(is_found, Wrong::Outcome)
@@ -103,8 +112,9 @@ fn expect_found(alloc: Global, table: &[Wtf8Buf<Global>]) -> Result<(), Failed>
 
 #[test]
 fn strings_are_sorted_and_found(rt: HostRuntime) -> Result<(), Failed> {
-    match sorted(rt.alloc()) {
-        Ok(strings) => expect_found(rt.alloc(), strings.as_slice()),
+    let alloc = rt.alloc();
+    match sorted(alloc) {
+        Ok(strings) => expect_found(alloc, strings.as_slice()),
         Err(_) => Err(Failed::by(Wrong::Memory)),
     }
 }
@@ -120,17 +130,24 @@ fn strings_of(alloc: Global, texts: &[&str]) -> Result<Vec<Wtf8Buf<Global>>, All
 
 /// Whether the strings are `texts`, in this order.
 fn are_texts(strings: &[Wtf8Buf<Global>], texts: &[&str]) -> bool {
-    for (string, text) in strings.iter().zip(texts) {
+    let mut index = 0usize;
+    for string in strings {
+        let Some(text) = texts.get(index) else {
+            return false;
+        };
         if string.as_wtf8().as_str() != Some(*text) {
             return false;
         }
+        index = index.wrapping_add(1);
     }
-    strings.len() == texts.len()
+    index == texts.len()
 }
 
 #[test]
 fn repeated_strings_are_dropped(rt: HostRuntime) -> Result<(), Failed> {
-    let mut strings = made(strings_of(rt.alloc(), &["b", "b", "a", "", "", "", "b"]))?;
+    let Ok(mut strings) = strings_of(rt.alloc(), &["b", "b", "a", "", "", "", "b"]) else {
+        return Err(Failed::by(Wrong::Memory));
+    };
     sorting::drop_repeated(&mut strings);
     expect(are_texts(&strings, &["b", "a", "", "b"]), Wrong::Bytes)
 }
@@ -143,11 +160,21 @@ fn is_found(alloc: Global, same: &Wtf8Buf<Global>) -> Result<bool, AllocError> {
     Ok(found == Some(7))
 }
 
+/// Whether a string and the view of "💩" have the same hash.
+fn are_alike(same: &Wtf8Buf<Global>) -> bool {
+    let hashers: BuildHasherDefault<FoldHasher> = BuildHasherDefault::new();
+    maps::hashes_agree(&hashers, same, Wtf8::from_str("💩"))
+}
+
 #[test]
 fn a_map_finds_equal_strings(rt: HostRuntime) -> Result<(), Failed> {
-    let same = made(Wtf8Buf::from_str(rt.alloc(), "💩"))?;
-    let hashers: BuildHasherDefault<FoldHasher> = BuildHasherDefault::new();
-    let is_alike = maps::hashes_agree(&hashers, &same, Wtf8::from_str("💩"));
-    let is_found = made(is_found(rt.alloc(), &same))?;
-    expect(is_alike && is_found, Wrong::Outcome)
+    let alloc = rt.alloc();
+    let Ok(same) = Wtf8Buf::from_str(alloc, "💩") else {
+        return Err(Failed::by(Wrong::Memory));
+    };
+    expect(are_alike(&same), Wrong::Outcome)?;
+    let Ok(is_found) = is_found(alloc, &same) else {
+        return Err(Failed::by(Wrong::Memory));
+    };
+    expect(is_found, Wrong::Outcome)
 }
