@@ -1,5 +1,7 @@
 // Buffers that find their code units: short ones by tables, and long ones with marks and without.
-use crate::shared::{Push, buf_has_units, has_buf, has_bytes, has_text, push_each, push_to};
+use crate::shared::{
+    Push, buf_has_units, has_buf, has_bytes, has_text, has_units_left, push_each, push_to,
+};
 use std::alloc::{AllocError, Allocator, Global};
 use std::cmp::Ordering;
 use std::hash::{DefaultHasher, Hash, Hasher};
@@ -74,16 +76,10 @@ fn has_slice<A: Allocator>(buf: &IndexedBuf<A>, units: &[u16], begin: usize, end
 
 /// Whether `units_from` has the units from index `begin` on.
 fn has_units_from<A: Allocator>(buf: &IndexedBuf<A>, units: &[u16], begin: usize) -> bool {
-    if begin > buf.unit_len() {
+    if begin > buf.unit_len() || begin > units.len() {
         return false;
     }
-    let mut left = buf.units_from(begin);
-    for at in begin..units.len() {
-        if left.next() != units.get(at).copied() {
-            return false;
-        }
-    }
-    left.next().is_none()
+    has_units_left(buf.units_from(begin), &units[begin..])
 }
 
 /// Whether the part from index `begin` to before index `end` is found by each call, if these are in order.
@@ -114,20 +110,14 @@ fn has_all<A: Allocator>(alloc: Global, buf: &IndexedBuf<A>, units: &[u16], dump
     has_buf(alloc, buf, units, dump)
 }
 
-/// Units and their bytes: of each length, and in a pair.
-fn whole_texts() -> [(&'static [u16], &'static str); 5] {
+/// Units and their bytes: of each length, in pairs, and lone.
+fn texts() -> [(&'static [u16], &'static str); 11] {
     [
         (&[], ""),
         (&[0x0061, 0x0000, 0x007F], "61 00 7F"),
         (&[0x0080, 0x00E9, 0x07FF], "C2 80 C3 A9 DF BF"),
         (&[0x0800, 0x3042, 0xFFFF], "E0 A0 80 E3 81 82 EF BF BF"),
         (&[0xD83D, 0xDCA9], "F0 9F 92 A9"),
-    ]
-}
-
-/// Units and their bytes: lone, and beside pairs.
-fn divided_texts() -> [(&'static [u16], &'static str); 6] {
-    [
         (&[0xD83D], "ED A0 BD"),
         (&[0xDCA9], "ED B2 A9"),
         (&[0xDCA9, 0xD83D], "ED B2 A9 ED A0 BD"),
@@ -210,8 +200,8 @@ fn is_made_each_way(alloc: Global, units: &[u16], dump: &str) -> bool {
 }
 
 /// Whether buffers of each of these lists of units have the units and the bytes.
-fn are_made(alloc: Global, texts: &[(&[u16], &str)]) -> bool {
-    for (units, dump) in texts {
+fn are_made(alloc: Global) -> bool {
+    for (units, dump) in texts() {
         if !is_made_each_way(alloc, units, dump) {
             return false;
         }
@@ -221,8 +211,7 @@ fn are_made(alloc: Global, texts: &[(&[u16], &str)]) -> bool {
 
 #[test]
 fn a_buffer_has_the_units_that_it_is_made_of(rt: HostRuntime) {
-    assert!(rt; are_made(rt.alloc(), &whole_texts()));
-    assert!(rt; are_made(rt.alloc(), &divided_texts()));
+    assert!(rt; are_made(rt.alloc()));
 }
 
 /// A call that appends to the buffer of the units `front`, and the units and bytes after it.
@@ -234,8 +223,10 @@ struct Row {
     dump: &'static str,
 }
 
-/// Code points and units that are pushed.
-fn pushes_of_units() -> [Row; 5] {
+/// Code points, units and characters that are pushed, then strings and lists of units, and then slices: with the trail
+/// of a pair in front, which the lead at the end of a string meets or not, with a lead at the end, with both, and
+/// without any unit.
+fn pushes() -> [Row; 19] {
     [
         Row {
             front: &[0x0061],
@@ -267,12 +258,6 @@ fn pushes_of_units() -> [Row; 5] {
             units: &[0xDCA9, 0xD83D],
             dump: "ED B2 A9 ED A0 BD",
         },
-    ]
-}
-
-/// Characters and texts that are pushed.
-fn pushes_of_texts() -> [Row; 4] {
-    [
         Row {
             front: &[0x0061],
             push: Push::Char('あ'),
@@ -297,12 +282,6 @@ fn pushes_of_texts() -> [Row; 4] {
             units: &[0xD83D, 0x0061, 0x00E9, 0xD83D, 0xDCA9],
             dump: "ED A0 BD 61 C3 A9 F0 9F 92 A9",
         },
-    ]
-}
-
-/// Lists of units and strings that are pushed.
-fn pushes_of_lists() -> [Row; 5] {
-    [
         Row {
             front: &[0xD83D],
             push: Push::Units(&[]),
@@ -333,13 +312,6 @@ fn pushes_of_lists() -> [Row; 5] {
             units: &[0x0061, 0xDCA9, 0xD83D],
             dump: "61 ED B2 A9 ED A0 BD",
         },
-    ]
-}
-
-/// Slices: with the trail of a pair in front, which the lead at the end of a string meets or not, with a lead at the end,
-/// with both, and without any unit.
-fn pushes_of_slices() -> [Row; 5] {
-    [
         Row {
             front: &[0x0061, 0xD83D],
             push: Push::Slice(&[0xD83D, 0xDCA9, 0x00E9], 1, 3),
@@ -385,8 +357,8 @@ fn is_pushed(alloc: Global, row: &Row, is_marked: bool) -> bool {
 }
 
 /// Whether each row's call appends its units, with marks kept and without.
-fn are_pushed(alloc: Global, rows: &[Row]) -> bool {
-    for row in rows {
+fn are_pushed(alloc: Global) -> bool {
+    for row in &pushes() {
         if !is_pushed(alloc, row, false) || !is_pushed(alloc, row, true) {
             return false;
         }
@@ -396,10 +368,7 @@ fn are_pushed(alloc: Global, rows: &[Row]) -> bool {
 
 #[test]
 fn each_call_that_pushes_appends_its_units(rt: HostRuntime) {
-    assert!(rt; are_pushed(rt.alloc(), &pushes_of_units()));
-    assert!(rt; are_pushed(rt.alloc(), &pushes_of_texts()));
-    assert!(rt; are_pushed(rt.alloc(), &pushes_of_lists()));
-    assert!(rt; are_pushed(rt.alloc(), &pushes_of_slices()));
+    assert!(rt; are_pushed(rt.alloc()));
 }
 
 /// Lists of units in the order of their code points, which is that of their bytes: a pair is after U+FFFF.
@@ -901,16 +870,10 @@ fn a_buffer_without_spare_capacity_has_its_units(rt: HostRuntime) {
 
 /// Whether the text has the units from index `begin` on, and no more.
 fn text_has_units_from(text: &UnitText<Global>, units: &[u16], begin: usize) -> bool {
-    if begin > text.unit_len() {
+    if begin > text.unit_len() || begin > units.len() {
         return false;
     }
-    let mut left = text.units_from(begin);
-    for at in begin..units.len() {
-        if left.next() != units.get(at).copied() {
-            return false;
-        }
-    }
-    left.next().is_none()
+    has_units_left(text.units_from(begin), &units[begin..])
 }
 
 /// An empty text to which units are pushed in two parts.
@@ -946,8 +909,8 @@ fn is_text_in_parts(alloc: Global, units: &[u16], dump: &str, cut: usize) -> boo
 }
 
 /// Whether texts of each of these lists of units, pushed in two parts, wherever they are cut, have the units and bytes.
-fn are_texts_in_parts(alloc: Global, texts: &[(&[u16], &str)]) -> bool {
-    for (units, dump) in texts {
+fn are_texts_in_parts(alloc: Global) -> bool {
+    for (units, dump) in texts() {
         for cut in 0..=units.len() {
             if !is_text_in_parts(alloc, units, dump, cut) {
                 return false;
@@ -964,7 +927,6 @@ fn is_new_text_empty(alloc: Global) -> bool {
 
 #[test]
 fn a_text_is_pushed_in_parts_and_copied(rt: HostRuntime) {
-    assert!(rt; is_new_text_empty(rt.alloc()));
-    assert!(rt; are_texts_in_parts(rt.alloc(), &whole_texts()));
-    assert!(rt; are_texts_in_parts(rt.alloc(), &divided_texts()));
+    let alloc = rt.alloc();
+    assert!(rt; is_new_text_empty(alloc) && are_texts_in_parts(alloc));
 }

@@ -28,8 +28,10 @@ struct Row {
     requests: u64,
 }
 
-/// Calls that append one code point.
-fn pushes_of_one() -> [Row; 5] {
+/// Calls that append one code point, or nothing, then several code points, and then slices whose trail in front
+/// completes the pair, alone or before other code points, that have a lead at the end, or that are empty. Each part of
+/// a slice is appended separately, and a growth is at least to twice the capacity, which is four bytes at first.
+fn pushes() -> [Row; 16] {
     [
         Row {
             push: Push::Point(0xDCA9),
@@ -66,12 +68,6 @@ fn pushes_of_one() -> [Row; 5] {
             growth: 1,
             requests: 1,
         },
-    ]
-}
-
-/// Calls that append nothing.
-fn pushes_of_none() -> [Row; 3] {
-    [
         Row {
             push: Push::Str(""),
             units: &FRONT,
@@ -93,12 +89,6 @@ fn pushes_of_none() -> [Row; 3] {
             growth: 0,
             requests: 0,
         },
-    ]
-}
-
-/// Calls that append several code points.
-fn pushes_of_several() -> [Row; 3] {
-    [
         Row {
             push: Push::Str("aé💩"),
             units: &[0x0061, 0xD83D, 0x0061, 0x00E9, 0xD83D, 0xDCA9],
@@ -120,14 +110,6 @@ fn pushes_of_several() -> [Row; 3] {
             growth: 3,
             requests: 1,
         },
-    ]
-}
-
-/// Slices whose trail in front completes the pair, alone or before other code points, that have a lead at the end, or
-/// that are empty. Each part of a slice is appended separately, and a growth is at least to twice the capacity, which is
-/// four bytes at first.
-fn pushes_of_slices() -> [Row; 5] {
-    [
         Row {
             push: Push::Slice(&[0xD83D, 0xDCA9], 1, 2),
             units: &PAIR,
@@ -419,10 +401,10 @@ fn is_checked(alloc: Global, heap: Lent<'_>, row: &Row, check: Check) -> bool {
     }
 }
 
-/// Whether the call of each of these rows does what `check` requires.
-fn are_checked(alloc: Global, rows: &[Row], check: Check) -> bool {
+/// Whether the call of each row does what `check` requires.
+fn are_checked(alloc: Global, check: Check) -> bool {
     let heap = Refusing::new(alloc, 0);
-    for row in rows {
+    for row in &pushes() {
         if !is_checked(alloc, &heap, row, check) {
             return false;
         }
@@ -430,32 +412,24 @@ fn are_checked(alloc: Global, rows: &[Row], check: Check) -> bool {
     true
 }
 
-/// Whether each call that appends does what `check` requires.
-fn are_all_checked(alloc: Global, check: Check) -> bool {
-    are_checked(alloc, &pushes_of_one(), check)
-        && are_checked(alloc, &pushes_of_none(), check)
-        && are_checked(alloc, &pushes_of_several(), check)
-        && are_checked(alloc, &pushes_of_slices(), check)
-}
-
 #[test]
 fn a_push_makes_no_request_just_if_it_fits(rt: HostRuntime) {
-    assert!(rt; are_all_checked(rt.alloc(), Check::Room));
+    assert!(rt; are_checked(rt.alloc(), Check::Room));
 }
 
 #[test]
 fn a_push_fails_at_each_refusal_and_changes_nothing(rt: HostRuntime) {
-    assert!(rt; are_all_checked(rt.alloc(), Check::Refusals));
+    assert!(rt; are_checked(rt.alloc(), Check::Refusals));
 }
 
 #[test]
 fn a_refused_mark_refuses_no_push(rt: HostRuntime) {
-    assert!(rt; are_all_checked(rt.alloc(), Check::Marks));
+    assert!(rt; are_checked(rt.alloc(), Check::Marks));
 }
 
 #[test]
 fn a_refused_push_changes_no_long_buffer(rt: HostRuntime) {
-    assert!(rt; are_all_checked(rt.alloc(), Check::TooLong));
+    assert!(rt; are_checked(rt.alloc(), Check::TooLong));
 }
 
 /// The number of bytes of the long buffer of `PAIR`.
@@ -535,12 +509,16 @@ fn is_each_shrunk(alloc: Global, (is_granted, is_full): (bool, bool), refusal: R
     is_pushed && is_right_shrunk(alloc, &heap, &marks, &mut buf, (is_granted, is_full))
 }
 
+/// Whether `is_each_shrunk` holds if all following requests are refused, and if the next one alone is.
+fn is_shrunk_if_granted(alloc: Global, granted: (bool, bool)) -> bool {
+    is_each_shrunk(alloc, granted, Refusal::ForGood)
+        && is_each_shrunk(alloc, granted, Refusal::Once)
+}
+
 #[test]
 fn a_buffer_releases_spare_capacity_if_that_is_granted(rt: HostRuntime) {
     for granted in [(false, false), (false, true), (true, false), (true, true)] {
-        for refusal in REFUSALS {
-            assert!(rt; is_each_shrunk(rt.alloc(), granted, refusal));
-        }
+        assert!(rt; is_shrunk_if_granted(rt.alloc(), granted));
     }
 }
 
@@ -716,23 +694,20 @@ fn is_right_reserve(
     is_reserve(alloc, heap, &mut buf, additional, outcome)
 }
 
+/// Whether reserves within the spare capacity make no request, and others one.
+fn is_reserved_once(alloc: Global, heap: Lent<'_>) -> bool {
+    is_right_reserve(alloc, heap, (0, 0), (true, 0))
+        && is_right_reserve(alloc, heap, (2, 0), (true, 0))
+        && is_right_reserve(alloc, heap, (3, 0), (false, 1))
+        && is_right_reserve(alloc, heap, (3, 1), (true, 1))
+        && is_right_reserve(alloc, heap, (300, 1), (true, 1))
+}
+
 #[test]
 fn spare_capacity_is_reserved_once(rt: HostRuntime) {
-    let heap = Refusing::new(rt.alloc(), 9);
-    let mut row = 0usize;
-    for (call, outcome) in [
-        ((0, 0), (true, 0)),
-        ((2, 0), (true, 0)),
-        ((3, 0), (false, 1)),
-        ((3, 1), (true, 1)),
-        ((300, 1), (true, 1)),
-    ] {
-        assert!(rt;
-            is_right_reserve(rt.alloc(), &heap, call, outcome),
-            "row {row}"
-        );
-        row = row.wrapping_add(1);
-    }
+    let alloc = rt.alloc();
+    let heap = Refusing::new(alloc, 9);
+    assert!(rt; is_reserved_once(alloc, &heap));
 }
 
 /// Cuts the buffer of `PAIR` inside the pair and empties it. Whether it has the right bytes before and after each call.
@@ -805,8 +780,8 @@ fn is_text_kept(alloc: Global, heap: Lent<'_>, refusal: Refusal) -> bool {
 
 #[test]
 fn a_text_is_unchanged_if_a_copy_or_units_are_refused(rt: HostRuntime) {
-    let heap = Refusing::new(rt.alloc(), 9);
-    for refusal in REFUSALS {
-        assert!(rt; is_text_kept(rt.alloc(), &heap, refusal));
-    }
+    let alloc = rt.alloc();
+    let heap = Refusing::new(alloc, 9);
+    let is_kept = is_text_kept(alloc, &heap, Refusal::ForGood);
+    assert!(rt; is_kept && is_text_kept(alloc, &heap, Refusal::Once));
 }

@@ -1,7 +1,7 @@
 // Texts of each length: each call succeeds if its requests are granted, and requests no more bytes than it needs.
 use crate::shared::slice_of;
 use refusing::{Lent, Refusing};
-use std::alloc::{AllocError, Allocator, Global};
+use std::alloc::{AllocError, Global};
 use unit_text::UnitText;
 
 /// Eight units that repeat in a text: of one kind alone, or mixed.
@@ -124,24 +124,14 @@ fn has_slices<'a>(
         && is_slice(heap, text, kind, half, half)
 }
 
-/// Whether `text` is appended to `front` with at most one request, for at most `most` bytes.
-fn is_appended<A: Allocator>(
-    heap: Lent<'_>,
-    front: &mut UnitText<A>,
-    text: &UnitText<A>,
-    most: usize,
-) -> bool {
-    heap.grant(u64::MAX);
-    front.concat(text).is_ok() && heap.requests() <= 1 && heap.bytes() <= most
-}
-
 /// Whether a text is appended to a copy of it with at most one request, for at most the bytes of both, or 16.
 fn is_twice<'a>(heap: Lent<'a>, text: &UnitText<Lent<'a>>) -> bool {
     let Ok(mut front) = slice_of(heap, text, 0, text.unit_len()) else {
         return false;
     };
     let most = front.as_wtf8().len().saturating_mul(2).max(16);
-    is_appended(heap, &mut front, text, most)
+    heap.grant(u64::MAX);
+    front.concat(text).is_ok() && heap.requests() <= 1 && heap.bytes() <= most
 }
 
 /// Whether slices of the text of `units`, which repeat `kind`, and appending these to a copy, request what they need.

@@ -17,18 +17,18 @@ enum Growth {
     PushStr,
 }
 
-/// Pushes `count` units of three bytes each.
-fn push_units<A: Allocator>(text: &mut UnitText<A>, count: usize) -> Result<(), AllocError> {
+/// Pushes `count` units of three bytes each, as characters if `is_str`.
+fn push_units<A: Allocator>(
+    text: &mut UnitText<A>,
+    count: usize,
+    is_str: bool,
+) -> Result<(), AllocError> {
     for _ in 0..count {
-        text.push(0x3042)?;
-    }
-    Ok(())
-}
-
-/// Pushes `count` characters of one unit and three bytes each.
-fn push_characters<A: Allocator>(text: &mut UnitText<A>, count: usize) -> Result<(), AllocError> {
-    for _ in 0..count {
-        text.push_str("あ")?;
+        if is_str {
+            text.push_str("あ")?;
+        } else {
+            text.push(0x3042)?;
+        }
     }
     Ok(())
 }
@@ -40,7 +40,7 @@ fn append_text<A: Allocator + Drop>(
     count: usize,
 ) -> Result<(), AllocError> {
     let mut piece = UnitText::from_str(alloc, "")?;
-    push_units(&mut piece, count)?;
+    push_units(&mut piece, count, false)?;
     text.concat(&piece)
 }
 
@@ -52,9 +52,9 @@ fn grow<A: Allocator + Drop>(
     growth: Growth,
 ) -> Result<(), AllocError> {
     match growth {
-        Growth::Push => push_units(text, count),
+        Growth::Push => push_units(text, count, false),
         Growth::Concat => append_text(alloc, text, count),
-        Growth::PushStr => push_characters(text, count),
+        Growth::PushStr => push_units(text, count, true),
     }
 }
 

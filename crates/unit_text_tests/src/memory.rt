@@ -1,7 +1,7 @@
 // Refused requests for memory, and the number of bytes in requests.
 use crate::shared::{has_bytes, slice_of};
-use refusing::{Lent, REFUSALS, Refusal, Refusing};
-use std::alloc::{AllocError, Allocator, Global};
+use refusing::{Lent, Refusal, Refusing};
+use std::alloc::{Allocator, Global};
 use unit_text::UnitText;
 
 /// Units of three bytes each, so that a text of them grows more than once.
@@ -41,18 +41,19 @@ fn no_units_ask_for_no_memory(rt: HostRuntime) {
     assert!(rt; is_empty_unasked(rt.alloc(), &heap));
 }
 
-/// A lead surrogate, to which the empty text is appended with no request granted.
-fn lead_and_nothing(heap: Lent<'_>) -> Result<UnitText<Lent<'_>>, AllocError> {
-    let mut lead = UnitText::from_units(heap, &[0xD83D])?;
+/// Whether the empty text is appended to a lead surrogate without a request.
+fn is_nothing_appended<'a>(alloc: Global, heap: Lent<'a>, lead: &mut UnitText<Lent<'a>>) -> bool {
     heap.grant(0);
-    lead.concat(&UnitText::from_units(heap, &[])?)?;
-    Ok(lead)
+    match UnitText::from_units(heap, &[]) {
+        Ok(empty) => lead.concat(&empty).is_ok() && is_unasked(alloc, heap, lead, "ED A0 BD"),
+        Err(_) => false,
+    }
 }
 
-/// Whether the empty text is appended to a lead surrogate without a request.
+/// Whether `is_nothing_appended` holds of the text of a lead surrogate.
 fn is_lead_kept(alloc: Global, heap: Lent<'_>) -> bool {
-    match lead_and_nothing(heap) {
-        Ok(lead) => is_unasked(alloc, heap, &lead, "ED A0 BD"),
+    match UnitText::from_units(heap, &[0xD83D]) {
+        Ok(mut lead) => is_nothing_appended(alloc, heap, &mut lead),
         Err(_) => false,
     }
 }
@@ -148,20 +149,20 @@ fn slices() -> [Slice; 7] {
     ]
 }
 
-/// Whether `slice_units` succeeds with `granted` requests granted, and the following ones, or the next one alone,
-/// refused. None if the row has no range of the text's units.
-fn is_sliced<'a>(
+/// Whether `slice_units` succeeds just if `is_sliced`, with `granted` requests granted, and the following ones, or the
+/// next one alone, refused. The row has to have a range of the text's units.
+fn is_slice<'a>(
     heap: Lent<'a>,
     text: &UnitText<Lent<'a>>,
     row: Slice,
-    granted: u64,
-    refusal: Refusal,
-) -> Option<bool> {
+    (granted, refusal): (u64, Refusal),
+    is_sliced: bool,
+) -> bool {
     if row.begin > row.end || row.end > text.unit_len() {
-        return None;
+        return false;
     }
     heap.refuse_after(granted, refusal);
-    Some(text.slice_units(heap, row.begin, row.end).is_ok())
+    text.slice_units(heap, row.begin, row.end).is_ok() == is_sliced
 }
 
 /// Refuses each request of the row's slice in turn. Whether the slice fails and makes no more requests.
@@ -172,8 +173,9 @@ fn is_each_refused<'a>(
     refusal: Refusal,
 ) -> bool {
     for granted in 0..row.requests {
-        let is_refused = matches!(is_sliced(heap, text, row, granted, refusal), Some(false));
-        if !is_refused || heap.requests() != granted.wrapping_add(1) {
+        if !is_slice(heap, text, row, (granted, refusal), false)
+            || heap.requests() != granted.wrapping_add(1)
+        {
             return false;
         }
     }
@@ -184,7 +186,7 @@ fn is_each_refused<'a>(
 fn is_right<'a>(heap: Lent<'a>, text: &UnitText<Lent<'a>>, row: Slice) -> bool {
     is_each_refused(heap, text, row, Refusal::ForGood)
         && is_each_refused(heap, text, row, Refusal::Once)
-        && matches!(is_sliced(heap, text, row, 9, Refusal::Once), Some(true))
+        && is_slice(heap, text, row, (9, Refusal::Once), true)
         && heap.requests() == row.requests
         && heap.bytes() == row.bytes
 }
@@ -235,58 +237,44 @@ fn is_asked(heap: Lent<'_>, units: &[u16], requests: u64, bytes: usize) -> bool 
 #[test]
 fn a_text_of_units_asks_for_what_it_needs(rt: HostRuntime) {
     let heap = Refusing::new(rt.alloc(), 9);
-    assert!(rt; is_asked(&heap, &WIDE, 2, 6 + 18));
-    assert!(rt; is_asked(&heap, &[0xE000; 17], 3, 17 + 48 + 96));
+    let is_wide_asked = is_asked(&heap, &WIDE, 2, 6 + 18);
+    assert!(rt; is_wide_asked && is_asked(&heap, &[0xE000; 17], 3, 17 + 48 + 96));
 }
 
 fn hundred_trails() -> [u16; 100] {
     [0xDCA9; 100]
 }
 
-/// Appends a text of 100 units with `granted` requests granted. Whether it is appended just if `is_granted`, after one
-/// request, for the 302 bytes that are needed.
-fn is_concat<A: Allocator>(
-    heap: Lent<'_>,
-    text: &mut UnitText<A>,
-    trails: &UnitText<A>,
+/// Appends 100 trail surrogates with `granted` requests granted. Whether they are appended just if `is_granted`, after
+/// one request, for the 302 bytes that are needed.
+fn is_appended<'a>(
+    heap: Lent<'a>,
+    text: &mut UnitText<Lent<'a>>,
     (granted, refusal): (u64, Refusal),
     is_granted: bool,
 ) -> bool {
+    let Ok(trails) = UnitText::from_units(heap, &hundred_trails()) else {
+        return false;
+    };
     heap.refuse_after(granted, refusal);
-    text.concat(trails).is_ok() == is_granted
+    text.concat(&trails).is_ok() == is_granted
         && trails.unit_len() == 100
         && heap.requests() == 1
         && heap.bytes() == 302
 }
 
-/// Whether `is_concat` holds of 100 trail surrogates.
-fn is_appended<'a>(
-    heap: Lent<'a>,
-    text: &mut UnitText<Lent<'a>>,
-    refused: (u64, Refusal),
-    is_granted: bool,
-) -> bool {
-    match UnitText::from_units(heap, &hundred_trails()) {
-        Ok(trails) => is_concat(heap, text, &trails, refused, is_granted),
-        Err(_) => false,
-    }
-}
-
-/// Whether the text has 102 units, of which the first three are "a" and a pair.
-fn is_grown<'a>(alloc: Global, heap: Lent<'a>, text: &UnitText<Lent<'a>>) -> bool {
-    heap.grant(9);
-    let Ok(front) = slice_of(heap, text, 0, 3) else {
-        return false;
-    };
-    text.unit_len() == 102 && has_bytes(alloc, front.as_wtf8(), "61 F0 9F 92 A9")
-}
-
 /// Whether the text has the 102 units of both texts if `is_granted`, and is unchanged if not.
 fn is_left<'a>(alloc: Global, heap: Lent<'a>, text: &UnitText<Lent<'a>>, is_granted: bool) -> bool {
-    if is_granted {
-        return is_grown(alloc, heap, text);
+    if !is_granted {
+        return text.unit_len() == 2 && has_bytes(alloc, text.as_wtf8(), "61 ED A0 BD");
     }
-    text.unit_len() == 2 && has_bytes(alloc, text.as_wtf8(), "61 ED A0 BD")
+    heap.grant(9);
+    match slice_of(heap, text, 0, 3) {
+        Ok(front) => {
+            text.unit_len() == 102 && has_bytes(alloc, front.as_wtf8(), "61 F0 9F 92 A9")
+        }
+        Err(_) => false,
+    }
 }
 
 /// Appends 100 trail surrogates to "a" and a lead with `granted` requests granted. Whether these are enough just if
@@ -299,14 +287,16 @@ fn is_right_end(alloc: Global, refused: (u64, Refusal), is_granted: bool) -> boo
     is_appended(&heap, &mut text, refused, is_granted) && is_left(alloc, &heap, &text, is_granted)
 }
 
+/// Whether `is_right_end` holds if all following requests are refused, and if the next one alone is.
+fn is_right_each_end(alloc: Global, granted: u64, is_granted: bool) -> bool {
+    is_right_end(alloc, (granted, Refusal::ForGood), is_granted)
+        && is_right_end(alloc, (granted, Refusal::Once), is_granted)
+}
+
 #[test]
 fn a_refused_text_is_not_appended(rt: HostRuntime) {
-    for (granted, is_granted) in [(0, false), (1, true), (9, true)] {
-        for refusal in REFUSALS {
-            assert!(rt;
-                is_right_end(rt.alloc(), (granted, refusal), is_granted),
-                "{granted} granted"
-            );
-        }
-    }
+    let alloc = rt.alloc();
+    let is_refused = is_right_each_end(alloc, 0, false);
+    let is_granted = is_right_each_end(alloc, 1, true) && is_right_each_end(alloc, 9, true);
+    assert!(rt; is_refused && is_granted);
 }

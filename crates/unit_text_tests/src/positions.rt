@@ -132,25 +132,20 @@ fn a_long_text_has_positions_by_its_marks(rt: HostRuntime) {
 }
 
 /// Whether the text of `UNITS` has their positions, and its first two units once it is cut to them, without a request.
-fn is_unasked<A: Allocator>(heap: Lent<'_>, text: &mut UnitText<A>) -> bool {
+fn is_unasked(heap: Lent<'_>) -> bool {
+    let Ok(mut text) = UnitText::from_units(heap, &UNITS) else {
+        return false;
+    };
     heap.grant(0);
-    if text.unit_len() != 5 || !is_mapped(text) {
+    if text.unit_len() != 5 || !is_mapped(&text) {
         return false;
     }
     text.truncate_units(2);
-    heap.requests() == 0 && has_units(text, &[0x0061, 0xD83D])
-}
-
-/// Whether `is_unasked` holds of the text of `UNITS`.
-fn is_right_unasked(heap: Lent<'_>) -> bool {
-    match UnitText::from_units(heap, &UNITS) {
-        Ok(mut text) => is_unasked(heap, &mut text),
-        Err(_) => false,
-    }
+    heap.requests() == 0 && has_units(&text, &[0x0061, 0xD83D])
 }
 
 #[test]
 fn positions_and_shorter_texts_request_no_memory(rt: HostRuntime) {
     let heap = Refusing::new(rt.alloc(), u64::MAX);
-    assert!(rt; is_right_unasked(&heap));
+    assert!(rt; is_unasked(&heap));
 }

@@ -1,7 +1,7 @@
 // Texts, buffers and checks that several test modules use.
 use std::alloc::{AllocError, Allocator, Global};
 use unit_text::{IndexedBuf, UnitText};
-use wtf8::{CodePoint, Wtf8, Wtf8Buf};
+use wtf8::{CodePoint, IllFormedUtf16CodeUnits, Wtf8, Wtf8Buf};
 use wtf8_tests::wrong::expect_bytes;
 
 /// The slice from unit `begin` to before unit `end`. Fails if this is no range of the text's units.
@@ -80,6 +80,16 @@ pub fn has_buf<A: Allocator>(
     dump: &str,
 ) -> bool {
     buf_has_units(buf, units) && has_bytes(alloc, buf.as_wtf8(), dump)
+}
+
+/// Whether the iterator has these units left, and no more.
+pub fn has_units_left(mut left: IllFormedUtf16CodeUnits<'_>, units: &[u16]) -> bool {
+    for unit in units {
+        if left.next() != Some(*unit) {
+            return false;
+        }
+    }
+    left.next().is_none()
 }
 
 /// Appends units one by one.
