@@ -911,7 +911,7 @@ fn is_text_in_parts(alloc: Global, units: &[u16], dump: &str, cut: usize) -> boo
 /// Whether texts of each of these lists of units, pushed in two parts, wherever they are cut, have the units and bytes.
 fn are_texts_in_parts(alloc: Global) -> bool {
     for (units, dump) in texts() {
-        for cut in 0..=units.len() {
+        for cut in 0..units.len().saturating_add(1) {
             if !is_text_in_parts(alloc, units, dump, cut) {
                 return false;
             }
