@@ -1,72 +1,82 @@
 // Each call of a text on one example. Scripts compare the calls with a JavaScript engine's strings on many texts.
-use crate::shared::{expect_text, slice_of};
+use crate::shared::{has_bytes, has_text, slice_of};
 use std::alloc::{AllocError, Global};
 use std::cmp::Ordering;
 use std::collections::HashMap;
 use unit_text::UnitText;
 use wtf8::Wtf8Buf;
-use wtf8_tests::wrong::{Failed, Wrong, expect, expect_bytes, in_row, made};
 
 /// The units and bytes of "a", a surrogate pair, "é" and a lone lead surrogate.
 const UNITS: [u16; 5] = [0x0061, 0xD83D, 0xDCA9, 0x00E9, 0xD800];
 
 const DUMP: &str = "61 F0 9F 92 A9 C3 A9 ED A0 80";
 
-/// Appends the trail of the pair, then "é" and the lone lead.
-fn append_rest(alloc: Global, text: &mut UnitText<Global>) -> Result<(), AllocError> {
-    let trail = Wtf8Buf::from_ill_formed_utf16(alloc, &[0xDCA9])?;
-    text.push_wtf8(trail.as_wtf8())?;
-    text.push_str("é")?;
-    text.concat(&UnitText::from_units(alloc, &[0xD800])?)
+/// Whether the trail of the pair, then "é" and the lone lead can be appended.
+fn is_rest_appended(alloc: Global, text: &mut UnitText<Global>) -> bool {
+    let Ok(trail) = Wtf8Buf::from_ill_formed_utf16(alloc, &[0xDCA9]) else {
+        return false;
+    };
+    let Ok(lead) = UnitText::from_units(alloc, &[0xD800]) else {
+        return false;
+    };
+    text.push_wtf8(trail.as_wtf8()).is_ok()
+        && text.push_str("é").is_ok()
+        && text.concat(&lead).is_ok()
 }
 
-/// The text of `UNITS`, by each call that appends.
-fn appended(alloc: Global) -> Result<UnitText<Global>, AllocError> {
-    let mut text = UnitText::from_str(alloc, "a")?;
-    text.mark_units(alloc);
-    text.push(0xD83D)?;
-    append_rest(alloc, &mut text)?;
-    Ok(text)
-}
-
-#[test]
-fn each_call_that_appends_keeps_the_units_before(rt: HostRuntime) -> Result<(), Failed> {
-    let text = made(appended(rt.alloc()))?;
-    expect_text(rt.alloc(), &text, &UNITS, DUMP)?;
+/// Whether the text of `UNITS`, made again of its string, is the same.
+fn is_made_again(alloc: Global, text: UnitText<Global>) -> bool {
     let again = UnitText::from_wtf8(text.into_wtf8());
-    expect_text(rt.alloc(), &again, &UNITS, DUMP)
+    has_text(alloc, &again, &UNITS, DUMP)
 }
 
-/// Fails unless the slice from unit `begin` to before unit `end` has the bytes of `dump`, and occurs at `begin` and not
-/// at the index after it.
-fn expect_slice(
-    text: &UnitText<Global>,
-    alloc: Global,
-    begin: usize,
-    end: usize,
-    dump: &str,
-) -> Result<(), Failed> {
-    let slice = slice_of(alloc, text, begin, end)?;
-    let is_at_begin = text.starts_with_at(begin, &slice);
-    let is_after = text.starts_with_at(begin.saturating_add(1), &slice);
-    expect(is_at_begin && is_after == (begin == end), Wrong::Outcome)?;
-    expect_bytes(alloc, slice.as_wtf8(), dump)
+/// Whether the text of `UNITS`, by each call that appends, has these, and also if it is made again of its string.
+fn is_appended(alloc: Global) -> bool {
+    let Ok(mut text) = UnitText::from_str(alloc, "a") else {
+        return false;
+    };
+    text.mark_units(alloc);
+    text.push(0xD83D).is_ok()
+        && is_rest_appended(alloc, &mut text)
+        && has_text(alloc, &text, &UNITS, DUMP)
+        && is_made_again(alloc, text)
 }
 
 #[test]
-fn a_slice_that_divides_a_pair_has_its_half(rt: HostRuntime) -> Result<(), Failed> {
-    let text = made(UnitText::from_units(rt.alloc(), &UNITS))?;
-    let mut row = 0usize;
-    for (begin, end, dump) in [
-        (0, 2, "61 ED A0 BD"),
-        (2, 3, "ED B2 A9"),
-        (2, 2, ""),
-        (0, 5, DUMP),
-    ] {
-        in_row(row, expect_slice(&text, rt.alloc(), begin, end, dump))?;
-        row = row.wrapping_add(1);
+fn each_call_that_appends_keeps_the_units_before(rt: HostRuntime) {
+    assert!(rt; is_appended(rt.alloc()));
+}
+
+/// Whether the slice from unit `begin` to before unit `end` has the bytes of `dump`, and occurs at `begin` and not at
+/// the index after it.
+fn is_slice(alloc: Global, text: &UnitText<Global>, begin: usize, end: usize, dump: &str) -> bool {
+    let Ok(slice) = slice_of(alloc, text, begin, end) else {
+        return false;
+    };
+    text.starts_with_at(begin, &slice)
+        && text.starts_with_at(begin.saturating_add(1), &slice) == (begin == end)
+        && has_bytes(alloc, slice.as_wtf8(), dump)
+}
+
+/// Whether the text of `UNITS` has its slices, of which some have half of its pair.
+fn has_slices(alloc: Global, text: &UnitText<Global>) -> bool {
+    is_slice(alloc, text, 0, 2, "61 ED A0 BD")
+        && is_slice(alloc, text, 2, 3, "ED B2 A9")
+        && is_slice(alloc, text, 2, 2, "")
+        && is_slice(alloc, text, 0, 5, DUMP)
+}
+
+/// Whether a text can be made of `UNITS`, and has its slices.
+fn is_sliced(alloc: Global) -> bool {
+    match UnitText::from_units(alloc, &UNITS) {
+        Ok(text) => has_slices(alloc, &text),
+        Err(_) => false,
     }
-    Ok(())
+}
+
+#[test]
+fn a_slice_that_divides_a_pair_has_its_half(rt: HostRuntime) {
+    assert!(rt; is_sliced(rt.alloc()));
 }
 
 /// Whether the text of U+E000 is after that of U+10000 by units and before it by code points.
@@ -78,11 +88,16 @@ fn is_ordered(private: &UnitText<Global>, pair: &UnitText<Global>) -> bool {
         && private != pair
 }
 
+/// Whether `is_ordered` holds of the two texts.
+fn are_ordered(alloc: Global) -> Result<bool, AllocError> {
+    let private = UnitText::from_str(alloc, "\u{E000}")?;
+    let pair = UnitText::from_str(alloc, "\u{10000}")?;
+    Ok(is_ordered(&private, &pair))
+}
+
 #[test]
-fn the_order_of_units_is_not_that_of_code_points(rt: HostRuntime) -> Result<(), Failed> {
-    let private = made(UnitText::from_str(rt.alloc(), "\u{E000}"))?;
-    let pair = made(UnitText::from_str(rt.alloc(), "\u{10000}"))?;
-    expect(is_ordered(&private, &pair), Wrong::Outcome)
+fn the_order_of_units_is_not_that_of_code_points(rt: HostRuntime) {
+    assert!(rt; matches!(are_ordered(rt.alloc()), Ok(true)));
 }
 
 /// Whether a map with `UNITS` alone has the text of `units`.
@@ -94,8 +109,8 @@ fn is_key(alloc: Global, units: &[u16]) -> Result<bool, AllocError> {
 }
 
 #[test]
-fn a_map_has_a_text_by_its_units(rt: HostRuntime) -> Result<(), Failed> {
-    let has_units = made(is_key(rt.alloc(), &UNITS))?;
-    let has_other = made(is_key(rt.alloc(), &[0x0061]))?;
-    expect(has_units && !has_other, Wrong::Outcome)
+fn a_map_has_a_text_by_its_units(rt: HostRuntime) {
+    let alloc = rt.alloc();
+    let has_units = matches!(is_key(alloc, &UNITS), Ok(true));
+    assert!(rt; has_units && matches!(is_key(alloc, &[0x0061]), Ok(false)));
 }

@@ -1,11 +1,12 @@
 // Buffers that find their code units: short ones by tables, and long ones with marks and without.
-use crate::shared::{Push, buf_has_units, expect_buf, expect_text, push_to};
+use crate::shared::{
+    Push, buf_has_units, has_buf, has_bytes, has_text, has_units_left, push_each, push_to,
+};
 use std::alloc::{AllocError, Allocator, Global};
 use std::cmp::Ordering;
 use std::hash::{DefaultHasher, Hash, Hasher};
 use unit_text::{IndexedBuf, UnitText};
 use wtf8::{Wtf8, Wtf8Buf};
-use wtf8_tests::wrong::{Failed, Wrong, expect, expect_bytes, in_row, made};
 
 /// What a unit of an output is before a call writes to it.
 const UNWRITTEN: u16 = 0x1234;
@@ -27,26 +28,39 @@ fn are_unwritten(units: &[u16]) -> bool {
     true
 }
 
-/// Fails unless `copy_units` writes the units from index `begin` to before index `end` to the front of an output that
-/// has room for all units and one more, and leaves its rest.
-fn expect_copied<A: Allocator>(
+/// Whether `copy_units` writes the units from index `begin` to before index `end` to the front of `out`, whose units no
+/// call has written, and leaves its rest, which has more units than those from index `end` on.
+fn is_copied_to<A: Allocator>(
+    buf: &IndexedBuf<A>,
+    units: &[u16],
+    begin: usize,
+    end: usize,
+    out: &mut [u16],
+) -> bool {
+    if begin > end || end > buf.unit_len() || end > units.len() {
+        return false;
+    }
+    let n = end - begin;
+    if out.len() < n {
+        return false;
+    }
+    buf.copy_units(begin, end, out);
+    let (front, rest) = out.split_at(n);
+    rest.len() > units.len() - end && are_unwritten(rest) && front == &units[begin..end]
+}
+
+/// Whether `is_copied_to` holds of an output that has room for all units and one more.
+fn is_copied<A: Allocator>(
     alloc: Global,
     buf: &IndexedBuf<A>,
     units: &[u16],
     begin: usize,
     end: usize,
-) -> Result<(), Failed> {
-    if begin > end || end > buf.unit_len() || end > units.len() {
-        return Err(Failed::by(Wrong::Row));
+) -> bool {
+    match unwritten(alloc, units.len().saturating_add(1)) {
+        Ok(mut out) => is_copied_to(buf, units, begin, end, &mut out),
+        Err(_) => false,
     }
-    let mut out = made(unwritten(alloc, units.len().saturating_add(1)))?;
-    if out.len() < end - begin {
-        return Err(Failed::by(Wrong::Row));
-    }
-    buf.copy_units(begin, end, &mut out);
-    let (front, rest) = out.split_at(end - begin);
-    let is_kept = rest.len() > units.len() - end && are_unwritten(rest);
-    expect(is_kept && front == &units[begin..end], Wrong::Units)
 }
 
 /// Whether `slice_units` has the units from index `begin` to before index `end`.
@@ -62,48 +76,38 @@ fn has_slice<A: Allocator>(buf: &IndexedBuf<A>, units: &[u16], begin: usize, end
 
 /// Whether `units_from` has the units from index `begin` on.
 fn has_units_from<A: Allocator>(buf: &IndexedBuf<A>, units: &[u16], begin: usize) -> bool {
-    if begin > buf.unit_len() {
+    if begin > buf.unit_len() || begin > units.len() {
         return false;
     }
-    let mut left = buf.units_from(begin);
-    for at in begin..units.len() {
-        if left.next() != units.get(at).copied() {
-            return false;
-        }
-    }
-    left.next().is_none()
+    has_units_left(buf.units_from(begin), &units[begin..])
 }
 
-/// Fails unless the part from index `begin` to before index `end` is found by each call, if these are in order.
-fn expect_part<A: Allocator>(
+/// Whether the part from index `begin` to before index `end` is found by each call, if these are in order.
+fn has_part<A: Allocator>(
     alloc: Global,
     buf: &IndexedBuf<A>,
     units: &[u16],
     begin: usize,
     end: usize,
-) -> Result<(), Failed> {
+) -> bool {
     if begin > end {
-        return Ok(());
+        return true;
     }
-    expect(has_units_from(buf, units, begin), Wrong::Units)?;
-    expect(has_slice(buf, units, begin, end), Wrong::Units)?;
-    expect_copied(alloc, buf, units, begin, end)
+    has_units_from(buf, units, begin)
+        && has_slice(buf, units, begin, end)
+        && is_copied(alloc, buf, units, begin, end)
 }
 
-/// Fails unless the buffer has `units`, in whole and in each part, and the bytes of `dump`.
-fn expect_all<A: Allocator>(
-    alloc: Global,
-    buf: &IndexedBuf<A>,
-    units: &[u16],
-    dump: &str,
-) -> Result<(), Failed> {
-    expect_buf(alloc, buf, units, dump)?;
+/// Whether the buffer has `units`, in whole and in each part, and the bytes of `dump`.
+fn has_all<A: Allocator>(alloc: Global, buf: &IndexedBuf<A>, units: &[u16], dump: &str) -> bool {
     for end in 0..=units.len() {
         for begin in 0..=end {
-            expect_part(alloc, buf, units, begin, end)?;
+            if !has_part(alloc, buf, units, begin, end) {
+                return false;
+            }
         }
     }
-    Ok(())
+    has_buf(alloc, buf, units, dump)
 }
 
 /// Units and their bytes: of each length, in pairs, and lone.
@@ -132,9 +136,7 @@ fn texts() -> [(&'static [u16], &'static str); 11] {
 /// The buffer of the units, pushed one by one to an empty one.
 fn pushed_each(alloc: Global, units: &[u16]) -> Result<IndexedBuf<Global>, AllocError> {
     let mut buf = IndexedBuf::new(alloc);
-    for unit in units {
-        buf.push_unit(*unit)?;
-    }
+    push_each(&mut buf, units)?;
     Ok(buf)
 }
 
@@ -152,47 +154,64 @@ fn taken_over(alloc: Global, units: &[u16]) -> Result<IndexedBuf<Global>, AllocE
     Ok(IndexedBuf::from_buf(text))
 }
 
-/// Fails unless buffers grown in several ways have the units and the bytes.
-fn expect_grown(alloc: Global, units: &[u16], dump: &str) -> Result<(), Failed> {
-    let each = made(pushed_each(alloc, units))?;
-    expect_all(alloc, &each, units, dump)?;
-    let at_once = made(pushed_at_once(alloc, units))?;
-    expect(at_once.capacity() >= 40, Wrong::Outcome)?;
-    expect_all(alloc, &at_once, units, dump)
-}
-
-/// Fails unless a copy of the buffer and one that takes over the string of the units have the units and the bytes.
-fn expect_copies(
+/// Whether the buffer was made, has room for `capacity` bytes, and has the units and the bytes.
+fn is_all(
     alloc: Global,
-    buf: &IndexedBuf<Global>,
+    made: Result<IndexedBuf<Global>, AllocError>,
+    capacity: usize,
     units: &[u16],
     dump: &str,
-) -> Result<(), Failed> {
-    let copy = made(buf.clone())?;
-    expect_all(alloc, &copy, units, dump)?;
-    let over = made(taken_over(alloc, units))?;
-    expect_all(alloc, &over, units, dump)
+) -> bool {
+    match made {
+        Ok(buf) => buf.capacity() >= capacity && has_all(alloc, &buf, units, dump),
+        Err(_) => false,
+    }
 }
 
-/// Fails unless the buffer of the units has these and the bytes, without marks and with them, and its string the bytes.
-fn expect_made(alloc: Global, units: &[u16], dump: &str) -> Result<(), Failed> {
-    let mut buf = made(IndexedBuf::from_units(alloc, units))?;
-    expect_all(alloc, &buf, units, dump)?;
+/// Whether the buffer has the units and the bytes, without marks and with them, and its copy too.
+fn has_all_marked(alloc: Global, buf: &mut IndexedBuf<Global>, units: &[u16], dump: &str) -> bool {
+    let has_all_unmarked = has_all(alloc, buf, units, dump);
     buf.mark_units(alloc);
-    expect_all(alloc, &buf, units, dump)?;
-    expect_copies(alloc, &buf, units, dump)?;
-    expect_bytes(alloc, buf.into_buf().as_wtf8(), dump)
+    has_all_unmarked
+        && has_all(alloc, buf, units, dump)
+        && is_all(alloc, buf.clone(), 0, units, dump)
+}
+
+/// Whether the string of the buffer has the bytes.
+fn has_string(alloc: Global, buf: IndexedBuf<Global>, dump: &str) -> bool {
+    has_bytes(alloc, buf.into_buf().as_wtf8(), dump)
+}
+
+/// Whether the buffer of the units has these and the bytes, without marks and with them, and its string the bytes.
+fn is_made(alloc: Global, units: &[u16], dump: &str) -> bool {
+    let Ok(mut buf) = IndexedBuf::from_units(alloc, units) else {
+        return false;
+    };
+    let is_right = has_all_marked(alloc, &mut buf, units, dump);
+    has_string(alloc, buf, dump) && is_right
+}
+
+/// Whether buffers of the units that are made and grown in several ways have the units and the bytes.
+fn is_made_each_way(alloc: Global, units: &[u16], dump: &str) -> bool {
+    is_made(alloc, units, dump)
+        && is_all(alloc, taken_over(alloc, units), 0, units, dump)
+        && is_all(alloc, pushed_each(alloc, units), 0, units, dump)
+        && is_all(alloc, pushed_at_once(alloc, units), 40, units, dump)
+}
+
+/// Whether buffers of each of these lists of units have the units and the bytes.
+fn are_made(alloc: Global) -> bool {
+    for (units, dump) in texts() {
+        if !is_made_each_way(alloc, units, dump) {
+            return false;
+        }
+    }
+    true
 }
 
 #[test]
-fn a_buffer_has_the_units_that_it_is_made_of(rt: HostRuntime) -> Result<(), Failed> {
-    let mut row = 0usize;
-    for (units, dump) in texts() {
-        in_row(row, expect_made(rt.alloc(), units, dump))?;
-        in_row(row, expect_grown(rt.alloc(), units, dump))?;
-        row = row.wrapping_add(1);
-    }
-    Ok(())
+fn a_buffer_has_the_units_that_it_is_made_of(rt: HostRuntime) {
+    assert!(rt; are_made(rt.alloc()));
 }
 
 /// A call that appends to the buffer of the units `front`, and the units and bytes after it.
@@ -326,31 +345,30 @@ fn pushes() -> [Row; 19] {
     ]
 }
 
-/// Fails unless the row's call appends its units, with marks kept or without.
-fn expect_push(alloc: Global, row: Row, is_marked: bool) -> Result<(), Failed> {
-    let Row {
-        front,
-        push,
-        units,
-        dump,
-    } = row;
-    let mut buf = made(IndexedBuf::from_units(alloc, front))?;
+/// Whether the row's call appends its units, with marks kept or without.
+fn is_pushed(alloc: Global, row: &Row, is_marked: bool) -> bool {
+    let Ok(mut buf) = IndexedBuf::from_units(alloc, row.front) else {
+        return false;
+    };
     if is_marked {
         buf.mark_units(alloc);
     }
-    made(push_to(alloc, &mut buf, push))?;
-    expect_all(alloc, &buf, units, dump)
+    push_to(alloc, &mut buf, row.push).is_ok() && has_all(alloc, &buf, row.units, row.dump)
+}
+
+/// Whether each row's call appends its units, with marks kept and without.
+fn are_pushed(alloc: Global) -> bool {
+    for row in &pushes() {
+        if !is_pushed(alloc, row, false) || !is_pushed(alloc, row, true) {
+            return false;
+        }
+    }
+    true
 }
 
 #[test]
-fn each_call_that_pushes_appends_its_units(rt: HostRuntime) -> Result<(), Failed> {
-    let mut index = 0usize;
-    for row in pushes() {
-        in_row(index, expect_push(rt.alloc(), row, false))?;
-        in_row(index, expect_push(rt.alloc(), row, true))?;
-        index = index.wrapping_add(1);
-    }
-    Ok(())
+fn each_call_that_pushes_appends_its_units(rt: HostRuntime) {
+    assert!(rt; are_pushed(rt.alloc()));
 }
 
 /// Lists of units in the order of their code points, which is that of their bytes: a pair is after U+FFFF.
@@ -384,29 +402,38 @@ fn are_ordered(buf: &IndexedBuf<Global>, other: &IndexedBuf<Global>, order: Orde
         && (!is_equal || hash_of(buf) == hash_of(other))
 }
 
-/// Fails unless the buffers of the units compare as the order of their numbers does.
-fn expect_order(
+/// Whether the buffers of the units compare as `order` says.
+fn is_order(
     alloc: Global,
-    (units, number): (&[u16], usize),
-    (others, other_number): (&[u16], usize),
-) -> Result<(), Failed> {
-    let buf = made(IndexedBuf::from_units(alloc, units))?;
-    let other = made(pushed_each(alloc, others))?;
-    let order = number.cmp(&other_number);
-    expect(are_ordered(&buf, &other, order), Wrong::Outcome)
+    units: &[u16],
+    others: &[u16],
+    order: Ordering,
+) -> Result<bool, AllocError> {
+    let buf = IndexedBuf::from_units(alloc, units)?;
+    let other = pushed_each(alloc, others)?;
+    Ok(are_ordered(&buf, &other, order))
+}
+
+/// Whether the buffer of the units, which have this number in the list, compares with all others as the number does.
+fn is_ordered(alloc: Global, units: &[u16], number: usize) -> bool {
+    let mut other_number = 0usize;
+    for others in ordered() {
+        let order = number.cmp(&other_number);
+        if !matches!(is_order(alloc, units, others, order), Ok(true)) {
+            return false;
+        }
+        other_number = other_number.wrapping_add(1);
+    }
+    true
 }
 
 #[test]
-fn buffers_compare_by_code_points(rt: HostRuntime) -> Result<(), Failed> {
-    for (number, units) in ordered().iter().enumerate() {
-        for (other_number, others) in ordered().iter().enumerate() {
-            in_row(
-                number,
-                expect_order(rt.alloc(), (units, number), (others, other_number)),
-            )?;
-        }
+fn buffers_compare_by_code_points(rt: HostRuntime) {
+    let mut number = 0usize;
+    for units in ordered() {
+        assert!(rt; is_ordered(rt.alloc(), units, number), "list {number}");
+        number = number.wrapping_add(1);
     }
-    Ok(())
 }
 
 /// The byte positions of the indexes from 0 to 5 of "a", a pair, "é" and a lone lead, whose bytes are 61, F0 9F 92 A9,
@@ -418,26 +445,37 @@ const BEFORE: [usize; 12] = [0, 1, 1, 1, 1, 3, 3, 4, 4, 4, 5, 5];
 
 /// Whether the buffer has the positions of `POSITIONS` and `BEFORE`.
 fn is_mapped<A: Allocator>(buf: &IndexedBuf<A>) -> bool {
-    for (i, position) in POSITIONS.iter().enumerate() {
-        if i > buf.unit_len() || buf.position_at(i) != *position {
+    let mut i = 0usize;
+    for position in POSITIONS {
+        if i > buf.unit_len() || buf.position_at(i) != position {
             return false;
         }
+        i = i.wrapping_add(1);
     }
-    for (position, units) in BEFORE.iter().enumerate() {
-        if buf.unit_before(position) != *units {
+    let mut position = 0usize;
+    for units in BEFORE {
+        if buf.unit_before(position) != units {
             return false;
         }
+        position = position.wrapping_add(1);
     }
     buf.unit_before(usize::MAX) == 5
 }
 
+/// Whether the buffer has the positions, without marks and with them.
+fn is_mapped_each_way(alloc: Global) -> bool {
+    let Ok(mut buf) = IndexedBuf::from_units(alloc, &[0x0061, 0xD83D, 0xDCA9, 0x00E9, 0xD800])
+    else {
+        return false;
+    };
+    let is_mapped_unmarked = is_mapped(&buf);
+    buf.mark_units(alloc);
+    is_mapped_unmarked && is_mapped(&buf)
+}
+
 #[test]
-fn positions_of_a_buffer_are_rounded_down(rt: HostRuntime) -> Result<(), Failed> {
-    let units = [0x0061, 0xD83D, 0xDCA9, 0x00E9, 0xD800];
-    let mut buf = made(IndexedBuf::from_units(rt.alloc(), &units))?;
-    expect(is_mapped(&buf), Wrong::Outcome)?;
-    buf.mark_units(rt.alloc());
-    expect(is_mapped(&buf), Wrong::Outcome)
+fn positions_of_a_buffer_are_rounded_down(rt: HostRuntime) {
+    assert!(rt; is_mapped_each_way(rt.alloc()));
 }
 
 #[test]
@@ -533,135 +571,126 @@ fn has_positions<A: Allocator>(buf: &IndexedBuf<A>, kind: Kind) -> bool {
     true
 }
 
-/// Fails unless the buffer has the units of its kind, by each call.
-fn expect_long<A: Allocator>(
-    alloc: Global,
-    buf: &IndexedBuf<A>,
-    units: &[u16],
-    kind: Kind,
-) -> Result<(), Failed> {
-    expect(buf_has_units(buf, units), Wrong::Units)?;
-    expect(has_positions(buf, kind), Wrong::Outcome)?;
+/// Whether the buffer has the units of its kind, by each call.
+fn has_long<A: Allocator>(alloc: Global, buf: &IndexedBuf<A>, units: &[u16], kind: Kind) -> bool {
     for end in indexes() {
         for begin in indexes() {
-            in_row(end, expect_part(alloc, buf, units, begin, end))?;
+            if !has_part(alloc, buf, units, begin, end) {
+                return false;
+            }
         }
     }
-    Ok(())
+    buf_has_units(buf, units) && has_positions(buf, kind)
 }
 
-/// The buffer of a string, pushed at once to an empty one with marks kept.
-fn pushed_view(alloc: Global, text: Wtf8<'_>) -> Result<IndexedBuf<Global>, AllocError> {
+/// Whether the buffer was made and has the units of its kind.
+fn is_long(
+    alloc: Global,
+    made: Result<IndexedBuf<Global>, AllocError>,
+    units: &[u16],
+    kind: Kind,
+) -> bool {
+    match made {
+        Ok(buf) => has_long(alloc, &buf, units, kind),
+        Err(_) => false,
+    }
+}
+
+/// Appends a string, as a text if `is_str`. Fails if it is then no text.
+fn push_string(
+    buf: &mut IndexedBuf<Global>,
+    text: Wtf8<'_>,
+    is_str: bool,
+) -> Result<(), AllocError> {
+    if !is_str {
+        return buf.push_wtf8(text);
+    }
+    match text.as_str() {
+        Some(value) => buf.push_str(value),
+        None => Err(AllocError),
+    }
+}
+
+/// The buffer of a string, pushed at once to an empty one with marks kept, as a text if `is_str`.
+fn pushed_string(
+    alloc: Global,
+    text: Wtf8<'_>,
+    is_str: bool,
+) -> Result<IndexedBuf<Global>, AllocError> {
     let mut buf = IndexedBuf::new(alloc);
     buf.mark_units(alloc);
-    buf.push_wtf8(text)?;
+    push_string(&mut buf, text, is_str)?;
     Ok(buf)
 }
 
-/// The buffer of a text, pushed at once to an empty one with marks kept.
-fn pushed_str(alloc: Global, text: &str) -> Result<IndexedBuf<Global>, AllocError> {
-    let mut buf = IndexedBuf::new(alloc);
+/// Whether a buffer with marks has the units of its kind after these are pushed as one string and as one text.
+fn is_pushed_string(alloc: Global, units: &[u16], kind: Kind) -> bool {
+    let Ok(text) = Wtf8Buf::from_ill_formed_utf16(alloc, units) else {
+        return false;
+    };
+    is_long(
+        alloc,
+        pushed_string(alloc, text.as_wtf8(), false),
+        units,
+        kind,
+    ) && is_long(
+        alloc,
+        pushed_string(alloc, text.as_wtf8(), true),
+        units,
+        kind,
+    )
+}
+
+/// Whether the buffer was made and has the units of its kind, without marks or with those that it keeps, then with
+/// marks, and its copies too.
+fn is_long_again(
+    alloc: Global,
+    made: Result<IndexedBuf<Global>, AllocError>,
+    units: &[u16],
+    kind: Kind,
+) -> bool {
+    let Ok(mut buf) = made else {
+        return false;
+    };
+    let is_right = has_long(alloc, &buf, units, kind) && is_long(alloc, buf.clone(), units, kind);
     buf.mark_units(alloc);
-    buf.push_str(text)?;
-    Ok(buf)
+    is_right && has_long(alloc, &buf, units, kind)
 }
 
-/// Fails unless a buffer with marks has the units of its kind after these are pushed as one string.
-fn expect_pushed_view(
-    alloc: Global,
-    text: Wtf8<'_>,
-    units: &[u16],
-    kind: Kind,
-) -> Result<(), Failed> {
-    let buf = made(pushed_view(alloc, text))?;
-    expect_long(alloc, &buf, units, kind)
+/// Whether a buffer to which the units were pushed one by one, and one to which they were pushed at once, have these.
+fn is_long_each_way(alloc: Global, units: &[u16], kind: Kind) -> bool {
+    is_long_again(alloc, pushed_each(alloc, units), units, kind)
+        && is_long_again(alloc, pushed_at_once(alloc, units), units, kind)
 }
 
-/// Fails unless a buffer with marks has the units of its kind after these are pushed as one text.
-fn expect_pushed_str(
-    alloc: Global,
-    text: Wtf8<'_>,
-    units: &[u16],
-    kind: Kind,
-) -> Result<(), Failed> {
-    let value = text.as_str().ok_or(Failed::by(Wrong::Outcome))?;
-    let buf = made(pushed_str(alloc, value))?;
-    expect_long(alloc, &buf, units, kind)
-}
-
-/// Fails unless a buffer with marks has the units of its kind after these are pushed as one string and as one text.
-fn expect_pushed_string(alloc: Global, units: &[u16], kind: Kind) -> Result<(), Failed> {
-    let text = made(Wtf8Buf::from_ill_formed_utf16(alloc, units))?;
-    expect_pushed_view(alloc, text.as_wtf8(), units, kind)?;
-    expect_pushed_str(alloc, text.as_wtf8(), units, kind)
-}
-
-#[test]
-fn a_buffer_has_marks_of_a_string_pushed_at_once(rt: HostRuntime) -> Result<(), Failed> {
-    for kind in KINDS {
-        let units = made(long_units(rt.alloc(), kind))?;
-        expect_pushed_string(rt.alloc(), &units, kind)?;
-    }
-    Ok(())
-}
-
-/// Fails unless a buffer to which the units were pushed one by one has these, without marks and with them.
-fn expect_long_each(alloc: Global, units: &[u16], kind: Kind) -> Result<(), Failed> {
-    let mut buf = made(pushed_each(alloc, units))?;
-    expect_long(alloc, &buf, units, kind)?;
-    buf.mark_units(alloc);
-    expect_long(alloc, &buf, units, kind)
-}
-
-/// Fails unless a copy of the buffer has the units.
-fn expect_long_copy(
-    alloc: Global,
-    buf: &IndexedBuf<Global>,
-    units: &[u16],
-    kind: Kind,
-) -> Result<(), Failed> {
-    let copy = made(buf.clone())?;
-    expect_long(alloc, &copy, units, kind)
-}
-
-/// Fails unless a buffer grown with marks, to which the units were pushed at once, has these, and its copy too.
-fn expect_long_at_once(alloc: Global, units: &[u16], kind: Kind) -> Result<(), Failed> {
-    let buf = made(pushed_at_once(alloc, units))?;
-    expect_long(alloc, &buf, units, kind)?;
-    expect_long_copy(alloc, &buf, units, kind)
-}
-
-/// Fails unless a long buffer of the kind has its units without marks, with them, and if it is grown with them.
-fn expect_kind(alloc: Global, kind: Kind) -> Result<(), Failed> {
-    let units = made(long_units(alloc, kind))?;
-    expect_long_each(alloc, &units, kind)?;
-    expect_long_at_once(alloc, &units, kind)
-}
-
-#[test]
-fn a_long_buffer_finds_its_units(rt: HostRuntime) -> Result<(), Failed> {
-    for kind in KINDS {
-        expect_kind(rt.alloc(), kind)?;
-    }
-    Ok(())
-}
-
-/// Cuts a buffer to its first `n` units. Fails unless it has these alone, and all again once the others are pushed.
-fn expect_cut<A: Allocator>(
+/// Whether a buffer that was cut to its first `n` units has these alone, and all again once the others are pushed.
+fn is_regrown<A: Allocator>(
     alloc: Global,
     buf: &mut IndexedBuf<A>,
-    (units, kind): (&[u16], Kind),
+    units: &[u16],
+    kind: Kind,
     n: usize,
-) -> Result<(), Failed> {
+) -> bool {
     let (front, back) = units.split_at(n.min(units.len()));
-    if buf.unit_len() < front.len() {
-        return Err(Failed::by(Wrong::Row));
+    buf_has_units(buf, front)
+        && has_units_from(buf, front, n / 2)
+        && buf.push_units(back).is_ok()
+        && has_long(alloc, buf, units, kind)
+}
+
+/// Cuts a buffer to its first `n` units. Whether it has these alone, and all again once the others are pushed.
+fn is_cut<A: Allocator>(
+    alloc: Global,
+    buf: &mut IndexedBuf<A>,
+    units: &[u16],
+    kind: Kind,
+    n: usize,
+) -> bool {
+    if buf.unit_len() < n {
+        return false;
     }
-    buf.truncate_units(front.len());
-    expect(buf_has_units(buf, front), Wrong::Units)?;
-    expect(has_units_from(buf, front, n / 2), Wrong::Units)?;
-    made(buf.push_units(back))?;
-    expect_long(alloc, buf, units, kind)
+    buf.truncate_units(n);
+    is_regrown(alloc, buf, units, kind, n)
 }
 
 /// Indexes about 128 before the end of a long buffer, and near its end. A pair is split by each even one.
@@ -669,158 +698,182 @@ fn last_indexes() -> [usize; 6] {
     [172, 173, 174, 298, 299, 300]
 }
 
-/// Cuts a buffer to its first `n` units, pushes the others, and cuts it at its end. Fails unless it has each time the
-/// units that it should.
-fn expect_cut_near_end<A: Allocator>(
+/// Whether a buffer has its units and position from index `i` on, and if it is cut there.
+fn is_right_from<A: Allocator>(
+    alloc: Global,
     buf: &mut IndexedBuf<A>,
     units: &[u16],
-    n: usize,
-) -> Result<(), Failed> {
-    let (front, back) = units.split_at(n.min(units.len()));
-    if buf.unit_len() < front.len() {
-        return Err(Failed::by(Wrong::Row));
-    }
-    buf.truncate_units(front.len());
-    expect(buf_has_units(buf, front), Wrong::Units)?;
-    made(buf.push_units(back))?;
-    expect(buf_has_units(buf, units), Wrong::Units)
-}
-
-/// Fails unless a buffer has its units and position from index `i` on, and if it is cut there.
-fn expect_from<A: Allocator>(
-    alloc: Global,
-    buf: &mut IndexedBuf<A>,
-    (units, kind): (&[u16], Kind),
+    kind: Kind,
     i: usize,
-) -> Result<(), Failed> {
-    let is_found = i <= buf.unit_len() && buf.position_at(i) == position_of(kind, i);
-    expect(is_found, Wrong::Outcome)?;
-    expect_part(alloc, buf, units, i, LENGTH)?;
-    expect_cut_near_end(buf, units, i)
+) -> bool {
+    if i > buf.unit_len() || buf.position_at(i) != position_of(kind, i) {
+        return false;
+    }
+    has_part(alloc, buf, units, i, LENGTH) && is_cut(alloc, buf, units, kind, i)
 }
 
-/// Fails unless a long buffer without marks has its units and positions from each of `last_indexes` on, and if it is
-/// cut there.
-fn expect_end(alloc: Global, kind: Kind) -> Result<(), Failed> {
-    let units = made(long_units(alloc, kind))?;
-    let mut buf = made(IndexedBuf::from_units(alloc, &units))?;
+/// Whether a long buffer without marks has its units and positions from each of `last_indexes` on, and if it is cut
+/// there.
+fn is_right_at_end(alloc: Global, units: &[u16], kind: Kind) -> bool {
+    let Ok(mut buf) = IndexedBuf::from_units(alloc, units) else {
+        return false;
+    };
     for i in last_indexes() {
-        in_row(i, expect_from(alloc, &mut buf, (&units, kind), i))?;
+        if !is_right_from(alloc, &mut buf, units, kind, i) {
+            return false;
+        }
     }
-    Ok(())
+    true
 }
 
-#[test]
-fn the_last_units_of_a_buffer_without_marks_are_found(rt: HostRuntime) -> Result<(), Failed> {
-    for kind in KINDS {
-        expect_end(rt.alloc(), kind)?;
-    }
-    Ok(())
-}
-
-/// Cuts a buffer at the byte position of index `n`, or of its pair. Fails unless it has the units before alone, and all
-/// again once the others are pushed.
-fn expect_cut_at_position<A: Allocator>(
+/// Cuts a buffer at the byte position of index `n`, or of its pair. Whether it has the units before alone, and all again
+/// once the others are pushed.
+fn is_cut_at_position<A: Allocator>(
     alloc: Global,
     buf: &mut IndexedBuf<A>,
-    (units, kind): (&[u16], Kind),
+    units: &[u16],
+    kind: Kind,
     n: usize,
-) -> Result<(), Failed> {
+) -> bool {
     let position = position_of(kind, n);
-    let kept = units_before(kind, position).min(units.len());
-    let (front, back) = units.split_at(kept);
     if !buf.as_wtf8().is_code_point_boundary(position) {
-        return Err(Failed::by(Wrong::Outcome));
+        return false;
     }
     buf.truncate(position);
-    expect(buf_has_units(buf, front), Wrong::Units)?;
-    expect(has_units_from(buf, front, kept / 2), Wrong::Units)?;
-    made(buf.push_units(back))?;
-    expect_long(alloc, buf, units, kind)
+    is_regrown(alloc, buf, units, kind, units_before(kind, position))
 }
 
-/// Empties a buffer. Fails unless it is empty, with the same capacity, and has the units again once they are pushed.
-fn expect_cleared<A: Allocator>(
+/// Empties a buffer. Whether it is empty, with the same capacity, and has the units again once they are pushed.
+fn is_cleared<A: Allocator>(
     alloc: Global,
     buf: &mut IndexedBuf<A>,
     units: &[u16],
     kind: Kind,
-) -> Result<(), Failed> {
+) -> bool {
     let capacity = buf.capacity();
     buf.clear();
-    expect_buf(alloc, buf, &[], "")?;
-    expect(buf.capacity() == capacity, Wrong::Outcome)?;
-    for unit in units {
-        made(buf.push_unit(*unit))?;
-    }
-    expect_long(alloc, buf, units, kind)
+    has_buf(alloc, buf, &[], "")
+        && buf.capacity() == capacity
+        && push_each(buf, units).is_ok()
+        && has_long(alloc, buf, units, kind)
 }
 
-/// Fails unless a long buffer, cut at each of `indexes` or emptied, has its units again once they are pushed.
-fn expect_shortened(alloc: Global, kind: Kind, is_marked: bool) -> Result<(), Failed> {
-    let units = made(long_units(alloc, kind))?;
-    let mut buf = made(IndexedBuf::from_units(alloc, &units))?;
-    if is_marked {
-        buf.mark_units(alloc);
-    }
-    for n in indexes() {
-        in_row(n, expect_cut(alloc, &mut buf, (&units, kind), n))?;
-        in_row(
-            n,
-            expect_cut_at_position(alloc, &mut buf, (&units, kind), n),
-        )?;
-    }
-    expect_cleared(alloc, &mut buf, &units, kind)
-}
-
-#[test]
-fn a_buffer_that_became_shorter_grows_again(rt: HostRuntime) -> Result<(), Failed> {
-    for kind in KINDS {
-        expect_shortened(rt.alloc(), kind, false)?;
-        expect_shortened(rt.alloc(), kind, true)?;
-    }
-    Ok(())
-}
-
-/// Releases the spare capacity of a buffer. Fails unless none is left, and the buffer has its units.
-fn expect_shrunk(
+/// Whether a long buffer, cut at each of `indexes` or emptied, has its units again once they are pushed.
+fn is_shortened<A: Allocator>(
     alloc: Global,
-    mut buf: IndexedBuf<Global>,
+    buf: &mut IndexedBuf<A>,
     units: &[u16],
     kind: Kind,
-) -> Result<(), Failed> {
-    buf.shrink_to_fit();
-    expect(buf.capacity() == buf.as_wtf8().len(), Wrong::Outcome)?;
-    expect_long(alloc, &buf, units, kind)
+) -> bool {
+    for n in indexes() {
+        if !is_cut(alloc, buf, units, kind, n) || !is_cut_at_position(alloc, buf, units, kind, n) {
+            return false;
+        }
+    }
+    is_cleared(alloc, buf, units, kind)
 }
 
-/// Fails unless long buffers with spare capacity, without marks and with them, have their units without it.
-fn expect_kind_shrunk(alloc: Global, kind: Kind) -> Result<(), Failed> {
-    let units = made(long_units(alloc, kind))?;
-    expect_shrunk(alloc, made(pushed_each(alloc, &units))?, &units, kind)?;
-    expect_shrunk(alloc, made(pushed_at_once(alloc, &units))?, &units, kind)
+/// Whether `is_shortened` holds without marks, and with them.
+fn is_shortened_each_way(alloc: Global, units: &[u16], kind: Kind) -> bool {
+    for is_marked in [false, true] {
+        let Ok(mut buf) = IndexedBuf::from_units(alloc, units) else {
+            return false;
+        };
+        if is_marked {
+            buf.mark_units(alloc);
+        }
+        if !is_shortened(alloc, &mut buf, units, kind) {
+            return false;
+        }
+    }
+    true
+}
+
+/// Releases the spare capacity of a buffer. Whether it was made, none is left, and the buffer has its units.
+fn is_shrunk(
+    alloc: Global,
+    made: Result<IndexedBuf<Global>, AllocError>,
+    units: &[u16],
+    kind: Kind,
+) -> bool {
+    let Ok(mut buf) = made else {
+        return false;
+    };
+    buf.shrink_to_fit();
+    buf.capacity() == buf.as_wtf8().len() && has_long(alloc, &buf, units, kind)
+}
+
+/// Whether long buffers with spare capacity, without marks and with them, have their units without it.
+fn is_shrunk_each_way(alloc: Global, units: &[u16], kind: Kind) -> bool {
+    is_shrunk(alloc, pushed_each(alloc, units), units, kind)
+        && is_shrunk(alloc, pushed_at_once(alloc, units), units, kind)
+}
+
+/// What is required of long buffers.
+#[derive(Clone, Copy)]
+enum Check {
+    Made,
+    PushedString,
+    End,
+    Shortened,
+    Shrunk,
+}
+
+/// Whether long buffers of the units do what `check` requires.
+fn is_checked(alloc: Global, units: &[u16], kind: Kind, check: Check) -> bool {
+    match check {
+        Check::Made => is_long_each_way(alloc, units, kind),
+        Check::PushedString => is_pushed_string(alloc, units, kind),
+        Check::End => is_right_at_end(alloc, units, kind),
+        Check::Shortened => is_shortened_each_way(alloc, units, kind),
+        Check::Shrunk => is_shrunk_each_way(alloc, units, kind),
+    }
+}
+
+/// Whether long buffers of each kind do what `check` requires.
+fn is_each_kind_checked(alloc: Global, check: Check) -> bool {
+    for kind in KINDS {
+        let Ok(units) = long_units(alloc, kind) else {
+            return false;
+        };
+        if !is_checked(alloc, &units, kind, check) {
+            return false;
+        }
+    }
+    true
 }
 
 #[test]
-fn a_buffer_without_spare_capacity_has_its_units(rt: HostRuntime) -> Result<(), Failed> {
-    for kind in KINDS {
-        expect_kind_shrunk(rt.alloc(), kind)?;
-    }
-    Ok(())
+fn a_buffer_has_marks_of_a_string_pushed_at_once(rt: HostRuntime) {
+    assert!(rt; is_each_kind_checked(rt.alloc(), Check::PushedString));
+}
+
+#[test]
+fn a_long_buffer_finds_its_units(rt: HostRuntime) {
+    assert!(rt; is_each_kind_checked(rt.alloc(), Check::Made));
+}
+
+#[test]
+fn the_last_units_of_a_buffer_without_marks_are_found(rt: HostRuntime) {
+    assert!(rt; is_each_kind_checked(rt.alloc(), Check::End));
+}
+
+#[test]
+fn a_buffer_that_became_shorter_grows_again(rt: HostRuntime) {
+    assert!(rt; is_each_kind_checked(rt.alloc(), Check::Shortened));
+}
+
+#[test]
+fn a_buffer_without_spare_capacity_has_its_units(rt: HostRuntime) {
+    assert!(rt; is_each_kind_checked(rt.alloc(), Check::Shrunk));
 }
 
 /// Whether the text has the units from index `begin` on, and no more.
 fn text_has_units_from(text: &UnitText<Global>, units: &[u16], begin: usize) -> bool {
-    if begin > text.unit_len() {
+    if begin > text.unit_len() || begin > units.len() {
         return false;
     }
-    let mut left = text.units_from(begin);
-    for at in begin..units.len() {
-        if left.next() != units.get(at).copied() {
-            return false;
-        }
-    }
-    left.next().is_none()
+    has_units_left(text.units_from(begin), &units[begin..])
 }
 
 /// An empty text to which units are pushed in two parts.
@@ -835,57 +888,45 @@ fn text_in_parts(
     Ok(text)
 }
 
-/// Fails unless a copy of the text equals it and has the units and bytes.
-fn expect_text_copied(
-    alloc: Global,
-    text: &UnitText<Global>,
-    units: &[u16],
-    dump: &str,
-) -> Result<(), Failed> {
-    let copy = made(text.clone())?;
-    expect(&copy == text, Wrong::Outcome)?;
-    expect_text(alloc, &copy, units, dump)
-}
-
-/// Fails unless the text has the units and bytes, also from index `cut` on, and its copy too.
-fn expect_text_and_copy(
-    alloc: Global,
-    text: &UnitText<Global>,
-    (units, dump): (&[u16], &str),
-    cut: usize,
-) -> Result<(), Failed> {
-    expect_text(alloc, text, units, dump)?;
-    expect(text_has_units_from(text, units, cut), Wrong::Units)?;
-    expect_text_copied(alloc, text, units, dump)
-}
-
-/// Fails unless a text pushed in two parts, cut after index `cut`, has the units and bytes, and its copy too.
-fn expect_text_in_parts(
-    alloc: Global,
-    units: &[u16],
-    dump: &str,
-    cut: usize,
-) -> Result<(), Failed> {
-    let (front, back) = units.split_at(cut.min(units.len()));
-    let text = made(text_in_parts(alloc, front, back))?;
-    expect_text_and_copy(alloc, &text, (units, dump), cut)
-}
-
-/// Fails unless a text pushed in two parts, wherever they are cut, has the units and bytes.
-fn expect_each_cut(alloc: Global, units: &[u16], dump: &str) -> Result<(), Failed> {
-    for cut in 0..=units.len() {
-        expect_text_in_parts(alloc, units, dump, cut)?;
+/// Whether a copy of the text equals it and has the units and bytes.
+fn is_text_copied(alloc: Global, text: &UnitText<Global>, units: &[u16], dump: &str) -> bool {
+    match text.clone() {
+        Ok(copy) => copy == *text && has_text(alloc, &copy, units, dump),
+        Err(_) => false,
     }
-    Ok(())
+}
+
+/// Whether a text pushed in two parts, cut after index `cut`, has the units and bytes, also from that index on, and its
+/// copy too.
+fn is_text_in_parts(alloc: Global, units: &[u16], dump: &str, cut: usize) -> bool {
+    let (front, back) = units.split_at(cut.min(units.len()));
+    let Ok(text) = text_in_parts(alloc, front, back) else {
+        return false;
+    };
+    has_text(alloc, &text, units, dump)
+        && text_has_units_from(&text, units, cut)
+        && is_text_copied(alloc, &text, units, dump)
+}
+
+/// Whether texts of each of these lists of units, pushed in two parts, wherever they are cut, have the units and bytes.
+fn are_texts_in_parts(alloc: Global) -> bool {
+    for (units, dump) in texts() {
+        for cut in 0..units.len().saturating_add(1) {
+            if !is_text_in_parts(alloc, units, dump, cut) {
+                return false;
+            }
+        }
+    }
+    true
+}
+
+/// Whether a new text has no units and no bytes.
+fn is_new_text_empty(alloc: Global) -> bool {
+    has_text(alloc, &UnitText::new(alloc), &[], "")
 }
 
 #[test]
-fn a_text_is_pushed_in_parts_and_copied(rt: HostRuntime) -> Result<(), Failed> {
-    expect_text(rt.alloc(), &UnitText::new(rt.alloc()), &[], "")?;
-    let mut row = 0usize;
-    for (units, dump) in texts() {
-        in_row(row, expect_each_cut(rt.alloc(), units, dump))?;
-        row = row.wrapping_add(1);
-    }
-    Ok(())
+fn a_text_is_pushed_in_parts_and_copied(rt: HostRuntime) {
+    let alloc = rt.alloc();
+    assert!(rt; is_new_text_empty(alloc) && are_texts_in_parts(alloc));
 }

@@ -1,9 +1,8 @@
 // Requests for memory of buffers that find their code units, each refused in turn.
-use crate::shared::{Push, buf_has_units, expect_buf, expect_text, push_to};
+use crate::shared::{Push, buf_has_units, has_buf, has_bytes, has_text, push_each, push_to};
 use refusing::{Lent, REFUSALS, Refusal, Refusing};
 use std::alloc::{AllocError, Allocator, Global};
 use unit_text::{IndexedBuf, UnitText};
-use wtf8_tests::wrong::{Failed, Wrong, expect, expect_bytes, in_row, made};
 
 /// "a" and a lone lead, and their four bytes.
 const FRONT: [u16; 2] = [0x0061, 0xD83D];
@@ -149,141 +148,150 @@ fn pushes() -> [Row; 16] {
     ]
 }
 
-/// Appends units one by one.
-fn push_each<A: Allocator>(buf: &mut IndexedBuf<A>, units: &[u16]) -> Result<(), AllocError> {
-    for unit in units {
-        buf.push_unit(*unit)?;
-    }
-    Ok(())
+/// The buffer of the units, made with room for `capacity` bytes.
+fn buf_of<A: Allocator + Drop>(
+    heap: A,
+    units: &[u16],
+    capacity: usize,
+) -> Result<IndexedBuf<A>, AllocError> {
+    let mut buf = IndexedBuf::with_capacity(heap, capacity)?;
+    push_each(&mut buf, units)?;
+    Ok(buf)
 }
 
 /// The buffer of `FRONT` with `spare` bytes of spare capacity.
 fn with_spare(heap: Lent<'_>, spare: usize) -> Result<IndexedBuf<Lent<'_>>, AllocError> {
     heap.grant(1);
-    let mut buf = IndexedBuf::with_capacity(heap, spare.saturating_add(4))?;
-    push_each(&mut buf, &FRONT)?;
-    Ok(buf)
+    buf_of(heap, &FRONT, spare.saturating_add(4))
 }
 
-/// Fails unless the buffer has the units and bytes of `FRONT`.
-fn expect_front<A: Allocator>(alloc: Global, buf: &IndexedBuf<A>) -> Result<(), Failed> {
-    expect_buf(alloc, buf, &FRONT, FRONT_DUMP)
+/// Whether the buffer has the units and bytes of `FRONT`.
+fn has_front<A: Allocator>(alloc: Global, buf: &IndexedBuf<A>) -> bool {
+    has_buf(alloc, buf, &FRONT, FRONT_DUMP)
 }
 
-/// Makes the row's call with `spare` bytes of spare capacity and every request of `heap` refused. Fails unless it
-/// appends its units without a request if their bytes fit, and else changes nothing.
-fn expect_fitting<A: Allocator>(
+/// Whether the buffer has the units and bytes after the row's call if `is_pushed`, and else those of `FRONT`.
+fn has_row<A: Allocator>(alloc: Global, buf: &IndexedBuf<A>, row: &Row, is_pushed: bool) -> bool {
+    if is_pushed {
+        return has_buf(alloc, buf, row.units, row.dump);
+    }
+    has_front(alloc, buf)
+}
+
+/// Makes the row's call. Whether it succeeds just if `is_pushed`, makes these requests of `heap`, and changes nothing if
+/// it fails.
+fn is_right<A: Allocator>(
     alloc: Global,
     heap: Lent<'_>,
     buf: &mut IndexedBuf<A>,
-    row: Row,
-    spare: usize,
-) -> Result<(), Failed> {
-    let is_pushed = push_to(alloc, buf, row.push).is_ok();
-    expect(is_pushed == (row.growth <= spare), Wrong::Outcome)?;
-    expect((heap.requests() == 0) == is_pushed, Wrong::Requests)?;
-    if is_pushed {
-        return expect_buf(alloc, buf, row.units, row.dump);
-    }
-    expect_front(alloc, buf)
+    row: &Row,
+    (is_pushed, requests): (bool, u64),
+) -> bool {
+    push_to(alloc, buf, row.push).is_ok() == is_pushed
+        && heap.requests() == requests
+        && has_row(alloc, buf, row, is_pushed)
 }
 
-/// Fails unless the row's call does what `expect_fitting` requires of the buffer of `FRONT`, with marks or without.
-fn expect_in_room(
-    alloc: Global,
-    heap: Lent<'_>,
-    row: Row,
+/// How the buffer of `FRONT` is made to which a row's call appends, and which of the call's requests are refused.
+#[derive(Clone, Copy)]
+struct Setup {
     spare: usize,
     is_marked: bool,
-) -> Result<(), Failed> {
-    let mut buf = made(with_spare(heap, spare))?;
-    if is_marked {
+    granted: u64,
+    refusal: Refusal,
+}
+
+/// Whether the row's call does what `is_right` requires.
+fn is_right_after(
+    alloc: Global,
+    heap: Lent<'_>,
+    row: &Row,
+    setup: Setup,
+    outcome: (bool, u64),
+) -> bool {
+    let Ok(mut buf) = with_spare(heap, setup.spare) else {
+        return false;
+    };
+    if setup.is_marked {
         buf.mark_units(heap);
     }
-    heap.grant(0);
-    expect_fitting(alloc, heap, &mut buf, row, spare)
+    heap.refuse_after(setup.granted, setup.refusal);
+    is_right(alloc, heap, &mut buf, row, outcome)
 }
 
-/// Fails unless the row's call does what `expect_in_room` requires at each spare capacity, up to one byte more than it
-/// needs.
-fn expect_in_each_room(alloc: Global, heap: Lent<'_>, row: Row) -> Result<(), Failed> {
-    let growth = row.growth;
-    for spare in 0..=growth.saturating_add(1) {
-        expect_in_room(alloc, heap, row, spare, false)?;
-        expect_in_room(alloc, heap, row, spare, true)?;
-    }
-    Ok(())
-}
-
-#[test]
-fn a_push_makes_no_request_just_if_it_fits(rt: HostRuntime) -> Result<(), Failed> {
-    let heap = Refusing::new(rt.alloc(), 0);
-    let mut index = 0usize;
-    for row in pushes() {
-        in_row(index, expect_in_each_room(rt.alloc(), &heap, row))?;
-        index = index.wrapping_add(1);
-    }
-    Ok(())
-}
-
-/// Grants `granted` requests and refuses the next one. Fails unless the call fails there and changes nothing.
-fn expect_refused(
+/// Whether the row's call, with `spare` bytes of spare capacity and every request refused, appends its units without a
+/// request if their bytes fit, and else changes nothing.
+fn is_right_in_room(
     alloc: Global,
     heap: Lent<'_>,
-    push: Push,
-    (granted, refusal): (u64, Refusal),
-) -> Result<(), Failed> {
-    let mut buf = made(with_spare(heap, 0))?;
-    heap.refuse_after(granted, refusal);
-    let is_pushed = push_to(alloc, &mut buf, push).is_ok();
-    let is_asked = heap.requests() == granted.wrapping_add(1);
-    expect(!is_pushed && is_asked, Wrong::Requests)?;
-    expect_front(alloc, &buf)
+    row: &Row,
+    spare: usize,
+    is_marked: bool,
+) -> bool {
+    let is_pushed = row.growth <= spare;
+    let setup = Setup {
+        spare,
+        is_marked,
+        granted: 0,
+        refusal: Refusal::ForGood,
+    };
+    is_right_after(alloc, heap, row, setup, (is_pushed, u64::from(!is_pushed)))
 }
 
-/// Fails unless the row's call makes its requests of `heap`, and appends its units.
-fn expect_pushed<A: Allocator>(
-    alloc: Global,
-    heap: Lent<'_>,
-    buf: &mut IndexedBuf<A>,
-    row: Row,
-) -> Result<(), Failed> {
-    made(push_to(alloc, buf, row.push))?;
-    expect(heap.requests() == row.requests, Wrong::Requests)?;
-    expect_buf(alloc, buf, row.units, row.dump)
-}
-
-/// Fails unless the row's call, without spare capacity and with all requests granted, makes its requests.
-fn expect_granted(alloc: Global, heap: Lent<'_>, row: Row) -> Result<(), Failed> {
-    let mut buf = made(with_spare(heap, 0))?;
-    heap.grant(9);
-    expect_pushed(alloc, heap, &mut buf, row)
-}
-
-/// Fails unless the row's call, without spare capacity, makes its requests and fails at each that is refused.
-fn expect_each_refused(alloc: Global, heap: Lent<'_>, row: Row) -> Result<(), Failed> {
-    for refusal in REFUSALS {
-        for granted in 0..row.requests {
-            expect_refused(alloc, heap, row.push, (granted, refusal))?;
+/// Whether `is_right_in_room` holds at each spare capacity, up to one byte more than the row's call needs, with marks
+/// and without.
+fn is_right_in_each_room(alloc: Global, heap: Lent<'_>, row: &Row) -> bool {
+    for spare in 0..=row.growth.saturating_add(1) {
+        if !is_right_in_room(alloc, heap, row, spare, false)
+            || !is_right_in_room(alloc, heap, row, spare, true)
+        {
+            return false;
         }
     }
-    expect_granted(alloc, heap, row)
+    true
 }
 
-#[test]
-fn a_push_fails_at_each_refusal_and_changes_nothing(rt: HostRuntime) -> Result<(), Failed> {
-    let heap = Refusing::new(rt.alloc(), 0);
-    let mut index = 0usize;
-    for row in pushes() {
-        in_row(index, expect_each_refused(rt.alloc(), &heap, row))?;
-        index = index.wrapping_add(1);
+/// Grants `granted` requests and refuses the next one. Whether the row's call, without spare capacity, fails there and
+/// changes nothing.
+fn is_refused(alloc: Global, heap: Lent<'_>, row: &Row, granted: u64, refusal: Refusal) -> bool {
+    let setup = Setup {
+        spare: 0,
+        is_marked: false,
+        granted,
+        refusal,
+    };
+    is_right_after(alloc, heap, row, setup, (false, granted.wrapping_add(1)))
+}
+
+/// Whether the row's call, without spare capacity and with all requests granted, makes its requests.
+fn is_granted(alloc: Global, heap: Lent<'_>, row: &Row) -> bool {
+    let setup = Setup {
+        spare: 0,
+        is_marked: false,
+        granted: 9,
+        refusal: Refusal::ForGood,
+    };
+    is_right_after(alloc, heap, row, setup, (true, row.requests))
+}
+
+/// Whether the row's call, without spare capacity, makes its requests and fails at each that is refused.
+fn is_each_refused(alloc: Global, heap: Lent<'_>, row: &Row) -> bool {
+    for granted in 0..row.requests {
+        if !is_refused(alloc, heap, row, granted, Refusal::ForGood)
+            || !is_refused(alloc, heap, row, granted, Refusal::Once)
+        {
+            return false;
+        }
     }
-    Ok(())
+    is_granted(alloc, heap, row)
 }
 
 /// The number of units of three bytes before `FRONT` in a long buffer. The unit after `FRONT` has index 256, where the
 /// second mark is, or one unit before if that index splits a pair.
 const WIDE: usize = 254;
+
+/// The number of bytes of the long buffer that `FRONT` ends.
+const LONG_FRONT_LEN: usize = 254 * 3 + 4;
 
 /// Units of three bytes, and then `units`.
 fn after_wide(alloc: Global, units: &[u16]) -> Result<Vec<u16>, AllocError> {
@@ -302,256 +310,258 @@ fn long_with_spare<'a>(
     spare: usize,
 ) -> Result<IndexedBuf<Lent<'a>>, AllocError> {
     let units = after_wide(alloc, &FRONT)?;
-    heap.grant(1);
-    marks.grant(1);
-    let mut buf = IndexedBuf::with_capacity(heap, spare.saturating_add(254 * 3 + 4))?;
-    push_each(&mut buf, &units)?;
+    let mut buf = buf_of(heap, &units, spare.saturating_add(LONG_FRONT_LEN))?;
     buf.mark_units(marks);
     Ok(buf)
 }
 
-/// Pushes "a" with all requests granted. Fails unless one is made for the mark that is missing, and the buffer has
-/// `units` and "a".
-fn expect_one_more<'a>(
-    heap: Lent<'a>,
-    marks: Lent<'a>,
-    buf: &mut IndexedBuf<Lent<'a>>,
-    mut units: Vec<u16>,
-) -> Result<(), Failed> {
+/// Pushes "a" to the buffer of the units with all requests granted. Whether one is made for the mark that is missing,
+/// and the buffer has the units and "a".
+fn has_one_more<A: Allocator>(
+    heap: Lent<'_>,
+    marks: Lent<'_>,
+    buf: &mut IndexedBuf<A>,
+    units: &mut Vec<u16>,
+) -> bool {
     heap.grant(9);
     marks.grant(9);
-    made(buf.push_unit(0x0061))?;
-    expect(units.push(0x0061).is_ok(), Wrong::Memory)?;
-    expect(marks.requests() == 1, Wrong::Requests)?;
-    expect(buf_has_units(buf, &units), Wrong::Units)
+    buf.push_unit(0x0061).is_ok()
+        && units.push(0x0061).is_ok()
+        && marks.requests() == 1
+        && buf_has_units(buf, units)
 }
 
-/// Fails unless a long buffer that ends with `units` has all its units, and a later call adds the mark that is missing.
-fn expect_ended<'a>(
+/// Whether a long buffer that ends with `units` has all its units, and a later call adds the mark that is missing.
+fn is_ended<A: Allocator>(
     alloc: Global,
-    heap: Lent<'a>,
-    marks: Lent<'a>,
-    buf: &mut IndexedBuf<Lent<'a>>,
+    heap: Lent<'_>,
+    marks: Lent<'_>,
+    buf: &mut IndexedBuf<A>,
     units: &[u16],
-) -> Result<(), Failed> {
-    let all = made(after_wide(alloc, units))?;
-    expect(buf_has_units(buf, &all), Wrong::Units)?;
-    expect_one_more(heap, marks, buf, all)
-}
-
-/// Makes the row's call with every request refused. Fails unless it appends its units, though a mark is refused, and a
-/// later call adds the mark.
-fn expect_unmarked<'a>(
-    alloc: Global,
-    heap: Lent<'a>,
-    marks: Lent<'a>,
-    buf: &mut IndexedBuf<Lent<'a>>,
-    row: Row,
-) -> Result<(), Failed> {
-    made(push_to(alloc, buf, row.push))?;
-    let is_mark_refused = marks.requests() == 1;
-    expect(heap.requests() == 0, Wrong::Requests)?;
-    expect(is_mark_refused == (row.growth > 0), Wrong::Requests)?;
-    expect_ended(alloc, heap, marks, buf, row.units)
-}
-
-/// Fails unless the row's call does what `expect_unmarked` requires on a long buffer, with just the spare capacity that
-/// it needs.
-fn expect_long_push(alloc: Global, row: Row) -> Result<(), Failed> {
-    let heap = Refusing::new(alloc, 0);
-    let marks = Refusing::new(alloc, 0);
-    let mut buf = made(long_with_spare(alloc, &heap, &marks, row.growth))?;
-    heap.grant(0);
-    marks.grant(0);
-    expect_unmarked(alloc, &heap, &marks, &mut buf, row)
-}
-
-#[test]
-fn a_refused_mark_refuses_no_push(rt: HostRuntime) -> Result<(), Failed> {
-    let mut index = 0usize;
-    for row in pushes() {
-        in_row(index, expect_long_push(rt.alloc(), row))?;
-        index = index.wrapping_add(1);
+) -> bool {
+    match after_wide(alloc, units) {
+        Ok(mut all) => buf_has_units(buf, &all) && has_one_more(heap, marks, buf, &mut all),
+        Err(_) => false,
     }
-    Ok(())
 }
 
-/// Makes the row's call with every request refused. Fails unless it changes nothing, asks for no mark, and a later call
-/// adds the mark that is then missing.
-fn expect_unchanged<'a>(
+/// Makes the row's call with every request refused. If its bytes fit, whether it appends its units, though a mark is
+/// refused. Else whether it changes nothing and asks for no mark. A later call has to add the mark that is then missing.
+fn is_unmarked<A: Allocator>(
     alloc: Global,
-    heap: Lent<'a>,
-    marks: Lent<'a>,
-    buf: &mut IndexedBuf<Lent<'a>>,
-    row: Row,
-) -> Result<(), Failed> {
+    heap: Lent<'_>,
+    marks: Lent<'_>,
+    buf: &mut IndexedBuf<A>,
+    row: &Row,
+    is_fitting: bool,
+) -> bool {
     let is_pushed = push_to(alloc, buf, row.push).is_ok();
-    expect(is_pushed == (row.growth == 0), Wrong::Outcome)?;
-    expect(marks.requests() == 0, Wrong::Requests)?;
-    expect(buf.as_wtf8().len() == 254 * 3 + 4, Wrong::Bytes)?;
-    expect_ended(alloc, heap, marks, buf, &FRONT)
+    let growth = if is_fitting { row.growth } else { 0 };
+    let units = if is_fitting { row.units } else { &FRONT };
+    is_pushed == is_fitting
+        && (heap.requests() == 0) == is_fitting
+        && marks.requests() == u64::from(growth > 0)
+        && buf.as_wtf8().len() == LONG_FRONT_LEN.saturating_add(growth)
+        && is_ended(alloc, heap, marks, buf, units)
 }
 
-/// Fails unless the row's call does what `expect_unchanged` requires on a long buffer with marks, with one byte too
-/// little of spare capacity.
-fn expect_long_refused(alloc: Global, row: Row) -> Result<(), Failed> {
-    let heap = Refusing::new(alloc, 0);
-    let marks = Refusing::new(alloc, 0);
-    let spare = row.growth.saturating_sub(1);
-    let mut buf = made(long_with_spare(alloc, &heap, &marks, spare))?;
+/// Whether the row's call does what `is_unmarked` requires on a long buffer with marks and `spare` bytes of spare
+/// capacity.
+fn is_right_on_long(alloc: Global, row: &Row, spare: usize) -> bool {
+    let heap = Refusing::new(alloc, 1);
+    let marks = Refusing::new(alloc, 1);
+    let Ok(mut buf) = long_with_spare(alloc, &heap, &marks, spare) else {
+        return false;
+    };
     heap.grant(0);
     marks.grant(0);
-    expect_unchanged(alloc, &heap, &marks, &mut buf, row)
+    is_unmarked(alloc, &heap, &marks, &mut buf, row, row.growth <= spare)
+}
+
+/// What is required of each row's call.
+#[derive(Clone, Copy)]
+enum Check {
+    /// It makes no request just if it fits.
+    Room,
+    /// It fails at each refusal and changes nothing.
+    Refusals,
+    /// On a long buffer, with the spare capacity that it needs, a refused mark doesn't refuse it.
+    Marks,
+    /// On a long buffer, with one byte too little of spare capacity, it changes nothing.
+    TooLong,
+}
+
+/// Whether the row's call does what `check` requires.
+fn is_checked(alloc: Global, heap: Lent<'_>, row: &Row, check: Check) -> bool {
+    match check {
+        Check::Room => is_right_in_each_room(alloc, heap, row),
+        Check::Refusals => is_each_refused(alloc, heap, row),
+        Check::Marks => is_right_on_long(alloc, row, row.growth),
+        Check::TooLong => is_right_on_long(alloc, row, row.growth.saturating_sub(1)),
+    }
+}
+
+/// Whether the call of each row does what `check` requires.
+fn are_checked(alloc: Global, check: Check) -> bool {
+    let heap = Refusing::new(alloc, 0);
+    for row in &pushes() {
+        if !is_checked(alloc, &heap, row, check) {
+            return false;
+        }
+    }
+    true
 }
 
 #[test]
-fn a_refused_push_changes_no_long_buffer(rt: HostRuntime) -> Result<(), Failed> {
-    let mut index = 0usize;
-    for row in pushes() {
-        in_row(index, expect_long_refused(rt.alloc(), row))?;
-        index = index.wrapping_add(1);
-    }
-    Ok(())
+fn a_push_makes_no_request_just_if_it_fits(rt: HostRuntime) {
+    assert!(rt; are_checked(rt.alloc(), Check::Room));
+}
+
+#[test]
+fn a_push_fails_at_each_refusal_and_changes_nothing(rt: HostRuntime) {
+    assert!(rt; are_checked(rt.alloc(), Check::Refusals));
+}
+
+#[test]
+fn a_refused_mark_refuses_no_push(rt: HostRuntime) {
+    assert!(rt; are_checked(rt.alloc(), Check::Marks));
+}
+
+#[test]
+fn a_refused_push_changes_no_long_buffer(rt: HostRuntime) {
+    assert!(rt; are_checked(rt.alloc(), Check::TooLong));
 }
 
 /// The number of bytes of the long buffer of `PAIR`.
 const LONG_LEN: usize = 254 * 3 + 5;
 
-/// The long buffer of `PAIR` with 100 bytes of spare capacity, and with its two marks in a list that has room for four.
-fn long_with_room<'a>(
-    alloc: Global,
-    heap: Lent<'a>,
-    marks: Lent<'a>,
-) -> Result<IndexedBuf<Lent<'a>>, AllocError> {
-    let mut buf = long_with_spare(alloc, heap, marks, 101)?;
-    marks.grant(1);
-    buf.push_unit(0xDCA9)?;
-    Ok(buf)
-}
-
-/// Releases the spare capacity of the long buffer of `PAIR`. Fails unless that makes a request for the bytes and one
-/// for the marks, and the capacity is the length if `is_granted` and else as before.
-fn shrink<'a>(
-    heap: Lent<'a>,
-    marks: Lent<'a>,
-    buf: &mut IndexedBuf<Lent<'a>>,
+/// Releases the spare capacity of the long buffer of `PAIR`, which is 100 bytes. Whether that makes a request for the
+/// bytes and one for the marks, and the capacity is the length if `is_granted` and else as before.
+fn is_shrunk<A: Allocator>(
+    heap: Lent<'_>,
+    marks: Lent<'_>,
+    buf: &mut IndexedBuf<A>,
     is_granted: bool,
-) -> Result<(), Failed> {
+) -> bool {
     buf.shrink_to_fit();
-    expect(heap.requests() == 1, Wrong::Requests)?;
-    expect(marks.requests() == 1, Wrong::Requests)?;
     let spare = if is_granted { 0 } else { 100 };
-    expect(buf.capacity() == LONG_LEN + spare, Wrong::Outcome)
+    heap.requests() == 1 && marks.requests() == 1 && buf.capacity() == LONG_LEN + spare
 }
 
 /// Appends 127 units, for which no mark is missing if the marks before are kept, and then the first unit that needs a
-/// third mark, with each request for a mark refused. Fails unless the last push alone makes one, if `is_full`: else the
-/// list of marks has room.
-fn expect_next_mark<'a>(
-    heap: Lent<'a>,
-    marks: Lent<'a>,
-    buf: &mut IndexedBuf<Lent<'a>>,
+/// third mark, with each request for a mark refused. Whether the last push alone makes one, if `is_full`: else the list
+/// of marks has room.
+fn has_next_mark<A: Allocator>(
+    heap: Lent<'_>,
+    marks: Lent<'_>,
+    buf: &mut IndexedBuf<A>,
     is_full: bool,
-) -> Result<(), Failed> {
+) -> bool {
     heap.grant(u64::MAX);
     marks.grant(0);
-    made(push_each(buf, &[0x3042; 127]))?;
-    expect(marks.requests() == 0, Wrong::Requests)?;
-    made(buf.push_unit(0x3042))?;
-    expect((marks.requests() == 1) == is_full, Wrong::Requests)
+    push_each(buf, &[0x3042; 127]).is_ok()
+        && marks.requests() == 0
+        && buf.push_unit(0x3042).is_ok()
+        && (marks.requests() == 1) == is_full
 }
 
-/// Empties a buffer. Fails unless it then releases all its memory without a request.
-fn expect_released<'a>(
-    heap: Lent<'a>,
-    marks: Lent<'a>,
-    buf: &mut IndexedBuf<Lent<'a>>,
-) -> Result<(), Failed> {
+/// Empties a buffer. Whether it then releases all its memory without a request.
+fn is_released<A: Allocator>(heap: Lent<'_>, marks: Lent<'_>, buf: &mut IndexedBuf<A>) -> bool {
     heap.grant(0);
     marks.grant(0);
     buf.clear();
     buf.shrink_to_fit();
-    expect(buf.capacity() == 0, Wrong::Outcome)?;
-    expect(
-        heap.requests() == 0 && marks.requests() == 0,
-        Wrong::Requests,
-    )
+    buf.capacity() == 0 && heap.requests() == 0 && marks.requests() == 0
 }
 
-/// Fails unless a long buffer has its units after its spare capacity is released, and after each push that follows.
-fn expect_shrunk<'a>(
+/// Whether a long buffer has its units after its spare capacity is released, and after each push that follows, and
+/// releases all its memory once it is emptied.
+fn is_right_shrunk<A: Allocator>(
     alloc: Global,
-    heap: Lent<'a>,
-    marks: Lent<'a>,
-    buf: &mut IndexedBuf<Lent<'a>>,
+    heap: Lent<'_>,
+    marks: Lent<'_>,
+    buf: &mut IndexedBuf<A>,
     (is_granted, is_full): (bool, bool),
-) -> Result<(), Failed> {
-    let mut units = made(after_wide(alloc, &PAIR))?;
-    shrink(heap, marks, buf, is_granted)?;
-    expect(buf_has_units(buf, &units), Wrong::Units)?;
-    expect_next_mark(heap, marks, buf, is_full)?;
-    expect(units.resize(WIDE + 131, 0x3042).is_ok(), Wrong::Memory)?;
-    expect(buf_has_units(buf, &units), Wrong::Units)
+) -> bool {
+    let Ok(mut units) = after_wide(alloc, &PAIR) else {
+        return false;
+    };
+    is_shrunk(heap, marks, buf, is_granted)
+        && buf_has_units(buf, &units)
+        && has_next_mark(heap, marks, buf, is_full)
+        && units.resize(WIDE + 131, 0x3042).is_ok()
+        && buf_has_units(buf, &units)
+        && is_released(heap, marks, buf)
 }
 
-/// Fails unless `shrink_to_fit` of a long buffer releases the spare capacity of its bytes and of its marks, each if
-/// that is granted.
-fn expect_each_shrunk(
-    alloc: Global,
-    (is_granted, is_full): (bool, bool),
-    refusal: Refusal,
-) -> Result<(), Failed> {
-    let heap = Refusing::new(alloc, 0);
-    let marks = Refusing::new(alloc, 0);
-    let mut buf = made(long_with_room(alloc, &heap, &marks))?;
+/// Whether `shrink_to_fit` of the long buffer of `PAIR`, with 100 bytes of spare capacity and with its two marks in a
+/// list that has room for four, releases the spare capacity of its bytes and of its marks, each if that is granted.
+fn is_each_shrunk(alloc: Global, (is_granted, is_full): (bool, bool), refusal: Refusal) -> bool {
+    let heap = Refusing::new(alloc, 1);
+    let marks = Refusing::new(alloc, 1);
+    let Ok(mut buf) = long_with_spare(alloc, &heap, &marks, 101) else {
+        return false;
+    };
+    marks.grant(1);
+    let is_pushed = buf.push_unit(0xDCA9).is_ok();
     heap.refuse_after(u64::from(is_granted), refusal);
     marks.refuse_after(u64::from(is_full), refusal);
-    expect_shrunk(alloc, &heap, &marks, &mut buf, (is_granted, is_full))?;
-    expect_released(&heap, &marks, &mut buf)
+    is_pushed && is_right_shrunk(alloc, &heap, &marks, &mut buf, (is_granted, is_full))
+}
+
+/// Whether `is_each_shrunk` holds if all following requests are refused, and if the next one alone is.
+fn is_shrunk_if_granted(alloc: Global, granted: (bool, bool)) -> bool {
+    is_each_shrunk(alloc, granted, Refusal::ForGood)
+        && is_each_shrunk(alloc, granted, Refusal::Once)
 }
 
 #[test]
-fn a_buffer_releases_spare_capacity_if_that_is_granted(rt: HostRuntime) -> Result<(), Failed> {
+fn a_buffer_releases_spare_capacity_if_that_is_granted(rt: HostRuntime) {
     for granted in [(false, false), (false, true), (true, false), (true, true)] {
-        for refusal in REFUSALS {
-            expect_each_shrunk(rt.alloc(), granted, refusal)?;
-        }
+        assert!(rt; is_shrunk_if_granted(rt.alloc(), granted));
     }
-    Ok(())
 }
 
-/// Fails unless the buffer has `units`, and after a push of `FRONT` these too.
-fn expect_before_front<A: Allocator>(
-    buf: &mut IndexedBuf<A>,
-    mut units: Vec<u16>,
-) -> Result<(), Failed> {
-    expect(buf_has_units(buf, &units), Wrong::Units)?;
-    made(buf.push_units(&FRONT))?;
-    expect(units.extend_from_slice(&FRONT).is_ok(), Wrong::Memory)?;
-    expect(buf_has_units(buf, &units), Wrong::Units)
+/// Whether the buffer has `units`, and after a push of `FRONT` these too.
+fn is_before_front<A: Allocator>(buf: &mut IndexedBuf<A>, units: &mut Vec<u16>) -> bool {
+    buf_has_units(buf, units)
+        && buf.push_units(&FRONT).is_ok()
+        && units.extend_from_slice(&FRONT).is_ok()
+        && buf_has_units(buf, units)
 }
 
-/// Asks for marks of a long buffer with `granted` requests granted. Fails unless the buffer has its units then, and
+/// Asks for marks of the buffer of the units with `granted` requests granted. Whether the buffer has its units then, and
 /// after a push.
-fn expect_marked(alloc: Global, granted: u64, refusal: Refusal) -> Result<(), Failed> {
+fn is_marked(alloc: Global, units: &mut Vec<u16>, granted: u64, refusal: Refusal) -> bool {
     let heap = Refusing::new(alloc, 9);
     let marks = Refusing::new(alloc, 0);
-    let units = made(after_wide(alloc, &[0xD83D, 0xD83D, 0xDCA9]))?;
-    let mut buf = made(IndexedBuf::from_units(&heap, &units))?;
+    let Ok(mut buf) = IndexedBuf::from_units(&heap, units) else {
+        return false;
+    };
     marks.refuse_after(granted, refusal);
     buf.mark_units(&marks);
     heap.grant(9);
-    expect_before_front(&mut buf, units)
+    is_before_front(&mut buf, units)
+}
+
+/// Whether `is_marked` holds of a long buffer.
+fn is_long_marked(alloc: Global, granted: u64, refusal: Refusal) -> bool {
+    match after_wide(alloc, &[0xD83D, 0xD83D, 0xDCA9]) {
+        Ok(mut units) => is_marked(alloc, &mut units, granted, refusal),
+        Err(_) => false,
+    }
 }
 
 #[test]
-fn marks_that_are_refused_change_nothing(rt: HostRuntime) -> Result<(), Failed> {
+fn marks_that_are_refused_change_nothing(rt: HostRuntime) {
     for refusal in REFUSALS {
         for granted in 0..4 {
-            expect_marked(rt.alloc(), granted, refusal)?;
+            assert!(rt;
+                is_long_marked(rt.alloc(), granted, refusal),
+                "{granted} granted"
+            );
         }
     }
-    Ok(())
 }
 
 /// A call that makes a buffer.
@@ -576,172 +586,202 @@ fn makes() -> [(Make, u64); 6] {
     ]
 }
 
-/// Whether a buffer can be made, by a clone of `other` where it is one.
-fn is_made<'a>(heap: Lent<'a>, other: &IndexedBuf<Lent<'a>>, make: Make) -> bool {
+/// The buffer that the call makes, by a clone of `other` where it is one.
+fn make_buf<A: Allocator + Clone + Drop>(
+    heap: A,
+    other: &IndexedBuf<A>,
+    make: Make,
+) -> Result<IndexedBuf<A>, AllocError> {
     match make {
-        Make::Capacity(n) => IndexedBuf::with_capacity(heap, n).is_ok(),
-        Make::Units(units) => IndexedBuf::from_units(heap, units).is_ok(),
-        Make::Clone => other.clone().is_ok(),
+        Make::Capacity(n) => IndexedBuf::with_capacity(heap, n),
+        Make::Units(units) => IndexedBuf::from_units(heap, units),
+        Make::Clone => other.clone(),
     }
 }
 
-/// Fails unless the call makes its requests, and makes no buffer if one of them is refused.
-fn expect_make<'a>(
+/// Whether the call makes a buffer just if `is_made`, with these requests.
+fn is_make<'a>(
+    heap: Lent<'a>,
+    other: &IndexedBuf<Lent<'a>>,
+    make: Make,
+    (is_made, requests): (bool, u64),
+) -> bool {
+    make_buf(heap, other, make).is_ok() == is_made && heap.requests() == requests
+}
+
+/// Whether the call makes no buffer if the request after the `granted` ones is refused.
+fn is_unmade<'a>(
+    heap: Lent<'a>,
+    other: &IndexedBuf<Lent<'a>>,
+    make: Make,
+    granted: u64,
+    refusal: Refusal,
+) -> bool {
+    heap.refuse_after(granted, refusal);
+    is_make(heap, other, make, (false, granted.wrapping_add(1)))
+}
+
+/// Whether the call makes its requests, and makes no buffer if one of them is refused.
+fn is_right_make<'a>(
     heap: Lent<'a>,
     other: &IndexedBuf<Lent<'a>>,
     make: Make,
     requests: u64,
-) -> Result<(), Failed> {
-    for refusal in REFUSALS {
-        for granted in 0..requests {
-            heap.refuse_after(granted, refusal);
-            expect(!is_made(heap, other, make), Wrong::Outcome)?;
-            expect(heap.requests() == granted.wrapping_add(1), Wrong::Requests)?;
+) -> bool {
+    for granted in 0..requests {
+        if !is_unmade(heap, other, make, granted, Refusal::ForGood)
+            || !is_unmade(heap, other, make, granted, Refusal::Once)
+        {
+            return false;
         }
     }
     heap.grant(requests);
-    expect(is_made(heap, other, make), Wrong::Outcome)?;
-    expect(heap.requests() == requests, Wrong::Requests)
+    is_make(heap, other, make, (true, requests))
 }
 
-/// Fails unless each call of `makes` does what `expect_make` requires.
-fn expect_each_made<'a>(heap: Lent<'a>, other: &IndexedBuf<Lent<'a>>) -> Result<(), Failed> {
-    let mut row = 0usize;
+/// Whether each call of `makes` does what `is_right_make` requires.
+fn is_each_made<'a>(heap: Lent<'a>, other: &IndexedBuf<Lent<'a>>) -> bool {
     for (make, requests) in makes() {
-        in_row(row, expect_make(heap, other, make, requests))?;
-        row = row.wrapping_add(1);
+        if !is_right_make(heap, other, make, requests) {
+            return false;
+        }
     }
-    Ok(())
+    true
+}
+
+/// Whether `is_each_made` holds with the buffer of `FRONT`, which the calls leave as it was.
+fn is_front_kept(alloc: Global, heap: Lent<'_>) -> bool {
+    match with_spare(heap, 0) {
+        Ok(other) => is_each_made(heap, &other) && has_front(alloc, &other),
+        Err(_) => false,
+    }
 }
 
 #[test]
-fn a_buffer_is_made_of_the_memory_that_it_needs(rt: HostRuntime) -> Result<(), Failed> {
+fn a_buffer_is_made_of_the_memory_that_it_needs(rt: HostRuntime) {
     let heap = Refusing::new(rt.alloc(), 9);
-    let other = made(with_spare(&heap, 0))?;
-    expect_each_made(&heap, &other)?;
-    expect_front(rt.alloc(), &other)
+    assert!(rt; is_front_kept(rt.alloc(), &heap));
 }
 
-/// Reserves `additional` bytes in the buffer of `FRONT`, which has two bytes of spare capacity. Fails unless that
-/// succeeds if `is_reserved`, makes the requests of `heap`, and changes no unit.
-fn expect_reserve<A: Allocator>(
+/// Reserves `additional` bytes in the buffer of `FRONT`, which has two bytes of spare capacity. Whether that succeeds
+/// just if `is_reserved`, makes the requests of `heap`, and changes no unit.
+fn is_reserve<A: Allocator>(
     alloc: Global,
     heap: Lent<'_>,
     buf: &mut IndexedBuf<A>,
     additional: usize,
     (is_reserved, requests): (bool, u64),
-) -> Result<(), Failed> {
+) -> bool {
     let is_ok = buf.reserve(additional).is_ok();
-    expect(is_ok == is_reserved, Wrong::Outcome)?;
-    expect(heap.requests() == requests, Wrong::Requests)?;
     let most = if is_ok { additional.max(2) } else { 2 };
-    expect(buf.capacity() >= most.saturating_add(4), Wrong::Outcome)?;
-    expect_front(alloc, buf)
+    is_ok == is_reserved
+        && heap.requests() == requests
+        && buf.capacity() >= most.saturating_add(4)
+        && has_front(alloc, buf)
 }
 
-/// Fails unless `expect_reserve` holds with `granted` requests granted.
-fn expect_reserved(
+/// Whether `is_reserve` holds with `granted` requests granted.
+fn is_right_reserve(
     alloc: Global,
     heap: Lent<'_>,
     (additional, granted): (usize, u64),
     outcome: (bool, u64),
-) -> Result<(), Failed> {
-    let mut buf = made(with_spare(heap, 2))?;
+) -> bool {
+    let Ok(mut buf) = with_spare(heap, 2) else {
+        return false;
+    };
     heap.grant(granted);
-    expect_reserve(alloc, heap, &mut buf, additional, outcome)
+    is_reserve(alloc, heap, &mut buf, additional, outcome)
+}
+
+/// Whether reserves within the spare capacity make no request, and others one.
+fn is_reserved_once(alloc: Global, heap: Lent<'_>) -> bool {
+    is_right_reserve(alloc, heap, (0, 0), (true, 0))
+        && is_right_reserve(alloc, heap, (2, 0), (true, 0))
+        && is_right_reserve(alloc, heap, (3, 0), (false, 1))
+        && is_right_reserve(alloc, heap, (3, 1), (true, 1))
+        && is_right_reserve(alloc, heap, (300, 1), (true, 1))
 }
 
 #[test]
-fn spare_capacity_is_reserved_once(rt: HostRuntime) -> Result<(), Failed> {
-    let heap = Refusing::new(rt.alloc(), 9);
-    let mut row = 0usize;
-    for (call, outcome) in [
-        ((0, 0), (true, 0)),
-        ((2, 0), (true, 0)),
-        ((3, 0), (false, 1)),
-        ((3, 1), (true, 1)),
-        ((300, 1), (true, 1)),
-    ] {
-        in_row(row, expect_reserved(rt.alloc(), &heap, call, outcome))?;
-        row = row.wrapping_add(1);
-    }
-    Ok(())
+fn spare_capacity_is_reserved_once(rt: HostRuntime) {
+    let alloc = rt.alloc();
+    let heap = Refusing::new(alloc, 9);
+    assert!(rt; is_reserved_once(alloc, &heap));
 }
 
-/// Cuts the buffer of `PAIR` inside the pair and empties it. Fails unless it has the right bytes before and after each
-/// call.
-fn expect_shorter<A: Allocator>(alloc: Global, buf: &mut IndexedBuf<A>) -> Result<(), Failed> {
-    expect_buf(alloc, buf, &PAIR, PAIR_DUMP)?;
-    if buf.unit_len() < 2 {
-        return Err(Failed::by(Wrong::Units));
+/// Cuts the buffer of `PAIR` inside the pair and empties it. Whether it has the right bytes before and after each call.
+fn is_shorter<A: Allocator>(alloc: Global, buf: &mut IndexedBuf<A>) -> bool {
+    if buf.unit_len() < 2 || !has_buf(alloc, buf, &PAIR, PAIR_DUMP) {
+        return false;
     }
     buf.truncate_units(2);
-    expect_front(alloc, buf)?;
+    let is_front = has_front(alloc, buf);
     buf.clear();
-    expect_buf(alloc, buf, &[], "")
+    is_front && has_buf(alloc, buf, &[], "")
 }
 
-/// Takes the string of the buffer of `PAIR` and makes a buffer of it again, with which `expect_shorter` must hold.
-fn expect_again(alloc: Global, buf: IndexedBuf<Lent<'_>>) -> Result<(), Failed> {
+/// Takes the string of the buffer of `PAIR` and makes a buffer of it again, with which `is_shorter` has to hold.
+fn is_made_again<A: Allocator + Drop>(alloc: Global, buf: IndexedBuf<A>) -> bool {
     let mut again = IndexedBuf::from_buf(buf.into_buf());
-    expect_shorter(alloc, &mut again)
+    is_shorter(alloc, &mut again)
 }
 
-/// Fails unless an empty buffer has no bytes.
-fn expect_new(alloc: Global, heap: Lent<'_>) -> Result<(), Failed> {
+/// Whether an empty buffer has no bytes.
+fn is_new_empty<A: Allocator + Drop>(alloc: Global, heap: A) -> bool {
     let empty = IndexedBuf::new(heap);
-    expect_bytes(alloc, empty.as_wtf8(), "")
+    has_bytes(alloc, empty.as_wtf8(), "")
+}
+
+/// Whether calls that append nothing make no request.
+fn is_unasked(alloc: Global, heap: Lent<'_>) -> bool {
+    let Ok(buf) = IndexedBuf::from_units(heap, &PAIR) else {
+        return false;
+    };
+    heap.grant(0);
+    is_made_again(alloc, buf) && is_new_empty(alloc, heap) && heap.requests() == 0
 }
 
 #[test]
-fn calls_that_append_nothing_make_no_request(rt: HostRuntime) -> Result<(), Failed> {
+fn calls_that_append_nothing_make_no_request(rt: HostRuntime) {
     let heap = Refusing::new(rt.alloc(), 9);
-    let buf = made(IndexedBuf::from_units(&heap, &PAIR))?;
-    heap.grant(0);
-    expect_again(rt.alloc(), buf)?;
-    expect_new(rt.alloc(), &heap)?;
-    expect(heap.requests() == 0, Wrong::Requests)
+    assert!(rt; is_unasked(rt.alloc(), &heap));
 }
 
-/// Refuses a copy of a text. Fails unless it makes one request.
-fn expect_uncopied<'a>(
-    heap: Lent<'a>,
-    text: &UnitText<Lent<'a>>,
+/// Refuses a copy of a text. Whether it makes one request.
+fn is_uncopied<A: Allocator + Clone + Drop>(
+    heap: Lent<'_>,
+    text: &UnitText<A>,
     refusal: Refusal,
-) -> Result<(), Failed> {
+) -> bool {
     heap.refuse_after(0, refusal);
-    let is_copied = text.clone().is_ok();
-    expect(!is_copied && heap.requests() == 1, Wrong::Requests)
+    text.clone().is_err() && heap.requests() == 1
 }
 
-/// Refuses units pushed to a text. Fails unless that makes one request, and no units are pushed without one.
-fn expect_unpushed<'a>(
-    heap: Lent<'a>,
-    text: &mut UnitText<Lent<'a>>,
-    refusal: Refusal,
-) -> Result<(), Failed> {
+/// Refuses units pushed to a text. Whether that makes one request, and no units are pushed without one.
+fn is_unpushed<A: Allocator>(heap: Lent<'_>, text: &mut UnitText<A>, refusal: Refusal) -> bool {
     heap.refuse_after(0, refusal);
     let is_pushed = text.push_units(&[0xE000; 6]).is_ok();
-    expect(!is_pushed && heap.requests() == 1, Wrong::Requests)?;
+    let is_asked = heap.requests() == 1;
     heap.grant(0);
-    expect(text.push_units(&[]).is_ok(), Wrong::Memory)?;
-    expect(heap.requests() == 0, Wrong::Requests)
+    !is_pushed && is_asked && text.push_units(&[]).is_ok() && heap.requests() == 0
 }
 
-/// Fails unless the text of `FRONT` is as it was after a copy, and then units pushed to it, are refused.
-fn expect_text_kept(alloc: Global, heap: Lent<'_>, refusal: Refusal) -> Result<(), Failed> {
+/// Whether the text of `FRONT` is as it was after a copy, and then units pushed to it, are refused.
+fn is_text_kept(alloc: Global, heap: Lent<'_>, refusal: Refusal) -> bool {
     heap.grant(9);
-    let mut text = made(UnitText::from_units(heap, &FRONT))?;
-    expect_uncopied(heap, &text, refusal)?;
-    expect_unpushed(heap, &mut text, refusal)?;
-    expect_text(alloc, &text, &FRONT, FRONT_DUMP)
+    let Ok(mut text) = UnitText::from_units(heap, &FRONT) else {
+        return false;
+    };
+    is_uncopied(heap, &text, refusal)
+        && is_unpushed(heap, &mut text, refusal)
+        && has_text(alloc, &text, &FRONT, FRONT_DUMP)
 }
 
 #[test]
-fn a_text_is_unchanged_if_a_copy_or_units_are_refused(rt: HostRuntime) -> Result<(), Failed> {
-    let heap = Refusing::new(rt.alloc(), 9);
-    for refusal in REFUSALS {
-        expect_text_kept(rt.alloc(), &heap, refusal)?;
-    }
-    Ok(())
+fn a_text_is_unchanged_if_a_copy_or_units_are_refused(rt: HostRuntime) {
+    let alloc = rt.alloc();
+    let heap = Refusing::new(alloc, 9);
+    let is_kept = is_text_kept(alloc, &heap, Refusal::ForGood);
+    assert!(rt; is_kept && is_text_kept(alloc, &heap, Refusal::Once));
 }

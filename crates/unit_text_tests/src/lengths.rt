@@ -3,7 +3,6 @@ use crate::shared::slice_of;
 use refusing::{Lent, Refusing};
 use std::alloc::{AllocError, Global};
 use unit_text::UnitText;
-use wtf8_tests::wrong::{Failed, Wrong, expect, in_row, made};
 
 /// Eight units that repeat in a text: of one kind alone, or mixed.
 fn kinds() -> [[u16; 8]; 5] {
@@ -32,19 +31,13 @@ const ABOUT_POWERS: [(u16, &[usize]); 3] = [
     (0x3042, &[1365, 1366, 21_845, 21_846]),
 ];
 
-/// The text of `length` units that repeat `kind`.
-fn text_of<'a>(
-    alloc: Global,
-    heap: Lent<'a>,
-    kind: &[u16; 8],
-    length: usize,
-) -> Result<UnitText<Lent<'a>>, AllocError> {
+/// `length` units that repeat `kind`.
+fn units_of(alloc: Global, kind: &[u16; 8], length: usize) -> Result<Vec<u16>, AllocError> {
     let mut units = Vec::new(alloc);
     for at in 0..length {
         units.push(kind[at % 8])?;
     }
-    heap.grant(u64::MAX);
-    UnitText::from_units(heap, &units)
+    Ok(units)
 }
 
 /// A model of the memory of a growing text: its length and capacity in bytes, and the number of requests and of the
@@ -100,80 +93,84 @@ fn room_between(kind: &[u16; 8], length: usize, begin: usize, end: usize, len: u
     room
 }
 
-/// Fails unless the slice from unit `begin` to before unit `end` makes the requests that `room_between` expects.
-fn expect_slice<'a>(
+/// Whether the slice from unit `begin` to before unit `end` makes the requests that `room_between` expects.
+fn is_slice<'a>(
     heap: Lent<'a>,
     text: &UnitText<Lent<'a>>,
     kind: &[u16; 8],
     begin: usize,
     end: usize,
-) -> Result<(), Failed> {
+) -> bool {
     heap.grant(u64::MAX);
-    let slice = slice_of(heap, text, begin, end)?;
+    let Ok(slice) = slice_of(heap, text, begin, end) else {
+        return false;
+    };
     let room = room_between(kind, text.unit_len(), begin, end, slice.as_wtf8().len());
-    let requests = (heap.requests(), heap.bytes());
-    expect(requests == (room.requests, room.bytes), Wrong::Requests)
+    heap.requests() == room.requests && heap.bytes() == room.bytes
 }
 
-/// Fails unless five slices of a text of `length` units request what they need.
-fn expect_slices<'a>(
+/// Whether five slices of a text of `length` units request what they need.
+fn has_slices<'a>(
     heap: Lent<'a>,
     text: &UnitText<Lent<'a>>,
     kind: &[u16; 8],
     length: usize,
-) -> Result<(), Failed> {
+) -> bool {
     let half = length / 2;
-    for (begin, end) in [
-        (0, length),
-        (half, length),
-        (length.min(1), length),
-        (0, length.saturating_sub(1)),
-        (half, half),
-    ] {
-        expect_slice(heap, text, kind, begin, end)?;
-    }
-    Ok(())
+    is_slice(heap, text, kind, 0, length)
+        && is_slice(heap, text, kind, half, length)
+        && is_slice(heap, text, kind, length.min(1), length)
+        && is_slice(heap, text, kind, 0, length.saturating_sub(1))
+        && is_slice(heap, text, kind, half, half)
 }
 
-/// Fails unless a text is appended to a copy of it with at most one request, for at most the bytes of both, or 16.
-fn expect_twice<'a>(heap: Lent<'a>, text: &UnitText<Lent<'a>>) -> Result<(), Failed> {
-    let mut front = slice_of(heap, text, 0, text.unit_len())?;
+/// Whether a text is appended to a copy of it with at most one request, for at most the bytes of both, or 16.
+fn is_twice<'a>(heap: Lent<'a>, text: &UnitText<Lent<'a>>) -> bool {
+    let Ok(mut front) = slice_of(heap, text, 0, text.unit_len()) else {
+        return false;
+    };
     let most = front.as_wtf8().len().saturating_mul(2).max(16);
     heap.grant(u64::MAX);
-    made(front.concat(text))?;
-    expect(
-        heap.requests() <= 1 && heap.bytes() <= most,
-        Wrong::Requests,
-    )
+    front.concat(text).is_ok() && heap.requests() <= 1 && heap.bytes() <= most
 }
 
-/// Fails unless slices of `length` units that repeat `kind`, and appending these to a copy, request what they need.
-fn expect_done(alloc: Global, kind: &[u16; 8], length: usize) -> Result<(), Failed> {
-    let heap = Refusing::new(alloc, 0);
-    let text = made(text_of(alloc, &heap, kind, length))?;
-    expect_slices(&heap, &text, kind, length)?;
-    expect_twice(&heap, &text)
+/// Whether slices of the text of `units`, which repeat `kind`, and appending these to a copy, request what they need.
+fn is_done(alloc: Global, kind: &[u16; 8], units: &[u16]) -> bool {
+    let heap = Refusing::new(alloc, u64::MAX);
+    match UnitText::from_units(&heap, units) {
+        Ok(text) => has_slices(&heap, &text, kind, units.len()) && is_twice(&heap, &text),
+        Err(_) => false,
+    }
+}
+
+/// Whether `is_done` holds of `length` units.
+fn is_length_done(alloc: Global, kind: &[u16; 8], length: usize) -> bool {
+    match units_of(alloc, kind, length) {
+        Ok(units) => is_done(alloc, kind, &units),
+        Err(_) => false,
+    }
 }
 
 #[test]
-fn each_call_is_done_at_each_length(rt: HostRuntime) -> Result<(), Failed> {
+fn each_call_is_done_at_each_length(rt: HostRuntime) {
     for kind in &kinds() {
         for length in 0..=300 {
-            in_row(length, expect_done(rt.alloc(), kind, length))?;
+            assert!(rt; is_length_done(rt.alloc(), kind, length), "{length} units");
         }
         for length in long() {
-            in_row(length, expect_done(rt.alloc(), kind, length))?;
+            assert!(rt; is_length_done(rt.alloc(), kind, length), "{length} units");
         }
     }
-    Ok(())
 }
 
 #[test]
-fn each_call_is_done_about_powers_of_two(rt: HostRuntime) -> Result<(), Failed> {
+fn each_call_is_done_about_powers_of_two(rt: HostRuntime) {
     for (unit, lengths) in ABOUT_POWERS {
         for length in lengths {
-            in_row(*length, expect_done(rt.alloc(), &[unit; 8], *length))?;
+            assert!(rt;
+                is_length_done(rt.alloc(), &[unit; 8], *length),
+                "{length} units"
+            );
         }
     }
-    Ok(())
 }

@@ -2,7 +2,6 @@
 use refusing::{Lent, Refusing};
 use std::alloc::{AllocError, Allocator, Global};
 use unit_text::UnitText;
-use wtf8_tests::wrong::{Failed, Wrong, expect, in_row, made};
 
 /// Lengths in units of a growing text, and the number of requests for its marks up to each. The text has a mark for
 /// each multiple of 128 below its length; the list of marks has room for four at first, and then for twice that number.
@@ -18,18 +17,18 @@ enum Growth {
     PushStr,
 }
 
-/// Pushes `count` units of three bytes each.
-fn push_units<A: Allocator>(text: &mut UnitText<A>, count: usize) -> Result<(), AllocError> {
+/// Pushes `count` units of three bytes each, as characters if `is_str`.
+fn push_units<A: Allocator>(
+    text: &mut UnitText<A>,
+    count: usize,
+    is_str: bool,
+) -> Result<(), AllocError> {
     for _ in 0..count {
-        text.push(0x3042)?;
-    }
-    Ok(())
-}
-
-/// Pushes `count` characters of one unit and three bytes each.
-fn push_characters<A: Allocator>(text: &mut UnitText<A>, count: usize) -> Result<(), AllocError> {
-    for _ in 0..count {
-        text.push_str("あ")?;
+        if is_str {
+            text.push_str("あ")?;
+        } else {
+            text.push(0x3042)?;
+        }
     }
     Ok(())
 }
@@ -41,7 +40,7 @@ fn append_text<A: Allocator + Drop>(
     count: usize,
 ) -> Result<(), AllocError> {
     let mut piece = UnitText::from_str(alloc, "")?;
-    push_units(&mut piece, count)?;
+    push_units(&mut piece, count, false)?;
     text.concat(&piece)
 }
 
@@ -53,42 +52,55 @@ fn grow<A: Allocator + Drop>(
     growth: Growth,
 ) -> Result<(), AllocError> {
     match growth {
-        Growth::Push => push_units(text, count),
+        Growth::Push => push_units(text, count, false),
         Growth::Concat => append_text(alloc, text, count),
-        Growth::PushStr => push_characters(text, count),
+        Growth::PushStr => push_units(text, count, true),
     }
 }
 
-/// Fails unless the text, grown to each length, has made the requests of its marks that are due by then.
-fn expect_requests<'a>(
+/// Whether the text, grown to a length, has made the requests of its marks that are due by then.
+fn is_requested<'a>(
     heap: Lent<'a>,
     marks: Lent<'a>,
     text: &mut UnitText<Lent<'a>>,
     growth: Growth,
-) -> Result<(), Failed> {
-    for (length, requests) in requests_by_length() {
-        let count = length.saturating_sub(text.unit_len());
-        made(grow(heap, text, count, growth))?;
-        in_row(length, expect(text.unit_len() == length, Wrong::Units))?;
-        let is_asked = marks.requests() == requests;
-        in_row(length, expect(is_asked, Wrong::Requests))?;
+    (length, requests): (usize, u64),
+) -> bool {
+    let count = length.saturating_sub(text.unit_len());
+    grow(heap, text, count, growth).is_ok()
+        && text.unit_len() == length
+        && marks.requests() == requests
+}
+
+/// Whether `is_requested` holds of the text at each length.
+fn is_each_requested<'a>(
+    heap: Lent<'a>,
+    marks: Lent<'a>,
+    text: &mut UnitText<Lent<'a>>,
+    growth: Growth,
+) -> bool {
+    for row in requests_by_length() {
+        if !is_requested(heap, marks, text, growth, row) {
+            return false;
+        }
     }
-    Ok(())
+    true
 }
 
 /// Grows a text that keeps marks from the start, and whose marks have an allocator of their own.
-fn expect_growth(alloc: Global, growth: Growth) -> Result<(), Failed> {
+fn is_grown(alloc: Global, growth: Growth) -> bool {
     let heap = Refusing::new(alloc, u64::MAX);
     let marks = Refusing::new(alloc, u64::MAX);
-    let mut text = made(UnitText::from_units(&heap, &[]))?;
+    let Ok(mut text) = UnitText::from_units(&heap, &[]) else {
+        return false;
+    };
     text.mark_units(&marks);
-    expect_requests(&heap, &marks, &mut text, growth)
+    is_each_requested(&heap, &marks, &mut text, growth)
 }
 
 #[test]
-fn a_growing_text_asks_for_room_for_marks(rt: HostRuntime) -> Result<(), Failed> {
+fn a_growing_text_asks_for_room_for_marks(rt: HostRuntime) {
     for growth in [Growth::Push, Growth::Concat, Growth::PushStr] {
-        expect_growth(rt.alloc(), growth)?;
+        assert!(rt; is_grown(rt.alloc(), growth));
     }
-    Ok(())
 }

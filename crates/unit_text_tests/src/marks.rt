@@ -1,20 +1,8 @@
 // Texts with marks: the requests for these, and texts grown by pieces while requests are refused.
-use crate::shared::expect_units;
+use crate::shared::{has_units, kinds, units_of};
 use refusing::{Lent, REFUSALS, Refusal, Refusing};
 use std::alloc::{AllocError, Allocator, Global};
 use unit_text::UnitText;
-use wtf8_tests::wrong::{Failed, Wrong, expect, in_row, made};
-
-/// Six units that repeat in a text.
-fn kinds() -> [[u16; 6]; 5] {
-    [
-        [0x0061; 6],
-        [0x3042; 6],
-        [0xD83D, 0xDCA9, 0xD83D, 0xDCA9, 0xD83D, 0xDCA9],
-        [0x00E9, 0xD83D, 0xDCA9, 0x00E9, 0xD83D, 0xDCA9],
-        [0x0061, 0x3042, 0xDCA9, 0xD83D, 0xDCA9, 0xD83D],
-    ]
-}
 
 /// Unit indexes on both sides of marks.
 fn indexes() -> [usize; 14] {
@@ -23,54 +11,47 @@ fn indexes() -> [usize; 14] {
     ]
 }
 
-/// `length` units that repeat `kind`.
-fn units_of(alloc: Global, kind: &[u16; 6], length: usize) -> Result<Vec<u16>, AllocError> {
-    let mut units = Vec::new(alloc);
-    for at in 0..length {
-        units.push(kind[at % 6])?;
-    }
-    Ok(units)
-}
-
-/// Fails unless the slice from unit `begin` to before unit `end` is that part of `units`, if there is such a range.
-fn expect_between<A: Allocator + Drop>(
+/// Whether the slice from unit `begin` to before unit `end` is that part of `units`, if there is such a range.
+fn has_between<A: Allocator + Drop>(
     alloc: A,
     text: &UnitText<A>,
     units: &[u16],
     begin: usize,
     end: usize,
-) -> Result<(), Failed> {
+) -> bool {
     if begin > end || end > text.unit_len() || end > units.len() {
-        return Ok(());
+        return true;
     }
-    let part = made(text.slice_units(alloc, begin, end))?;
-    expect_units(&part, &units[begin..end])
+    match text.slice_units(alloc, begin, end) {
+        Ok(part) => has_units(&part, &units[begin..end]),
+        Err(_) => false,
+    }
 }
 
-/// Fails unless the text has `units`, and each slice between two of `indexes` has its part of them.
-fn expect_found<A: Allocator + Copy + Drop>(
-    alloc: A,
-    text: &UnitText<A>,
-    units: &[u16],
-) -> Result<(), Failed> {
+/// Whether the text has `units`, and each slice between two of `indexes` has its part of them.
+fn is_found<A: Allocator + Copy + Drop>(alloc: A, text: &UnitText<A>, units: &[u16]) -> bool {
     for end in indexes() {
         for begin in indexes() {
-            expect_between(alloc, text, units, begin, end)?;
+            if !has_between(alloc, text, units, begin, end) {
+                return false;
+            }
         }
     }
-    expect_units(text, units)
+    has_units(text, units)
 }
 
-/// Fails unless the text has `length` units that repeat `kind`, and slices of it have their part of them.
-fn expect_kind<A: Allocator + Copy + Drop>(
+/// Whether the text has `length` units that repeat `kind`, and slices of it have their part of them.
+fn has_kind<A: Allocator + Copy + Drop>(
     alloc: Global,
     text_alloc: A,
     text: &UnitText<A>,
     kind: &[u16; 6],
     length: usize,
-) -> Result<(), Failed> {
-    let units = made(units_of(alloc, kind, length))?;
-    expect_found(text_alloc, text, &units)
+) -> bool {
+    match units_of(alloc, kind, length) {
+        Ok(units) => is_found(text_alloc, text, &units),
+        Err(_) => false,
+    }
 }
 
 /// Six units to repeat, the number of units of a text, and of requests for its marks: one if there are any marks.
@@ -84,23 +65,40 @@ fn requests() -> [([u16; 6], usize, u64); 5] {
     ]
 }
 
-/// Fails unless `mark_units` makes this number of requests for the text of `units`.
-fn expect_requests(heap: Lent<'_>, units: &[u16], requests: u64) -> Result<(), Failed> {
+/// Whether `mark_units` makes this number of requests for the text of `units`.
+fn is_requested(heap: Lent<'_>, units: &[u16], requests: u64) -> bool {
     heap.grant(u64::MAX);
-    let mut text = made(UnitText::from_units(heap, units))?;
+    let Ok(mut text) = UnitText::from_units(heap, units) else {
+        return false;
+    };
     heap.grant(u64::MAX);
     text.mark_units(heap);
-    expect(heap.requests() == requests, Wrong::Requests)
+    heap.requests() == requests
+}
+
+/// Whether `is_requested` holds of `length` units that repeat `kind`.
+fn is_kind_requested(
+    alloc: Global,
+    heap: Lent<'_>,
+    kind: &[u16; 6],
+    length: usize,
+    requests: u64,
+) -> bool {
+    match units_of(alloc, kind, length) {
+        Ok(units) => is_requested(heap, &units, requests),
+        Err(_) => false,
+    }
 }
 
 #[test]
-fn marks_ask_for_what_they_need(rt: HostRuntime) -> Result<(), Failed> {
+fn marks_ask_for_what_they_need(rt: HostRuntime) {
     let heap = Refusing::new(rt.alloc(), u64::MAX);
     for (kind, length, requests) in requests() {
-        let units = made(units_of(rt.alloc(), &kind, length))?;
-        in_row(length, expect_requests(&heap, &units, requests))?;
+        assert!(rt;
+            is_kind_requested(rt.alloc(), &heap, &kind, length, requests),
+            "{length} units"
+        );
     }
-    Ok(())
 }
 
 /// Appends a text ten times and returns how many of these calls were not refused.
@@ -114,51 +112,60 @@ fn times_appended<A: Allocator>(text: &mut UnitText<A>, piece: &UnitText<A>) -> 
     times
 }
 
-/// Grows a text with marks by pieces of 60 units, with `granted` requests granted, and the following ones, or the next
-/// one alone, refused. Returns the number of units appended.
-fn grow<'a>(
-    heap: Lent<'a>,
-    text: &mut UnitText<Lent<'a>>,
-    units: &[u16],
-    granted: u64,
-    refusal: Refusal,
-) -> Result<usize, AllocError> {
-    let piece = UnitText::from_units(heap, units)?;
-    heap.refuse_after(granted, refusal);
-    text.mark_units(heap);
-    let times = times_appended(text, &piece);
-    text.mark_units(heap);
-    Ok(times.wrapping_mul(60))
+/// Grows a text with marks by a piece of 60 units, and returns the number of units appended.
+fn grow<A: Allocator + Copy>(alloc: A, text: &mut UnitText<A>, piece: &UnitText<A>) -> usize {
+    text.mark_units(alloc);
+    let times = times_appended(text, piece);
+    text.mark_units(alloc);
+    times.wrapping_mul(60)
 }
 
-/// Fails unless a text with marks that grows by pieces of 60 units has all that were appended, with `granted` requests
-/// granted, and the following ones, or the next one alone, refused.
-fn expect_left(
+/// Whether a text with marks that grows by pieces of 60 units that repeat `kind` has all that were appended, with
+/// `granted` requests granted, and the following ones, or the next one alone, refused.
+fn is_left(
     alloc: Global,
-    heap: Lent<'_>,
     kind: &[u16; 6],
+    piece_units: &[u16],
     granted: u64,
     refusal: Refusal,
-) -> Result<(), Failed> {
-    let mut text = made(UnitText::from_units(heap, &[]))?;
-    let units = made(units_of(alloc, kind, 60))?;
-    let grown = made(grow(heap, &mut text, &units, granted, refusal))?;
+) -> Result<bool, AllocError> {
+    let heap = Refusing::new(alloc, u64::MAX);
+    let piece = UnitText::from_units(&heap, piece_units)?;
+    let mut text = UnitText::from_units(&heap, &[])?;
+    heap.refuse_after(granted, refusal);
+    let grown = grow(&heap, &mut text, &piece);
     heap.grant(u64::MAX);
-    expect_kind(alloc, heap, &text, kind, grown)
+    Ok(has_kind(alloc, &heap, &text, kind, grown))
+}
+
+/// Whether `is_left` holds of the kind with each number of requests granted.
+fn is_each_left(alloc: Global, kind: &[u16; 6], piece_units: &[u16]) -> bool {
+    for granted in 0..12 {
+        for refusal in REFUSALS {
+            if !matches!(
+                is_left(alloc, kind, piece_units, granted, refusal),
+                Ok(true)
+            ) {
+                return false;
+            }
+        }
+    }
+    true
+}
+
+/// Whether `is_each_left` holds of pieces of 60 units.
+fn is_kind_left(alloc: Global, kind: &[u16; 6]) -> bool {
+    match units_of(alloc, kind, 60) {
+        Ok(units) => is_each_left(alloc, kind, &units),
+        Err(_) => false,
+    }
 }
 
 #[test]
-fn refused_marks_are_left_out(rt: HostRuntime) -> Result<(), Failed> {
+fn refused_marks_are_left_out(rt: HostRuntime) {
     let mut row = 0usize;
     for kind in &kinds() {
-        for refusal in REFUSALS {
-            for granted in 0..12 {
-                let heap = Refusing::new(rt.alloc(), u64::MAX);
-                let outcome = expect_left(rt.alloc(), &heap, kind, granted, refusal);
-                in_row(row, outcome)?;
-            }
-        }
+        assert!(rt; is_kind_left(rt.alloc(), kind), "row {row}");
         row = row.wrapping_add(1);
     }
-    Ok(())
 }

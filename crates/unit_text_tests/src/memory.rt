@@ -1,67 +1,82 @@
 // Refused requests for memory, and the number of bytes in requests.
-use crate::shared::slice_of;
-use refusing::{Lent, REFUSALS, Refusal, Refusing};
-use std::alloc::{AllocError, Allocator, Global};
+use crate::shared::{has_bytes, slice_of};
+use refusing::{Lent, Refusal, Refusing};
+use std::alloc::{Allocator, Global};
 use unit_text::UnitText;
-use wtf8_tests::wrong::{Failed, Wrong, expect, expect_bytes, in_row, made};
 
 /// Units of three bytes each, so that a text of them grows more than once.
 const WIDE: [u16; 6] = [0xE000; 6];
 
-/// Fails unless no request was made, and the text has the bytes of `dump`.
-fn expect_unasked<'a>(
-    alloc: Global,
-    heap: Lent<'a>,
-    text: &UnitText<Lent<'a>>,
-    dump: &str,
-) -> Result<(), Failed> {
-    if heap.requests() != 0 {
-        return Err(Failed::by(Wrong::Requests));
-    }
-    expect_bytes(alloc, text.as_wtf8(), dump)
+/// Whether no request was made, and the text has the bytes of `dump`.
+fn is_unasked<A: Allocator>(alloc: Global, heap: Lent<'_>, text: &UnitText<A>, dump: &str) -> bool {
+    heap.requests() == 0 && has_bytes(alloc, text.as_wtf8(), dump)
 }
 
-/// Fails unless the slice from unit `index` to before unit `index` makes no request and is empty.
-fn expect_empty_slice<'a>(
+/// Whether the slice from unit `index` to before unit `index` makes no request and is empty.
+fn is_empty_slice<'a>(
     alloc: Global,
     heap: Lent<'a>,
     text: &UnitText<Lent<'a>>,
     index: usize,
-) -> Result<(), Failed> {
-    let slice = slice_of(heap, text, index, index)?;
-    expect_unasked(alloc, heap, &slice, "")
+) -> bool {
+    match slice_of(heap, text, index, index) {
+        Ok(slice) => is_unasked(alloc, heap, &slice, ""),
+        Err(_) => false,
+    }
+}
+
+/// Whether no units make an empty text, and this an empty slice, without a request.
+fn is_empty_unasked(alloc: Global, heap: Lent<'_>) -> bool {
+    match UnitText::from_units(heap, &[]) {
+        Ok(empty) => {
+            is_unasked(alloc, heap, &empty, "") && is_empty_slice(alloc, heap, &empty, 0)
+        }
+        Err(_) => false,
+    }
 }
 
 #[test]
-fn no_units_ask_for_no_memory(rt: HostRuntime) -> Result<(), Failed> {
+fn no_units_ask_for_no_memory(rt: HostRuntime) {
     let heap = Refusing::new(rt.alloc(), 0);
-    let empty = made(UnitText::from_units(&heap, &[]))?;
-    expect_unasked(rt.alloc(), &heap, &empty, "")?;
-    expect_empty_slice(rt.alloc(), &heap, &empty, 0)
+    assert!(rt; is_empty_unasked(rt.alloc(), &heap));
 }
 
-/// A lead surrogate, to which the empty text is appended with no request granted.
-fn lead_and_nothing(heap: Lent<'_>) -> Result<UnitText<Lent<'_>>, AllocError> {
-    let mut lead = UnitText::from_units(heap, &[0xD83D])?;
+/// Whether the empty text is appended to a lead surrogate without a request.
+fn is_nothing_appended<'a>(alloc: Global, heap: Lent<'a>, lead: &mut UnitText<Lent<'a>>) -> bool {
     heap.grant(0);
-    lead.concat(&UnitText::from_units(heap, &[])?)?;
-    Ok(lead)
+    match UnitText::from_units(heap, &[]) {
+        Ok(empty) => lead.concat(&empty).is_ok() && is_unasked(alloc, heap, lead, "ED A0 BD"),
+        Err(_) => false,
+    }
+}
+
+/// Whether `is_nothing_appended` holds of the text of a lead surrogate.
+fn is_lead_kept(alloc: Global, heap: Lent<'_>) -> bool {
+    match UnitText::from_units(heap, &[0xD83D]) {
+        Ok(mut lead) => is_nothing_appended(alloc, heap, &mut lead),
+        Err(_) => false,
+    }
 }
 
 #[test]
-fn the_empty_text_asks_for_no_memory(rt: HostRuntime) -> Result<(), Failed> {
+fn the_empty_text_asks_for_no_memory(rt: HostRuntime) {
     let heap = Refusing::new(rt.alloc(), 9);
-    let lead = made(lead_and_nothing(&heap))?;
-    expect_unasked(rt.alloc(), &heap, &lead, "ED A0 BD")
+    assert!(rt; is_lead_kept(rt.alloc(), &heap));
+}
+
+/// Whether the empty slice inside a pair makes no request, is empty, and leaves the text as it was.
+fn is_pair_kept(alloc: Global, heap: Lent<'_>) -> bool {
+    let Ok(text) = UnitText::from_units(heap, &[0xD83D, 0xDCA9]) else {
+        return false;
+    };
+    heap.grant(0);
+    is_empty_slice(alloc, heap, &text, 1) && has_bytes(alloc, text.as_wtf8(), "F0 9F 92 A9")
 }
 
 #[test]
-fn an_empty_slice_asks_for_no_memory(rt: HostRuntime) -> Result<(), Failed> {
+fn an_empty_slice_asks_for_no_memory(rt: HostRuntime) {
     let heap = Refusing::new(rt.alloc(), 9);
-    let text = made(UnitText::from_units(&heap, &[0xD83D, 0xDCA9]))?;
-    heap.grant(0);
-    expect_empty_slice(rt.alloc(), &heap, &text, 1)?;
-    expect_bytes(rt.alloc(), text.as_wtf8(), "F0 9F 92 A9")
+    assert!(rt; is_pair_kept(rt.alloc(), &heap));
 }
 
 /// A slice of the text of `units`, and what it requests.
@@ -134,176 +149,154 @@ fn slices() -> [Slice; 7] {
     ]
 }
 
-/// Whether `slice_units` succeeds with `granted` requests granted, and the following ones, or the next one alone,
-/// refused. Fails unless `begin..end` is a range of the text's units.
-fn is_sliced<'a>(
+/// Whether `slice_units` succeeds just if `is_sliced`, with `granted` requests granted, and the following ones, or the
+/// next one alone, refused. The row has to have a range of the text's units.
+fn is_slice<'a>(
     heap: Lent<'a>,
     text: &UnitText<Lent<'a>>,
-    range: (usize, usize),
-    granted: u64,
-    refusal: Refusal,
-) -> Result<bool, Failed> {
-    let (begin, end) = range;
-    if begin > end || end > text.unit_len() {
-        return Err(Failed::by(Wrong::Row));
+    row: Slice,
+    (granted, refusal): (u64, Refusal),
+    is_sliced: bool,
+) -> bool {
+    if row.begin > row.end || row.end > text.unit_len() {
+        return false;
     }
     heap.refuse_after(granted, refusal);
-    Ok(text.slice_units(heap, begin, end).is_ok())
+    text.slice_units(heap, row.begin, row.end).is_ok() == is_sliced
 }
 
-/// Refuses each request of the row's slice in turn. Fails unless the slice fails and makes no more requests.
-fn expect_unsliced<'a>(
+/// Refuses each request of the row's slice in turn. Whether the slice fails and makes no more requests.
+fn is_each_refused<'a>(
     heap: Lent<'a>,
     text: &UnitText<Lent<'a>>,
     row: Slice,
     refusal: Refusal,
-) -> Result<(), Failed> {
-    let Slice {
-        begin,
-        end,
-        requests,
-        ..
-    } = row;
-    for granted in 0..requests {
-        let is_sliced = is_sliced(heap, text, (begin, end), granted, refusal)?;
-        if is_sliced || heap.requests() != granted.wrapping_add(1) {
-            return Err(Failed::by(Wrong::Requests));
+) -> bool {
+    for granted in 0..row.requests {
+        if !is_slice(heap, text, row, (granted, refusal), false)
+            || heap.requests() != granted.wrapping_add(1)
+        {
+            return false;
         }
     }
-    Ok(())
+    true
 }
 
-/// Fails unless the row's slice succeeds if all its requests are granted, with the row's requests and bytes.
-fn expect_sliced<'a>(heap: Lent<'a>, text: &UnitText<Lent<'a>>, row: Slice) -> Result<(), Failed> {
-    let Slice {
-        begin,
-        end,
-        requests,
-        bytes,
-        ..
-    } = row;
-    let is_sliced = is_sliced(heap, text, (begin, end), 9, Refusal::Once)?;
-    let is_asked = heap.requests() == requests && heap.bytes() == bytes;
-    expect(is_sliced && is_asked, Wrong::Requests)
+/// Whether the row's slice requests what the row says, and fails at each request that is refused.
+fn is_right<'a>(heap: Lent<'a>, text: &UnitText<Lent<'a>>, row: Slice) -> bool {
+    is_each_refused(heap, text, row, Refusal::ForGood)
+        && is_each_refused(heap, text, row, Refusal::Once)
+        && is_slice(heap, text, row, (9, Refusal::Once), true)
+        && heap.requests() == row.requests
+        && heap.bytes() == row.bytes
 }
 
-/// Fails unless the row's slice requests what the row says, and fails at each request that is refused.
-fn expect_slice(heap: Lent<'_>, row: Slice) -> Result<(), Failed> {
-    let units = row.units;
+/// Whether `is_right` holds of the text of the row's units.
+fn is_right_of_units(heap: Lent<'_>, row: Slice) -> bool {
     heap.grant(9);
-    let text = made(UnitText::from_units(heap, units))?;
-    for refusal in REFUSALS {
-        expect_unsliced(heap, &text, row, refusal)?;
+    match UnitText::from_units(heap, row.units) {
+        Ok(text) => is_right(heap, &text, row),
+        Err(_) => false,
     }
-    expect_sliced(heap, &text, row)
 }
 
 #[test]
-fn a_slice_asks_for_what_it_needs(rt: HostRuntime) -> Result<(), Failed> {
+fn a_slice_asks_for_what_it_needs(rt: HostRuntime) {
     let heap = Refusing::new(rt.alloc(), 9);
     let mut index = 0usize;
     for row in slices() {
-        in_row(index, expect_slice(&heap, row))?;
+        assert!(rt; is_right_of_units(&heap, row), "row {index}");
         index = index.wrapping_add(1);
     }
-    Ok(())
 }
 
 fn is_made<A: Allocator>(alloc: A, units: &[u16]) -> bool {
     UnitText::from_units(alloc, units).is_ok()
 }
 
-/// Fails unless a text of the units makes these requests, and is not made if one of them is refused.
-fn expect_made(heap: Lent<'_>, units: &[u16], requests: u64, bytes: usize) -> Result<(), Failed> {
-    heap.grant(9);
-    expect(is_made(heap, units), Wrong::Outcome)?;
-    let is_asked = heap.requests() == requests && heap.bytes() == bytes;
-    expect(is_asked, Wrong::Requests)?;
-    for refusal in REFUSALS {
-        for granted in 0..requests {
-            heap.refuse_after(granted, refusal);
-            expect(!is_made(heap, units), Wrong::Outcome)?;
-            expect(heap.requests() == granted.wrapping_add(1), Wrong::Requests)?;
+/// Whether no text of the units is made with `granted` requests granted, after one more request.
+fn is_unmade(heap: Lent<'_>, units: &[u16], granted: u64, refusal: Refusal) -> bool {
+    heap.refuse_after(granted, refusal);
+    !is_made(heap, units) && heap.requests() == granted.wrapping_add(1)
+}
+
+/// Whether a text of the units makes these requests, and is not made if one of them is refused.
+fn is_asked(heap: Lent<'_>, units: &[u16], requests: u64, bytes: usize) -> bool {
+    for granted in 0..requests {
+        if !is_unmade(heap, units, granted, Refusal::ForGood)
+            || !is_unmade(heap, units, granted, Refusal::Once)
+        {
+            return false;
         }
     }
-    Ok(())
+    heap.grant(9);
+    is_made(heap, units) && heap.requests() == requests && heap.bytes() == bytes
 }
 
 /// A byte for each unit is requested first, then what a block of up to sixteen needs, at least twice the capacity.
 #[test]
-fn a_text_of_units_asks_for_what_it_needs(rt: HostRuntime) -> Result<(), Failed> {
+fn a_text_of_units_asks_for_what_it_needs(rt: HostRuntime) {
     let heap = Refusing::new(rt.alloc(), 9);
-    expect_made(&heap, &WIDE, 2, 6 + 18)?;
-    expect_made(&heap, &[0xE000; 17], 3, 17 + 48 + 96)
+    let is_wide_asked = is_asked(&heap, &WIDE, 2, 6 + 18);
+    assert!(rt; is_wide_asked && is_asked(&heap, &[0xE000; 17], 3, 17 + 48 + 96));
 }
 
 fn hundred_trails() -> [u16; 100] {
     [0xDCA9; 100]
 }
 
-/// Appends 100 trail surrogates with `granted` requests granted, and returns whether these were enough. Fails unless
-/// there is one request, for the 302 bytes that are needed.
+/// Appends 100 trail surrogates with `granted` requests granted. Whether they are appended just if `is_granted`, after
+/// one request, for the 302 bytes that are needed.
 fn is_appended<'a>(
     heap: Lent<'a>,
     text: &mut UnitText<Lent<'a>>,
-    granted: u64,
-    refusal: Refusal,
-) -> Result<bool, Failed> {
-    let trails = made(UnitText::from_units(heap, &hundred_trails()))?;
+    (granted, refusal): (u64, Refusal),
+    is_granted: bool,
+) -> bool {
+    let Ok(trails) = UnitText::from_units(heap, &hundred_trails()) else {
+        return false;
+    };
     heap.refuse_after(granted, refusal);
-    let is_appended = text.concat(&trails).is_ok();
-    if trails.unit_len() != 100 || heap.requests() != 1 || heap.bytes() != 302 {
-        return Err(Failed::by(Wrong::Requests));
-    }
-    Ok(is_appended)
+    text.concat(&trails).is_ok() == is_granted
+        && trails.unit_len() == 100
+        && heap.requests() == 1
+        && heap.bytes() == 302
 }
 
-/// Fails unless the text has the 102 units of both texts if `is_grown`, and is unchanged if not.
-fn expect_grown<'a>(
-    alloc: Global,
-    heap: Lent<'a>,
-    text: &UnitText<Lent<'a>>,
-    is_grown: bool,
-) -> Result<(), Failed> {
-    let len = if is_grown { 102 } else { 2 };
-    if text.unit_len() != len {
-        return Err(Failed::by(Wrong::Units));
-    }
-    if !is_grown {
-        return expect_bytes(alloc, text.as_wtf8(), "61 ED A0 BD");
+/// Whether the text has the 102 units of both texts if `is_granted`, and is unchanged if not.
+fn is_left<'a>(alloc: Global, heap: Lent<'a>, text: &UnitText<Lent<'a>>, is_granted: bool) -> bool {
+    if !is_granted {
+        return text.unit_len() == 2 && has_bytes(alloc, text.as_wtf8(), "61 ED A0 BD");
     }
     heap.grant(9);
-    let front = slice_of(heap, text, 0, 3)?;
-    expect_bytes(alloc, front.as_wtf8(), "61 F0 9F 92 A9")
+    match slice_of(heap, text, 0, 3) {
+        Ok(front) => {
+            text.unit_len() == 102 && has_bytes(alloc, front.as_wtf8(), "61 F0 9F 92 A9")
+        }
+        Err(_) => false,
+    }
 }
 
-/// Appends 100 trail surrogates to "a" and a lead with `granted` requests granted. Fails unless these are enough if
+/// Appends 100 trail surrogates to "a" and a lead with `granted` requests granted. Whether these are enough just if
 /// `is_granted`, and a refusal leaves the text unchanged.
-fn expect_appended(
-    alloc: Global,
-    heap: Lent<'_>,
-    granted: u64,
-    refusal: Refusal,
-    is_granted: bool,
-) -> Result<(), Failed> {
-    let mut text = made(UnitText::from_units(heap, &[0x0061, 0xD83D]))?;
-    let is_grown = is_appended(heap, &mut text, granted, refusal)?;
-    if is_grown != is_granted {
-        return Err(Failed::by(Wrong::Outcome));
-    }
-    expect_grown(alloc, heap, &text, is_grown)
+fn is_right_end(alloc: Global, refused: (u64, Refusal), is_granted: bool) -> bool {
+    let heap = Refusing::new(alloc, 9);
+    let Ok(mut text) = UnitText::from_units(&heap, &[0x0061, 0xD83D]) else {
+        return false;
+    };
+    is_appended(&heap, &mut text, refused, is_granted) && is_left(alloc, &heap, &text, is_granted)
+}
+
+/// Whether `is_right_end` holds if all following requests are refused, and if the next one alone is.
+fn is_right_each_end(alloc: Global, granted: u64, is_granted: bool) -> bool {
+    is_right_end(alloc, (granted, Refusal::ForGood), is_granted)
+        && is_right_end(alloc, (granted, Refusal::Once), is_granted)
 }
 
 #[test]
-fn a_refused_text_is_not_appended(rt: HostRuntime) -> Result<(), Failed> {
-    let mut row = 0usize;
-    for (granted, is_granted) in [(0, false), (1, true), (9, true)] {
-        for refusal in REFUSALS {
-            let heap = Refusing::new(rt.alloc(), 9);
-            let outcome = expect_appended(rt.alloc(), &heap, granted, refusal, is_granted);
-            in_row(row, outcome)?;
-        }
-        row = row.wrapping_add(1);
-    }
-    Ok(())
+fn a_refused_text_is_not_appended(rt: HostRuntime) {
+    let alloc = rt.alloc();
+    let is_refused = is_right_each_end(alloc, 0, false);
+    let is_granted = is_right_each_end(alloc, 1, true) && is_right_each_end(alloc, 9, true);
+    assert!(rt; is_refused && is_granted);
 }

@@ -1,9 +1,8 @@
 // Byte positions of units and back, and texts that become shorter, with marks and without.
-use crate::shared::expect_units;
-use refusing::Refusing;
-use std::alloc::{AllocError, Allocator, Global};
+use crate::shared::{has_units, kinds, units_of};
+use refusing::{Lent, Refusing};
+use std::alloc::{Allocator, Global};
 use unit_text::UnitText;
-use wtf8_tests::wrong::{Failed, Wrong, expect, in_row, made};
 
 /// "a", a surrogate pair, "é" and a lone lead surrogate: in bytes 61, F0 9F 92 A9, C3 A9 and ED A0 80.
 const UNITS: [u16; 5] = [0x0061, 0xD83D, 0xDCA9, 0x00E9, 0xD800];
@@ -16,43 +15,34 @@ const BEFORE: [usize; 12] = [0, 1, 1, 1, 1, 3, 3, 4, 4, 4, 5, 5];
 
 /// Whether the units have these byte positions, by both calls.
 fn is_mapped<A: Allocator>(text: &UnitText<A>) -> bool {
-    for (i, position) in POSITIONS.iter().enumerate() {
-        if i > text.unit_len() || text.position_at(i) != *position {
+    let mut i = 0usize;
+    for position in POSITIONS {
+        if i > text.unit_len() || text.position_at(i) != position {
             return false;
         }
+        i = i.wrapping_add(1);
     }
-    for (position, units) in BEFORE.iter().enumerate() {
-        if text.unit_before(position) != *units {
+    let mut position = 0usize;
+    for units in BEFORE {
+        if text.unit_before(position) != units {
             return false;
         }
+        position = position.wrapping_add(1);
     }
     text.unit_before(usize::MAX) == 5
 }
 
-#[test]
-fn positions_are_rounded_down(rt: HostRuntime) -> Result<(), Failed> {
-    let text = made(UnitText::from_units(rt.alloc(), &UNITS))?;
-    expect(is_mapped(&text), Wrong::Outcome)
-}
-
-/// Six units that repeat in a text.
-fn kinds() -> [[u16; 6]; 5] {
-    [
-        [0x0061; 6],
-        [0x3042; 6],
-        [0xD83D, 0xDCA9, 0xD83D, 0xDCA9, 0xD83D, 0xDCA9],
-        [0x00E9, 0xD83D, 0xDCA9, 0x00E9, 0xD83D, 0xDCA9],
-        [0x0061, 0x3042, 0xDCA9, 0xD83D, 0xDCA9, 0xD83D],
-    ]
-}
-
-/// `length` units that repeat `kind`.
-fn units_of(alloc: Global, kind: &[u16; 6], length: usize) -> Result<Vec<u16>, AllocError> {
-    let mut units = Vec::new(alloc);
-    for at in 0..length {
-        units.push(kind[at % 6])?;
+/// Whether the text of `UNITS` has their byte positions.
+fn are_rounded_down(alloc: Global) -> bool {
+    match UnitText::from_units(alloc, &UNITS) {
+        Ok(text) => is_mapped(&text),
+        Err(_) => false,
     }
-    Ok(units)
+}
+
+#[test]
+fn positions_are_rounded_down(rt: HostRuntime) {
+    assert!(rt; are_rounded_down(rt.alloc()));
 }
 
 /// Whether a pair of `units` is split after `i` units.
@@ -97,50 +87,65 @@ fn has_positions<A: Allocator>(text: &UnitText<A>, units: &[u16]) -> bool {
     text.position_at(text.unit_len()) == position && text.unit_before(position) == units.len()
 }
 
-/// Fails unless a text with marks has the positions of `units`, also after it is cut to `n` units and grows again.
-fn expect_positions(alloc: Global, units: &[u16], n: usize) -> Result<(), Failed> {
-    let mut text = made(UnitText::from_units(alloc, units))?;
-    text.mark_units(alloc);
-    expect(has_positions(&text, units), Wrong::Units)?;
-    expect_cut(&mut text, units, n)
-}
-
-/// Fails unless a text, cut to its first `n` units, has these alone, and then the others again if they are pushed.
-fn expect_cut<A: Allocator>(text: &mut UnitText<A>, units: &[u16], n: usize) -> Result<(), Failed> {
+/// Whether a text, cut to its first `n` units, has these alone, and then the others again if they are pushed.
+fn is_cut<A: Allocator>(text: &mut UnitText<A>, units: &[u16], n: usize) -> bool {
     let (front, back) = units.split_at(n.min(units.len()));
     if text.unit_len() < front.len() {
-        return Err(Failed::by(Wrong::Row));
+        return false;
     }
     text.truncate_units(front.len());
-    expect_units(text, front)?;
-    for unit in back {
-        made(text.push(*unit))?;
+    if !has_units(text, front) {
+        return false;
     }
-    expect(has_positions(text, units), Wrong::Units)?;
-    expect_units(text, units)
-}
-
-#[test]
-fn a_long_text_has_positions_by_its_marks(rt: HostRuntime) -> Result<(), Failed> {
-    for kind in &kinds() {
-        let units = made(units_of(rt.alloc(), kind, 600))?;
-        for n in [0, 1, 127, 128, 129, 257, 385, 599, 600] {
-            in_row(n, expect_positions(rt.alloc(), &units, n))?;
+    for unit in back {
+        if text.push(*unit).is_err() {
+            return false;
         }
     }
-    Ok(())
+    has_positions(text, units) && has_units(text, units)
+}
+
+/// Whether a text with marks has the positions of `units`, also after it is cut to `n` units and grows again.
+fn is_right(alloc: Global, units: &[u16], n: usize) -> bool {
+    let Ok(mut text) = UnitText::from_units(alloc, units) else {
+        return false;
+    };
+    text.mark_units(alloc);
+    has_positions(&text, units) && is_cut(&mut text, units, n)
+}
+
+/// Whether `is_right` holds of 600 units that repeat `kind`, cut to `n`.
+fn is_kind_right(alloc: Global, kind: &[u16; 6], n: usize) -> bool {
+    match units_of(alloc, kind, 600) {
+        Ok(units) => is_right(alloc, &units, n),
+        Err(_) => false,
+    }
 }
 
 #[test]
-fn positions_and_shorter_texts_request_no_memory(rt: HostRuntime) -> Result<(), Failed> {
-    let heap = Refusing::new(rt.alloc(), u64::MAX);
-    let mut text = made(UnitText::from_units(&heap, &UNITS))?;
+fn a_long_text_has_positions_by_its_marks(rt: HostRuntime) {
+    for kind in &kinds() {
+        for n in [0, 1, 127, 128, 129, 257, 385, 599, 600] {
+            assert!(rt; is_kind_right(rt.alloc(), kind, n), "cut to {n}");
+        }
+    }
+}
+
+/// Whether the text of `UNITS` has their positions, and its first two units once it is cut to them, without a request.
+fn is_unasked(heap: Lent<'_>) -> bool {
+    let Ok(mut text) = UnitText::from_units(heap, &UNITS) else {
+        return false;
+    };
     heap.grant(0);
-    let is_mapped = is_mapped(&text);
-    if text.unit_len() != 5 {
-        return Err(Failed::by(Wrong::Units));
+    if text.unit_len() != 5 || !is_mapped(&text) {
+        return false;
     }
     text.truncate_units(2);
-    expect(is_mapped && heap.requests() == 0, Wrong::Requests)?;
-    expect_units(&text, &[0x0061, 0xD83D])
+    heap.requests() == 0 && has_units(&text, &[0x0061, 0xD83D])
+}
+
+#[test]
+fn positions_and_shorter_texts_request_no_memory(rt: HostRuntime) {
+    let heap = Refusing::new(rt.alloc(), u64::MAX);
+    assert!(rt; is_unasked(&heap));
 }

@@ -1,11 +1,8 @@
 // Texts that grow by single units, with marks and without, and their requests for memory refused in turn.
-use crate::shared::expect_units;
+use crate::shared::{has_bytes, has_units};
 use refusing::{Lent, Refusal, Refusing};
-use std::alloc::{AllocError, Global};
+use std::alloc::{AllocError, Allocator, Global};
 use unit_text::UnitText;
-use wtf8_tests::wrong::{Failed, Wrong, expect, expect_bytes, in_row, made};
-
-type Text<'a> = UnitText<Lent<'a>>;
 
 /// A text to which 300 units are pushed.
 #[derive(Clone, Copy)]
@@ -68,99 +65,101 @@ fn checked() -> [usize; 7] {
     [0, 126, 127, 128, 129, 255, 256]
 }
 
-/// Fails unless a text equals another one and has its bytes.
-fn expect_same<'a>(alloc: Global, text: &Text<'a>, other: &Text<'a>) -> Result<(), Failed> {
-    if *text != *other {
-        return Err(Failed::by(Wrong::Outcome));
+/// Whether a text equals another one and has its bytes.
+fn is_same<A: Allocator>(alloc: Global, text: &UnitText<A>, other: &UnitText<A>) -> bool {
+    match other.as_wtf8().hex_dump(alloc) {
+        Ok(dump) => *text == *other && has_bytes(alloc, text.as_wtf8(), dump.as_str()),
+        Err(_) => false,
     }
-    let dump = made(other.as_wtf8().hex_dump(alloc))?;
-    expect_bytes(alloc, text.as_wtf8(), dump.as_str())
 }
 
-/// Fails unless a text has `units` by index, and equals the text made of them at once.
-fn expect_made<'a>(
-    alloc: Global,
-    heap: Lent<'a>,
-    text: &UnitText<Lent<'a>>,
-    units: &[u16],
-) -> Result<(), Failed> {
-    expect_units(text, units)?;
+/// Whether a text has `units` by index, and equals the text made of them at once.
+fn is_made<'a>(alloc: Global, heap: Lent<'a>, text: &UnitText<Lent<'a>>, units: &[u16]) -> bool {
     heap.grant(u64::MAX);
-    let other = made(UnitText::from_units(heap, units))?;
-    expect_same(alloc, text, &other)
+    match UnitText::from_units(heap, units) {
+        Ok(other) => has_units(text, units) && is_same(alloc, text, &other),
+        Err(_) => false,
+    }
 }
 
-/// Appends a unit to a list.
-fn append(units: &mut Vec<u16>, unit: u16) -> Result<(), AllocError> {
+/// Pushes a unit to a text and, if it is not refused, to a list too. Fails if the list has no memory.
+fn push_both<A: Allocator>(
+    text: &mut UnitText<A>,
+    units: &mut Vec<u16>,
+    unit: u16,
+) -> Result<(), AllocError> {
+    if text.push(unit).is_err() {
+        return Ok(());
+    }
     units.push(unit)?;
     Ok(())
 }
 
-/// Pushes units that repeat `kind`, and returns the ones not refused. Fails unless the text has them at each check.
-fn pushed(alloc: Global, text: &mut Text<'_>, kind: &[u16; 6]) -> Result<Vec<u16>, Failed> {
-    let mut units = Vec::new(alloc);
+/// Pushes units that repeat `kind` to an empty text, and to `units` the ones not refused. Whether the text has them at
+/// each check.
+fn is_pushed<A: Allocator>(text: &mut UnitText<A>, units: &mut Vec<u16>, kind: &[u16; 6]) -> bool {
     for at in 0..LENGTH {
-        let unit = kind[at % 6];
-        if text.push(unit).is_ok() {
-            made(append(&mut units, unit))?;
+        if push_both(text, units, kind[at % 6]).is_err() {
+            return false;
         }
-        if checked().contains(&at) {
-            expect_units(text, &units)?;
+        if checked().contains(&at) && !has_units(text, units) {
+            return false;
         }
     }
-    Ok(units)
+    true
 }
 
-/// Pushes units that repeat `kind` to an empty text. Returns the number of refused pushes. Fails unless the text has
+/// Pushes units that repeat `kind` to an empty text. Returns the number of refused pushes, or None unless the text has
 /// the units of all other pushes.
-fn push_and_expect<'a>(
+fn refused_of<'a>(
     alloc: Global,
     heap: Lent<'a>,
-    text: &mut Text<'a>,
+    text: &mut UnitText<Lent<'a>>,
     kind: &[u16; 6],
-) -> Result<u64, Failed> {
-    let units = pushed(alloc, text, kind)?;
-    expect_made(alloc, heap, text, &units)?;
-    Ok(LENGTH.saturating_sub(units.len()) as u64)
+) -> Option<u64> {
+    let mut units = Vec::new(alloc);
+    if !is_pushed(text, &mut units, kind) || !is_made(alloc, heap, text, &units) {
+        return None;
+    }
+    Some(LENGTH.saturating_sub(units.len()) as u64)
 }
 
 /// Pushes units that repeat `kind` to an empty text, with `granted` requests granted, and the following ones, or the
-/// next one alone, refused. Returns the number of refused pushes. Fails unless the text has the units of all other
+/// next one alone, refused. Returns the number of refused pushes, or None unless the text has the units of all other
 /// pushes.
-fn expect_grown(
-    alloc: Global,
-    kind: &[u16; 6],
-    is_marked: bool,
-    granted: u64,
-    refusal: Refusal,
-) -> Result<u64, Failed> {
+fn refused_after(alloc: Global, row: &Row, granted: u64, refusal: Refusal) -> Option<u64> {
     let heap = Refusing::new(alloc, 0);
-    let mut text = made(UnitText::from_units(&heap, &[]))?;
-    if is_marked {
+    let Ok(mut text) = UnitText::from_units(&heap, &[]) else {
+        return None;
+    };
+    if row.is_marked {
         text.mark_units(&heap);
     }
     heap.refuse_after(granted, refusal);
-    push_and_expect(alloc, &heap, &mut text, kind)
+    refused_of(alloc, &heap, &mut text, &row.kind)
 }
 
-/// Refuses each request of the pushes in turn. Fails unless a refused growth refuses one push, and a refused mark none.
-fn expect_each_refused(alloc: Global, row: &Row) -> Result<(), Failed> {
+/// Refuses each request of the pushes in turn. Whether a refused growth refuses one push, and a refused mark none.
+fn is_each_refused(alloc: Global, row: &Row) -> bool {
     let mut refused = 0u64;
     // None is refused if all requests are granted.
     for granted in 0..=row.growths.wrapping_add(row.marks) {
-        expect_grown(alloc, &row.kind, row.is_marked, granted, Refusal::ForGood)?;
-        let left_out = expect_grown(alloc, &row.kind, row.is_marked, granted, Refusal::Once)?;
-        refused = refused.wrapping_add(left_out);
+        if refused_after(alloc, row, granted, Refusal::ForGood).is_none() {
+            return false;
+        }
+        match refused_after(alloc, row, granted, Refusal::Once) {
+            Some(left_out) => refused = refused.wrapping_add(left_out),
+            None => return false,
+        }
     }
-    expect(refused == row.growths, Wrong::Outcome)
+    refused == row.growths
 }
 
 #[test]
-fn pushed_units_are_found(rt: HostRuntime) -> Result<(), Failed> {
+fn pushed_units_are_found(rt: HostRuntime) {
     let mut index = 0usize;
     for row in &rows() {
-        in_row(index, expect_each_refused(rt.alloc(), row))?;
+        assert!(rt; is_each_refused(rt.alloc(), row), "row {index}");
         index = index.wrapping_add(1);
     }
-    Ok(())
 }

@@ -1,8 +1,8 @@
 // Texts, buffers and checks that several test modules use.
 use std::alloc::{AllocError, Allocator, Global};
 use unit_text::{IndexedBuf, UnitText};
-use wtf8::{CodePoint, Wtf8, Wtf8Buf};
-use wtf8_tests::wrong::{Failed, Wrong, expect, expect_bytes, made};
+use wtf8::{CodePoint, IllFormedUtf16CodeUnits, Wtf8, Wtf8Buf};
+use wtf8_tests::wrong::expect_bytes;
 
 /// The slice from unit `begin` to before unit `end`. Fails if this is no range of the text's units.
 pub fn slice_of<A: Allocator + Drop>(
@@ -10,15 +10,40 @@ pub fn slice_of<A: Allocator + Drop>(
     text: &UnitText<A>,
     begin: usize,
     end: usize,
-) -> Result<UnitText<A>, Failed> {
+) -> Result<UnitText<A>, AllocError> {
     if begin > end || end > text.unit_len() {
-        return Err(Failed::by(Wrong::Row));
+        return Err(AllocError);
     }
-    made(text.slice_units(alloc, begin, end))
+    text.slice_units(alloc, begin, end)
+}
+
+/// Whether the string has the bytes of `dump`.
+pub fn has_bytes(alloc: Global, text: Wtf8<'_>, dump: &str) -> bool {
+    expect_bytes(alloc, text, dump).is_ok()
+}
+
+/// Six units that repeat in a text.
+pub fn kinds() -> [[u16; 6]; 5] {
+    [
+        [0x0061; 6],
+        [0x3042; 6],
+        [0xD83D, 0xDCA9, 0xD83D, 0xDCA9, 0xD83D, 0xDCA9],
+        [0x00E9, 0xD83D, 0xDCA9, 0x00E9, 0xD83D, 0xDCA9],
+        [0x0061, 0x3042, 0xDCA9, 0xD83D, 0xDCA9, 0xD83D],
+    ]
+}
+
+/// `length` units that repeat `kind`.
+pub fn units_of(alloc: Global, kind: &[u16; 6], length: usize) -> Result<Vec<u16>, AllocError> {
+    let mut units = Vec::new(alloc);
+    for at in 0..length {
+        units.push(kind[at % 6])?;
+    }
+    Ok(units)
 }
 
 /// Whether the text has `units` by index, and no more.
-fn has_units<A: Allocator>(text: &UnitText<A>, units: &[u16]) -> bool {
+pub fn has_units<A: Allocator>(text: &UnitText<A>, units: &[u16]) -> bool {
     for i in 0..units.len().saturating_add(1) {
         if text.unit_at(i) != units.get(i).copied() {
             return false;
@@ -27,20 +52,14 @@ fn has_units<A: Allocator>(text: &UnitText<A>, units: &[u16]) -> bool {
     text.unit_len() == units.len() && text.unit_at(usize::MAX).is_none()
 }
 
-/// Fails unless the text has `units` by index, and no more.
-pub fn expect_units<A: Allocator>(text: &UnitText<A>, units: &[u16]) -> Result<(), Failed> {
-    expect(has_units(text, units), Wrong::Units)
-}
-
-/// Fails unless the text has `units` by index, and the bytes of `dump`.
-pub fn expect_text<A: Allocator>(
+/// Whether the text has `units` by index, and no more, and the bytes of `dump`.
+pub fn has_text<A: Allocator>(
     alloc: Global,
     text: &UnitText<A>,
     units: &[u16],
     dump: &str,
-) -> Result<(), Failed> {
-    expect_units(text, units)?;
-    expect_bytes(alloc, text.as_wtf8(), dump)
+) -> bool {
+    has_units(text, units) && has_bytes(alloc, text.as_wtf8(), dump)
 }
 
 /// Whether the buffer has `units` by index, and no more.
@@ -53,15 +72,32 @@ pub fn buf_has_units<A: Allocator>(buf: &IndexedBuf<A>, units: &[u16]) -> bool {
     buf.unit_len() == units.len() && buf.unit_at(usize::MAX).is_none()
 }
 
-/// Fails unless the buffer has `units` by index, and no more, and the bytes of `dump`.
-pub fn expect_buf<A: Allocator>(
+/// Whether the buffer has `units` by index, and no more, and the bytes of `dump`.
+pub fn has_buf<A: Allocator>(
     alloc: Global,
     buf: &IndexedBuf<A>,
     units: &[u16],
     dump: &str,
-) -> Result<(), Failed> {
-    expect(buf_has_units(buf, units), Wrong::Units)?;
-    expect_bytes(alloc, buf.as_wtf8(), dump)
+) -> bool {
+    buf_has_units(buf, units) && has_bytes(alloc, buf.as_wtf8(), dump)
+}
+
+/// Whether the iterator has these units left, and no more.
+pub fn has_units_left(mut left: IllFormedUtf16CodeUnits<'_>, units: &[u16]) -> bool {
+    for unit in units {
+        if left.next() != Some(*unit) {
+            return false;
+        }
+    }
+    left.next().is_none()
+}
+
+/// Appends units one by one.
+pub fn push_each<A: Allocator>(buf: &mut IndexedBuf<A>, units: &[u16]) -> Result<(), AllocError> {
+    for unit in units {
+        buf.push_unit(*unit)?;
+    }
+    Ok(())
 }
 
 /// A call of a buffer that appends, with what it appends.
@@ -93,32 +129,33 @@ pub fn push_to<A: Allocator>(
         Push::Char(c) => buf.push_char(c),
         Push::Str(value) => buf.push_str(value),
         Push::Units(units) => buf.push_units(units),
-        Push::View(units) => {
-            let other = Wtf8Buf::from_ill_formed_utf16(alloc, units)?;
-            buf.push_wtf8(other.as_wtf8())
+        Push::View(units) => push_part_of_units(alloc, buf, units, None),
+        Push::Slice(units, begin, end) => {
+            push_part_of_units(alloc, buf, units, Some((begin, end)))
         }
-        Push::Slice(units, begin, end) => push_slice_of_units(alloc, buf, units, (begin, end)),
     }
 }
 
-/// Appends a slice of the string of these units, which `alloc` allocates.
-fn push_slice_of_units<A: Allocator>(
+/// Appends the string of these units, which `alloc` allocates, or its slice where a range is given.
+fn push_part_of_units<A: Allocator>(
     alloc: Global,
     buf: &mut IndexedBuf<A>,
     units: &[u16],
-    range: (usize, usize),
+    range: Option<(usize, usize)>,
 ) -> Result<(), AllocError> {
     let whole = Wtf8Buf::from_ill_formed_utf16(alloc, units)?;
-    push_slice(buf, whole.as_wtf8(), range)
+    push_part(buf, whole.as_wtf8(), range)
 }
 
-/// Appends a slice of a view. Fails if there is no such range of its units.
-fn push_slice<A: Allocator>(
+/// Appends a view, or its slice where a range is given. Fails if there is no such range of its units.
+fn push_part<A: Allocator>(
     buf: &mut IndexedBuf<A>,
     whole: Wtf8<'_>,
-    range: (usize, usize),
+    range: Option<(usize, usize)>,
 ) -> Result<(), AllocError> {
-    let (begin, end) = range;
+    let Some((begin, end)) = range else {
+        return buf.push_wtf8(whole);
+    };
     if end < begin || whole.unit_len() < end {
         return Err(AllocError);
     }

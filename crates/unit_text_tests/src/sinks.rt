@@ -3,7 +3,7 @@ use std::alloc::{AllocError, Global};
 use std::fmt::Write;
 use unit_text::{IndexedBuf, UnitText};
 use wtf8_tests::sinks::Sink;
-use wtf8_tests::wrong::{Failed, Wrong, expect, made};
+use wtf8_tests::wrong::{Failed, Wrong};
 
 /// Writes the debug output, with a sign and a width if `is_styled`, to a sink that refuses write number `refused`.
 /// Fails unless it ends there, or is `expected` if no write is refused. Returns the number of writes.
@@ -26,16 +26,27 @@ fn writes_of(
     sink.expect_end(is_ok, expected)
 }
 
-/// Refuses each write of the debug output in turn. Fails unless the output ends there.
-fn expect_ends(alloc: Global, units: &[u16], expected: &str) -> Result<(), Failed> {
-    let text = UnitText::from_units(alloc, units)?;
-    for is_styled in [false, true] {
-        let writes = writes_of(alloc, &text, is_styled, u32::MAX, expected)?;
-        for refused in 1..=writes {
-            writes_of(alloc, &text, is_styled, refused, expected)?;
+/// Refuses each write of the debug output in turn. Whether the output ends there.
+fn is_ended(alloc: Global, text: &UnitText<Global>, is_styled: bool, expected: &str) -> bool {
+    let Ok(writes) = writes_of(alloc, text, is_styled, u32::MAX, expected) else {
+        return false;
+    };
+    for refused in 1..=writes {
+        if writes_of(alloc, text, is_styled, refused, expected).is_err() {
+            return false;
         }
     }
-    Ok(())
+    true
+}
+
+/// Whether `is_ended` holds of the text of the units, with a sign and a width and without.
+fn is_each_ended(alloc: Global, units: &[u16], expected: &str) -> bool {
+    match UnitText::from_units(alloc, units) {
+        Ok(text) => {
+            is_ended(alloc, &text, false, expected) && is_ended(alloc, &text, true, expected)
+        }
+        Err(_) => false,
+    }
 }
 
 /// The units of a text of more than a thousand bytes, and its debug output.
@@ -50,30 +61,42 @@ fn long_text(alloc: Global) -> Result<(Vec<u16>, String), AllocError> {
     Ok((units, expected))
 }
 
-#[test]
-fn a_debug_text_ends_at_a_refused_write(rt: HostRuntime) -> Result<(), Failed> {
-    expect_ends(rt.alloc(), &[], "\"\"")?;
-    expect_ends(rt.alloc(), &[0xD83D, 0xDCA9], "\"\u{1F4A9}\"")?;
-    expect_ends(
-        rt.alloc(),
-        &[0x0061, 0x00E9, 0x0020, 0xD83D, 0xDCA9, 0xD800],
-        "\"a\u{E9} \u{1F4A9}\\u{D800}\"",
-    )?;
-    expect_ends(
-        rt.alloc(),
-        &[0x0007, 0xDEAD, 0x0007],
-        "\"\u{7}\\u{DEAD}\u{7}\"",
-    )?;
-    let (units, expected) = long_text(rt.alloc())?;
-    expect_ends(rt.alloc(), &units, &expected)
+/// Whether `is_each_ended` holds of the long text.
+fn is_long_ended(alloc: Global) -> bool {
+    match long_text(alloc) {
+        Ok((units, expected)) => is_each_ended(alloc, &units, &expected),
+        Err(_) => false,
+    }
+}
+
+/// Whether `is_each_ended` holds of short texts.
+fn are_short_ended(alloc: Global) -> bool {
+    is_each_ended(alloc, &[], "\"\"")
+        && is_each_ended(alloc, &[0xD83D, 0xDCA9], "\"\u{1F4A9}\"")
+        && is_each_ended(
+            alloc,
+            &[0x0061, 0x00E9, 0x0020, 0xD83D, 0xDCA9, 0xD800],
+            "\"a\u{E9} \u{1F4A9}\\u{D800}\"",
+        )
+        && is_each_ended(alloc, &[0x0007, 0xDEAD, 0x0007], "\"\u{7}\\u{DEAD}\u{7}\"")
 }
 
 #[test]
-fn a_buffer_has_the_debug_text_of_its_view(rt: HostRuntime) -> Result<(), Failed> {
-    let units = [0x0061, 0xD83D, 0xDCA9, 0xD800];
-    let buf = made(IndexedBuf::from_units(rt.alloc(), &units))?;
-    let mut sink = Sink::new(rt.alloc(), u32::MAX);
-    let is_ok = write!(sink, "{buf:?}").is_ok();
-    let expected = "\"a\u{1F4A9}\\u{D800}\"";
-    expect(is_ok && sink.has_taken(expected), Wrong::Outcome)
+fn a_debug_text_ends_at_a_refused_write(rt: HostRuntime) {
+    let alloc = rt.alloc();
+    assert!(rt; are_short_ended(alloc) && is_long_ended(alloc));
+}
+
+/// Whether the buffer of "a", a pair and a lone lead has the debug text of its view.
+fn has_debug_text(alloc: Global) -> bool {
+    let Ok(buf) = IndexedBuf::from_units(alloc, &[0x0061, 0xD83D, 0xDCA9, 0xD800]) else {
+        return false;
+    };
+    let mut sink = Sink::new(alloc, u32::MAX);
+    write!(sink, "{buf:?}").is_ok() && sink.has_taken("\"a\u{1F4A9}\\u{D800}\"")
+}
+
+#[test]
+fn a_buffer_has_the_debug_text_of_its_view(rt: HostRuntime) {
+    assert!(rt; has_debug_text(rt.alloc()));
 }
