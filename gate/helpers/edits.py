@@ -161,7 +161,7 @@ def items_of(path, text):
             continue
         indent, name = (function or constant).groups()
         item = Item("fn" if function else "const", name, path, at, owner if indent else None)
-        item.body, item.end = body_of(lines, at, indent) if function else (at, end_of_constant(lines, at, indent))
+        item.body, item.end = body_of(lines, at, indent) if function else (at, end_of_constant(lines, at))
         found.append(item)
     return found
 
@@ -186,7 +186,8 @@ def body_of(lines, head, indent):
     return first, at
 
 
-def end_of_constant(lines, at, indent):
-    while not (lines[at].endswith(";") and (len(lines[at]) - len(lines[at].lstrip()) == len(indent))):
+def end_of_constant(lines, at):
+    """Returns the line of a constant's semicolon."""
+    while not lines[at].endswith(";"):
         at += 1
     return at
