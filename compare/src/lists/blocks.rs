@@ -186,12 +186,13 @@ const AMONG: [&[u16]; 6] = [
     &[0xE9, 0xE9],
 ];
 
-/// 40 bytes or more of one kind after up to two code points of it and one of `AMONG`: all its units, appended and written.
+/// 40 bytes or more of one kind after one of `AMONG`, which comes first or after one, 8 or 16 code points of the kind: all
+/// units, appended and written. A block has 8 or 16 of them.
 pub fn one_kind_and_another() -> Vec<Vec<Call>> {
     let of_kind = |kind: &[u16]| {
         let fronts = AMONG
             .into_iter()
-            .flat_map(|among| [0, 1, 2].map(|count| (among, count)));
+            .flat_map(|among| [0, 1, 8, 16].map(|count| (among, count)));
         let read = |(among, count): (&[u16], usize)| {
             units_out(
                 &[&kind.repeat(count)[..], among, &kind.repeat(22)].concat(),
