@@ -85,14 +85,16 @@ const char *wtf8_version(void);
 
 /* ---- Making a string ----
  *
- * A wtf8_set_ call uses the string's capacity if the new string fits it, and is not refused then; else it makes a new
- * buffer, and keeps the old one until that is filled. A string without a buffer gets one, which may be refused, also for
- * an empty string.
+ * A wtf8_set_ call uses the string's capacity if the new string fits it, and is not refused then: the bytes of a text or
+ * of another string, and 3 bytes for each of some units, which are not counted in bytes first. Else it makes a new buffer,
+ * and keeps the old one until that is filled. A string without a buffer gets one, which may be refused, also for an empty
+ * string.
  */
 
 /* Replaces the string by `n` units. Never refused if 3 bytes for each fit. If they do not, a string that has a buffer
- * gets a capacity of 3 bytes for each of up to 1,024 units, so that the next call with as many needs no memory. Codes: OK,
- * NO_MEMORY. */
+ * gets a capacity of 3 bytes for each of up to 1,024 units, so that the next call with as many needs no memory. From 1,025
+ * units on it gets what their bytes need, so units of ASCII make a new buffer each time, unless 3 bytes for each are
+ * reserved. Codes: OK, NO_MEMORY. */
 WTF8_CODE wtf8_result wtf8_set_units(wtf8_string *string, const uint16_t *units, size_t n);
 
 /* Replaces the string by a text of `n` bytes. With NOT_UTF8 the position of the first byte that is not UTF-8 is written

@@ -99,6 +99,7 @@ static void test_parts() {
 static void test_building() {
     string s;
     must(s.empty() && s.unit_len() == 0 && s.units().empty() && s.utf8().empty() && s.lossy().empty(), "empty");
+    must(!string(u"a").empty() && !string(nullptr, 0).append_unit(0).empty(), "one byte is not empty");
     must(string(nullptr, 0).empty() && string(u"").empty() && string::from_utf8("").empty(), "strings of nothing");
     s.append(nullptr, 0).append(mixed.data(), 2).append(mixed.substr(2));
     must(s.units() == mixed, "append");

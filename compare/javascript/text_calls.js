@@ -752,6 +752,19 @@ function pairsScript() {
   return calls;
 }
 
+// Texts of lengths about those at which bytes are compared otherwise, searched in a longer one at an index: equal, and
+// with another unit at each index.
+function startsOfEachLengthScript() {
+  const whole = Array.from({ length: 70 }, (_, at) => 0x21 + at);
+  const calls = [['set', ...whole], ['swap']];
+  for (const length of [8, 9, 16, 17, 31, 33, 64]) {
+    const piece = whole.slice(3, 3 + length);
+    const others = piece.map((unit, at) => piece.with(at, unit ^ 1));
+    for (const units of [piece, ...others]) calls.push(['set', ...units], ['swap'], ['startsWith', 3], ['swap']);
+  }
+  return calls;
+}
+
 // Texts of six units that repeat, of lengths about those at which a mark is added. In the last three a pair is divided
 // at some of the marks.
 function nearMarksScripts() {
@@ -776,6 +789,7 @@ function rowScripts() {
     ['', 'a', 'a\u00E9', '\uD55C', 'a\u{1F4A9}'].flatMap((text) => [['fromStr', text], ['length'], ['set'], ['pushStr', text], ['throughWtf8']]),
     ...REPEATING.map((units) => REPEATING.flatMap((others) => slicesScript(units, others))),
     pairsScript(),
+    startsOfEachLengthScript(),
     ...nearMarksScripts(),
   ];
 }

@@ -3,12 +3,14 @@
 pub mod blocks;
 pub mod building;
 pub mod examples;
+pub mod few;
 pub mod generate;
 pub mod indexed;
 pub mod long;
 pub mod marked;
 pub mod pairs;
 pub mod pushed;
+pub mod tables;
 pub mod worked;
 
 use crate::script::Call;
@@ -16,7 +18,7 @@ use crate::script::Call;
 /// The name of a list, and the function that makes its scripts.
 pub type List = (&'static str, fn() -> Vec<Vec<Call>>);
 
-pub const LISTS: [List; 37] = [
+pub const LISTS: [List; 45] = [
     ("worked examples", worked::scripts),
     ("examples", examples::all),
     ("code points at edges", generate::edge_calls),
@@ -60,6 +62,14 @@ pub const LISTS: [List; 37] = [
         pushed::units_from_each_index,
     ),
     ("six thousand units", pushed::far),
+    ("few units pushed", few::pushed),
+    ("strings of one surrogate", few::one_surrogate),
+    ("encoded lengths of four units", tables::encoded_lengths),
+    ("ends of units", tables::ends_of_units),
+    ("one kind and another", blocks::one_kind_and_another),
+    ("ended after letters", blocks::ended_after_letters),
+    ("units after those written", blocks::units_after),
+    ("lengths of pushed texts", indexed::counted),
     ("marks of up to four units", marked::up_to_four_units),
     ("marks about blocks", marked::about_blocks),
     ("worked examples of the indexed string", indexed::worked),

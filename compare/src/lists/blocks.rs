@@ -1,7 +1,7 @@
 //! Lists of scripts on strings about as long as one or more blocks of a search or a copy, and on strings of 65,000
 //! bytes.
 
-use crate::lists::generate::{from_units, registers};
+use crate::lists::generate::{call_on, from_units, registers, with_units};
 use crate::lists::long::{byte_len, changed, changed_at, on, string_in, with_surrogate_at, BASES};
 use crate::script::{Call, Opcode, Operand};
 
@@ -172,10 +172,106 @@ fn ended_at_each_index(front: &[u16], letters: usize, other: &[u16]) -> Vec<Call
     (0..=letters).flat_map(ended).collect()
 }
 
-/// Some of the filled and the last blocks, and strings of up to 24 letters with one wider letter, for the fixed list that
-/// the gate replays.
+/// Code points of two, three and four bytes, of which blocks of one kind are made.
+const OF_ONE_KIND: [&[u16]; 3] = [&[0x43F], &[0x3042], &[0xD83D, 0xDCA9]];
+
+/// Units before or among code points of one kind, which keep a block from being of that kind: ASCII, as many bytes as one
+/// code point or more, and a code point of other bytes at the same positions.
+const AMONG: [&[u16]; 6] = [
+    &[0x2C, 0x20],
+    &[0x20],
+    &[0x61, 0x62, 0x63],
+    &[0x61, 0x62, 0x63, 0x64],
+    &[0x61, 0xE9],
+    &[0xE9, 0xE9],
+];
+
+/// 40 bytes or more of one kind after one of `AMONG`, which comes first or after one, 8 or 16 code points of the kind: all
+/// units, appended and written. A block has 8 or 16 of them.
+pub fn one_kind_and_another() -> Vec<Vec<Call>> {
+    let of_kind = |kind: &[u16]| {
+        let fronts = AMONG
+            .into_iter()
+            .flat_map(|among| [0, 1, 8, 16].map(|count| (among, count)));
+        let read = |(among, count): (&[u16], usize)| {
+            units_out(
+                &[&kind.repeat(count)[..], among, &kind.repeat(22)].concat(),
+                &[],
+            )
+        };
+        fronts.flat_map(read).collect()
+    };
+    OF_ONE_KIND.map(of_kind).to_vec()
+}
+
+/// Letters and one of `WIDER` at the end, so that the units of the last block have just the room that they need or one
+/// less than a store writes.
+pub fn ended_after_letters() -> Vec<Vec<Call>> {
+    let ended = |other: &[u16]| {
+        let lens = [29, 30, 31, 60, 61, 62, 63, 94, 126];
+        let read = |len| units_out(&[&[0x61; 126][..len], other].concat(), &[]);
+        lens.into_iter().flat_map(read).collect()
+    };
+    WIDER.map(ended).to_vec()
+}
+
+/// The most units that a store writes past those of a string.
+const MOST_LANES: usize = 64;
+
+/// Strings of 64 bytes or more of each kind, written to a slice with `MOST_LANES` units after them, which stay.
+pub fn units_after() -> Vec<Vec<Call>> {
+    let of_base = |base: &'static [u16]| {
+        let lens = [64, 97, 383, 384, 400];
+        let read = |bytes| units_out(&units_of_bytes(base, bytes), &[0x7E; MOST_LANES]);
+        lens.into_iter().flat_map(read).collect()
+    };
+    BASES.into_iter().map(of_base).collect()
+}
+
+/// Makes a string of units, appends these to an empty vector, and writes them to a slice with other units after them.
+fn units_out(units: &[u16], after: &[u16]) -> Vec<Call> {
+    let mut calls = string_in(0, units);
+    calls.push(with_units(0, Opcode::AppendUnits, &[]));
+    calls.push(with_units(0, Opcode::WriteUnits, after));
+    calls
+}
+
+/// Strings of 200 CJK units with one lone surrogate in a later block: `into_string`. The encoder tells of a lone
+/// surrogate by a flag of each block, and of each time that its buffer of 512 bytes is filled.
+fn surrogates_in_later_blocks() -> Vec<Call> {
+    let ended = |index| {
+        let units = changed(&[0x4E2D; 200], &[(index, 0xD800)]);
+        [from_units(0, &units), call_on(0, Opcode::IntoString)]
+    };
+    [16, 47, 100, 130, 159, 160, 190, 199]
+        .into_iter()
+        .flat_map(ended)
+        .collect()
+}
+
+/// Strings of lengths about 64 and 128 bytes with another letter at some indexes, in the first 64, the last 64 and both:
+/// compared with the string of letters.
+fn another_letter_in_long() -> Vec<Call> {
+    let mut calls = Vec::new();
+    for len in [65, 100, 127, 128, 129] {
+        let letters = vec![0x61; len];
+        calls.push(from_units(0, &letters));
+        for index in [0, len - 64, 63, 64, len - 2, len - 1] {
+            calls.push(from_units(1, &changed(&letters, &[(index, 0x62)])));
+            calls.push(registers(Opcode::Comparisons, 0, 1));
+        }
+    }
+    calls
+}
+
+/// Some of the filled and the last blocks, strings of up to 24 letters with one wider letter, and others on strings of some
+/// blocks, for the fixed list that the gate replays.
 pub fn chosen() -> Vec<Vec<Call>> {
     let mut scripts = LAST_OF_FILLED.map(|last| filled_by(10, last)).to_vec();
+    scripts.extend(one_kind_and_another());
+    scripts.extend(ended_after_letters());
+    scripts.extend(units_after());
+    scripts.extend([surrogates_in_later_blocks(), another_letter_in_long()]);
     scripts.extend(WIDER.map(|other| ended_at_each_index(&[0x61; 64], 14, other)));
     scripts.extend((0..=24).map(|letters| widened_at_each_index(letters, &[0xE9])));
     scripts

@@ -392,6 +392,15 @@ pub fn with_units(register: u8, opcode: Opcode, units: &[u16]) -> Call {
     Call::new(opcode, operands)
 }
 
+/// A call on the string of a register with code points.
+pub fn with_points(register: u8, opcode: Opcode, points: &[u32]) -> Call {
+    let operands = vec![
+        Operand::Register(register),
+        Operand::Points(points.to_vec()),
+    ];
+    Call::new(opcode, operands)
+}
+
 /// Pushes a code point to the string of a register.
 pub fn push(register: u8, value: u32) -> Call {
     let operands = vec![Operand::Register(register), Operand::Value(value)];

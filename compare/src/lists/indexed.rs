@@ -202,12 +202,66 @@ pub fn about_marks() -> Vec<Vec<Call>> {
     scripts
 }
 
-/// Some of `about_marks`, for the fixed list.
+/// Some of `about_marks`, and texts whose units are counted, for the fixed list.
 pub fn chosen() -> Vec<Vec<Call>> {
     let kinds = [KINDS[2], KINDS[4]].into_iter();
-    kinds
-        .map(|kind| grown_and_cut(kind, SPACING + 1, true))
-        .collect()
+    let grown = kinds.map(|kind| grown_and_cut(kind, SPACING + 1, true));
+    let cut = [true, false].map(cut_and_grown_by_letters);
+    grown.chain(counted()).chain(cut).collect()
+}
+
+/// Code points about U+10000, the first of two units, and of each encoded length.
+const COUNTED: [char; 6] = [
+    'a',
+    '\u{E9}',
+    '\u{D7FF}',
+    '\u{FFFF}',
+    '\u{10000}',
+    '\u{10FFFF}',
+];
+
+/// The number of units after each code point of `COUNTED` is pushed, by each call that takes it, and after texts of up to
+/// nine bytes of it: its last unit, one past it, and the units before each position.
+pub fn counted() -> Vec<Vec<Call>> {
+    COUNTED.map(counted_pushes).to_vec()
+}
+
+fn counted_pushes(c: char) -> Vec<Call> {
+    let text = |count| c.to_string().repeat(count);
+    let push_str = |count| Call::new(Opcode::IndexedPushStr, vec![Operand::Text(text(count))]);
+    let mut pushes = vec![
+        value(Opcode::IndexedPush, u32::from(c)),
+        value(Opcode::IndexedPushChar, u32::from(c)),
+    ];
+    pushes.extend((0..=9 / c.len_utf8()).map(push_str));
+    // "é", so that units are counted by marks and not by bytes.
+    let mut calls = vec![from_units(0, &[0xE9])];
+    for push in pushes {
+        calls.extend(indexed(true));
+        calls.push(push);
+        calls.extend([
+            number(Opcode::IndexedPushUnit, 0x7A),
+            number(Opcode::UnitBefore, 0xFFFF),
+        ]);
+        calls.extend((1..=4).map(|index| number(Opcode::IndexedUnitAt, index)));
+    }
+    calls
+}
+
+/// A marked string of 510 units of two bytes, cut at a position or at a number of units before its marks, and grown by
+/// letters: the marks that it had would be wrong for these.
+fn cut_and_grown_by_letters(by_position: bool) -> Vec<Call> {
+    let mut calls = string_in(0, &string_of(&[0xE9], LONGEST));
+    calls.extend(indexed(true));
+    calls.push(match by_position {
+        true => number(Opcode::IndexedTruncate, 200),
+        false => number(Opcode::IndexedTruncateUnits, 100),
+    });
+    for _ in 0..2 {
+        calls.push(units_of(Opcode::IndexedPushUnits, &[0x61; 200]));
+    }
+    calls.extend(reads_about(500));
+    calls
 }
 
 /// `len` units of a kind.

@@ -2,7 +2,7 @@
 //! calls and the result of each in words.
 
 use crate::lists::generate::{
-    call_on, from_units, push, push_units, pushed, registers, with_text, with_units,
+    call_on, from_units, push, push_units, pushed, registers, with_points, with_text, with_units,
 };
 use crate::lists::long::changed;
 use crate::script::{Build, Call, Opcode, Operand, Step, UNBOUNDED};
@@ -85,14 +85,6 @@ fn encoded(point: u32) -> Vec<Call> {
     let mut calls = pushed(0, &[point]);
     calls.push(items(Opcode::ToIllFormedUtf16));
     calls
-}
-
-fn with_points(register: u8, opcode: Opcode, points: &[u32]) -> Call {
-    let operands = vec![
-        Operand::Register(register),
-        Operand::Points(points.to_vec()),
-    ];
-    Call::new(opcode, operands)
 }
 
 fn with_number(register: u8, opcode: Opcode, number: u16) -> Call {

@@ -4,7 +4,9 @@ use std::fs;
 use std::io::ErrorKind;
 use std::path::Path;
 
-use crate::lists::{blocks, building, examples, generate, indexed, long, pairs, worked};
+use crate::lists::{
+    blocks, building, examples, few, generate, indexed, long, pairs, tables, worked,
+};
 use crate::random::Random;
 use crate::results::original;
 use crate::say;
@@ -68,6 +70,10 @@ fn chosen() -> Vec<Vec<Call>> {
     scripts.extend(blocks::chosen());
     scripts.extend(long::chosen());
     scripts.extend(pairs::chosen());
+    scripts.extend(few::pushed());
+    scripts.extend(few::one_surrogate());
+    scripts.extend(tables::encoded_lengths());
+    scripts.extend(tables::ends_of_units());
     scripts.extend(examples::recorded());
     scripts.extend(worked::scripts());
     scripts.extend(indexed::worked());

@@ -316,7 +316,7 @@ impl<'a> MarkedView<'a> {
         ensures mark { IsMarkOf self.now.text.view result }
         ensures before { result.position ≤ position }
 
-        // A mark of this view at or before `position` has at most `SPACING` more units.
+        // A mark of this view at or before `position` has at most `SPACING + 1` more units.
         ensures close { length self.now.text.view.bytes.now ≢ length (view_units self.now.text.view) → AreEnough self.now.text.view.bytes.now (view_units self.now.text.view) (length self.now.marks.now) → (k n : ℕ) → IsMark self.now.text.view.bytes.now (view_units self.now.text.view) k n → k ≤ position → n ≤ result.units + SPACING + 1 }
     {
         laws::law_marks();

@@ -17,6 +17,13 @@ const WIDE: [u16; 22] = [
     0x00E9, 0x00E9, 0x00E9, 0x00E9, 0x00E9, 0x00E9, 0x00E9, 0x00E9, 0x00E9, 0xDC00,
 ];
 
+/// "a" and 17 units of three bytes. At most 12 units take a path of their own if 48 bytes are spare, and 16 of these take
+/// 48 bytes.
+const FEW: [u16; 18] = [
+    0x0061, 0x3042, 0x3042, 0x3042, 0x3042, 0x3042, 0x3042, 0x3042, 0x3042, 0x3042, 0x3042, 0x3042,
+    0x3042, 0x3042, 0x3042, 0x3042, 0x3042, 0x3042,
+];
+
 /// The length in bytes of the string of these units: a surrogate takes three, and a trail after a lead adds one.
 fn byte_len(units: &[u16]) -> usize {
     let mut len = 0usize;
@@ -152,6 +159,23 @@ fn expect_tables(alloc: Global, heap: Lent<'_>) -> Result<(), Failed> {
         row = row.wrapping_add(1);
     }
     in_row(row, expect_each_push(alloc, heap, &WIDE))
+}
+
+/// Fails unless the units of `FEW` after "a", of each number, do what `expect_pushed` requires, about 48 spare bytes.
+fn expect_few(alloc: Global, heap: Lent<'_>) -> Result<(), Failed> {
+    for count in 1..=FEW.len() {
+        for spare in 46..=50 {
+            in_row(spare, expect_pushed(alloc, heap, &FEW[..count], 1, spare))?;
+        }
+    }
+    Ok(())
+}
+
+#[test]
+fn few_units_are_pushed_without_a_request_just_if_they_fit(rt: HostRuntime) -> Result<(), Failed> {
+    let alloc = rt.alloc();
+    let heap = Refusing::new(alloc, 0);
+    expect_few(alloc, &heap)
 }
 
 #[test]
