@@ -164,8 +164,10 @@ fn expect_tables(alloc: Global, heap: Lent<'_>) -> Result<(), Failed> {
 /// Fails unless the units of `FEW` after "a", of each number, do what `expect_pushed` requires, about 48 spare bytes.
 fn expect_few(alloc: Global, heap: Lent<'_>) -> Result<(), Failed> {
     for count in 1..=FEW.len() {
+        let (units, _) = FEW.split_at(count);
+        let (front, back) = units.split_at(1);
         for spare in 46..=50 {
-            in_row(spare, expect_pushed(alloc, heap, &FEW[..count], 1, spare))?;
+            expect_pushed(alloc, heap, (front, spare), Change::PushUnits(back), units)?;
         }
     }
     Ok(())

@@ -103,9 +103,14 @@ fn nothing_is_pushed_without_room_for_all(rt: HostRuntime) -> Result<(), Failed>
 #[test]
 fn room_for_all_is_enough(rt: HostRuntime) -> Result<(), Failed> {
     let heap = Refusing::new(rt.alloc(), 1);
-    let mut string = made(Wtf8Buf::with_capacity(&heap, 8))?;
-    expect(are_points_pushed(&mut string), Wrong::Requests)?;
+    let Ok(mut string) = Wtf8Buf::with_capacity(&heap, 8) else {
+        return Err(Failed::by(Wrong::Memory));
+    };
+    let are_two = are_points_pushed(&mut string);
     string.clear();
-    expect(is_list_pushed(&mut string), Wrong::Requests)?;
-    expect(string.len() == 8 && heap.requests() == 1, Wrong::Requests)
+    let is_pushed = are_two && is_list_pushed(&mut string);
+    expect(
+        is_pushed && string.len() == 8 && heap.requests() == 1,
+        Wrong::Requests,
+    )
 }
