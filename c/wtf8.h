@@ -85,8 +85,8 @@ const char *wtf8_version(void);
 
 /* ---- Making a string ----
  *
- * A wtf8_set_ call uses the string's capacity if the new string fits it, and is not refused then: the bytes of a text or
- * of another string, and 3 bytes for each of some units, which are not counted in bytes first. Else it makes a new buffer,
+ * A wtf8_set_ call uses the string's capacity if the new string fits it, and is not refused then: of a text or a string
+ * the bytes have to fit, of units 3 bytes for each, since their bytes are not counted first. Else it makes a new buffer,
  * and keeps the old one until that is filled. A string without a buffer gets one, which may be refused, also for an empty
  * string.
  */

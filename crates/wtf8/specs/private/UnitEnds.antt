@@ -42,10 +42,6 @@ high_of_any z y x b =
     if nat_lt y 0xF0 then (if nat_lt z 0xF0 then high_byte y x b else (0xDC + high_byte y x b % 4) % 256)
     else (0xD8 + (high_byte y x b - 4) / 16) % 256
 
--- The unit that ends with the byte `b` after `z`, `y` and `x`, if one does (Unicode 3.9, "UTF-8", Table 3-6).
-abbrev pub unit_at_end : ℕ → ℕ → ℕ → ℕ → ℕ
-unit_at_end z y x b = low_of_any y x b + 256 * high_of_any z y x b
-
 -- Whether a unit ends with `b` after `x`: `b` is no lead byte, and `x` none of three or four bytes. So the third of
 -- four bytes ends a lead, the fourth a trail (Unicode 3.9, "UTF-8", Table 3-6).
 abbrev pub ends_unit : ℕ → ℕ → Bool
@@ -66,11 +62,6 @@ abbrev pub picked : List ℕ → List Bool → List ℕ
 picked [] s = []
 picked (n ∷ u) [] = []
 picked (n ∷ u) (b ∷ s) = if b then n ∷ picked u s else picked u s
-
--- The number of lanes up to the last that is set.
-abbrev pub whole_len : List Bool → ℕ
-whole_len [] = 0
-whole_len (b ∷ s) = if nat_lt 0 (whole_len s) then 1 + whole_len s else if b then 1 else 0
 
 -- The words that consecutive bytes make by twos, the low byte first.
 abbrev pub words : List ℕ → List ℕ

@@ -8,12 +8,13 @@ use Rattle.std.proofs.Math.Nat.{pow-suc}
 use Rattle.std.specs.Cmp.Lexicographic.{same_text}
 use Rattle.std.specs.Int.Count.{leading_unique, count_leading_zeros}
 use Rattle.std.specs.Int.RustNames.{count_ones}
+use Rattle.std.specs.Prelude.{nat_lt, if◌then◌else◌}
 use lib.Count.{ones}
 use lib.Lanes.{all_below, digits_l, number_l, pick_l}
 use Rattle.wtf8.proofs.lemmas.lanes.AsciiFronts.{Each1-map_all}
 use Rattle.wtf8.proofs.lemmas.from_utf16.Kernel.{swz_l-below_16}
 use Rattle.wtf8.proofs.lemmas.from_utf16.ShuffleTable.{rows_below, Each1-all_below}
-use Rattle.wtf8.specs.private.UnitEnds.{picked, words, word_lanes, whole_len, IsPackingRow}
+use Rattle.wtf8.specs.private.UnitEnds.{picked, words, word_lanes, IsPackingRow}
 use Rattle.wtf8.specs.declared.units.packing_table.TheConstants.{PACKING_ROWS}
 
 -- The table, checked row by row.
@@ -153,6 +154,11 @@ eight_lowest s l =
       low = omega (arith, sum, bound, ap mask_l whole, ap mask_l front);
       rest = omega (arith, sum, bound, ap mask_l whole);
     }
+
+-- the number of lanes up to the last that is set
+abbrev pub whole_len : List Bool → ℕ
+whole_len [] = 0
+whole_len (b ∷ s) = if nat_lt 0 (whole_len s) then 1 + whole_len s else if b then 1 else 0
 
 -- the highest bit of the mask is that of the last set lane
 record MaskLength (m n k : ℕ) : Type 0 where

@@ -4,8 +4,9 @@ use Rattle.wtf8.proofs.Common.{drop, get_or, refl, sym, ap, ◌∙◌, subst, ar
 use Rattle.wtf8.proofs.Common.{IsClean, IsWellFormed, BeginsWithUnits, Writes, length-append, nat_tests, drop_at, take-append-drop}
 use Rattle.wtf8.proofs.lemmas.codec.Encoding.{encoding_cases, one, two, three, four, bytes-append, second_row, third_row, fourth_row}
 use Rattle.wtf8.proofs.lemmas.codec.Readings.{units_one, units_two, units-append, clean-first, clean-rest, clean-back, lead_of, trail_of}
-use Rattle.wtf8.specs.private.UnitEnds.{by_position, unit_at_end}
-use Rattle.wtf8.specs.private.UnitEnds.{ends_in_block, set_lanes, picked, whole_len}
+use Rattle.wtf8.proofs.lemmas.units.PackedWords.{whole_len}
+use Rattle.wtf8.proofs.lemmas.units.UnitLanes.{unit_at_end}
+use Rattle.wtf8.specs.private.UnitEnds.{by_position, ends_in_block, set_lanes, picked}
 
 -- The unit at the last byte of each encoding.
 

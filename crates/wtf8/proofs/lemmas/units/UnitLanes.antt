@@ -8,7 +8,7 @@ use lib.Lanes.{pick_l}
 use Rattle.std.specs.List.{range_with_len}
 use Rattle.wtf8.specs.private.UnitEnds.{by_position, bytes_one_before, bytes_two_before, low_byte, high_of_two}
 use Rattle.wtf8.specs.private.UnitEnds.{high_byte, low_of_any, high_of_any}
-use Rattle.wtf8.specs.private.UnitEnds.{unit_at_end, ends_in_block, set_lanes, words, joined_words}
+use Rattle.wtf8.specs.private.UnitEnds.{ends_in_block, set_lanes, words, joined_words}
 
 -- The bytes before each byte.
 
@@ -369,6 +369,10 @@ pub record AreAllWords (low high : List ℕ) : Type 0 where
 pub all_words : (low high : List ℕ) → length low ≡ 32 → length high ≡ 32 → AreAllWords low high
 all_words low high l m = of_32 (λ a. AreAllWords a high) low l (of_32 (λ b. AreAllWords (pick_l 0 low (range_with_len 0 32)) b) high m
     (record { first = refl; second = refl; third = refl; fourth = refl }))
+
+-- the unit that ends with the byte `b` after `z`, `y` and `x`, if one does
+abbrev pub unit_at_end : ℕ → ℕ → ℕ → ℕ → ℕ
+unit_at_end z y x b = low_of_any y x b + 256 * high_of_any z y x b
 
 pub joined_words-by_position : (z y x : ℕ) (u : List ℕ)
     → joined_words (by_position (λ z y x b. low_of_any y x b) z y x u) (by_position high_of_any z y x u) ≡ by_position unit_at_end z y x u

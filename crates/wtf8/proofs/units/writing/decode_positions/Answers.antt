@@ -1,8 +1,8 @@
 use Rattle.wtf8.proofs.Common.{◌≡◌, ℕ, ◌-◌, ◌≤◌, ◌++◌, ◌∙◌, ap, sym, arith, List, length, drop, units, view_units, mask_l, length-drop}
 use lib.Count.{count_leading_zeros}
-use Rattle.wtf8.specs.private.UnitEnds.{picked, joined_words, set_lanes, whole_len}
+use Rattle.wtf8.specs.private.UnitEnds.{picked, joined_words, set_lanes}
 use Rattle.wtf8.proofs.lemmas.codec.Readings.{IsWellFormed-equal_bytes}
-use Rattle.wtf8.proofs.lemmas.units.PackedWords.{leading_zeros-mask_l, whole_len-bound}
+use Rattle.wtf8.proofs.lemmas.units.PackedWords.{leading_zeros-mask_l, whole_len, whole_len-bound}
 use Rattle.wtf8.proofs.lemmas.units.UnitLanes.{length-set_lanes, joined_words-by_position}
 use Rattle.wtf8.proofs.lemmas.units.UnitEnds.{begins_with_block, some_held, Writes-equal_left}
 use Rattle.wtf8.proofs.units.writing.decode_positions.Goals as goal
