@@ -1,11 +1,15 @@
 -- Marks that stay valid when units are appended, and the units after a mark.
-use Rattle.std.proofs.Common.{◌≡◌, ℕ, ◌+◌, ◌<◌, ◌≤◌, List, [], ◌∷◌, ◌++◌, length, ap, arith}
+use Rattle.std.proofs.Common.{◌≡◌, ℕ, zero, suc, ◌+◌, ◌<◌, ◌≤◌, List, [], ◌∷◌, ◌++◌, length, drop, ap, ◌∙◌, sym, subst, add-zero, arith}
 use Rattle.std.proofs.Common.{length-append, ◌≢◌, ◌*◌, ◌/◌, min, get_or, below_more, Option, Some, None, IfSome}
+use Rattle.std.proofs.lemmas.Bool.{false≢true}
 use Rattle.std.proofs.lemmas.List.{get_or_append_left, get_or_push}
-use Rattle.std.specs.Prelude.{vec_capacity}
+use Rattle.std.specs.Prelude.{vec_capacity, ◌↔◌}
 use Rattle.std.specs.declared.vec.Vec.{Vec}
 use Rattle.wtf8.specs.UnitMark.{IsMark, RoundsDownTo, MarksStay}
+use Rattle.wtf8.specs.UnitPosition.{DividesPair}
 use Rattle.wtf8.specs.UnitString.{UnitString}
+use Rattle.wtf8.proofs.lemmas.codec.Readings.{unpaired-nil_left}
+use Rattle.wtf8.proofs.lemmas.units.UnitCuts.{divides_after}
 use Rattle.wtf8.specs.declared.units.marks.UnitMark.{UnitMark}
 use Rattle.unit_text.specs.Marks.{AreEnough, AreKept, AreMarks, IsKept, spacing}
 
@@ -43,3 +47,11 @@ pub chosen_mark_is_close : (w u : List ℕ) (marks : List UnitMark) (units at nu
 chosen_mark_is_close w u marks units at number enough not_ascii h e near =
     let next : (number + 1) * spacing < length u → number + 1 ≤ length marks = enough not_ascii (number + 1) in
     grind arith
+
+-- a cut of the units after `m`, where no pair is divided, divides a pair of the whole exactly if it divides one of these units
+pub divides_after_undivided : (u r : List ℕ) (m k : ℕ) {end : ℕ} → m + k ≡ end → m ≤ length u → r ≡ drop m u → ¬ (DividesPair u m)
+    → k ≤ length r → DividesPair r k ↔ DividesPair u end
+divides_after_undivided u r m zero s in_u e whole in_r =
+    (λ x. absurd (unpaired-nil_left x), λ x. absurd (whole (subst (DividesPair u) (sym s ∙ add-zero m) x)))
+divides_after_undivided u r m (suc k) {end = end} s in_u e whole in_r =
+    divides_after u r None m (suc k) {end = end} (omega (arith, s)) in_u e (λ x. absurd (false≢true x), λ x. absurd (whole x)) (omega arith) in_r

@@ -1,5 +1,5 @@
 // Buffers whose code units are found by their index.
-ghost use Rattle.std.specs.Prelude.{◌≡◌, ◌↔◌, ◌+◌, ◌*◌, ◌-◌, ◌^◌, ◌<◌, ◌≤◌, ℕ, List, [], ◌∷◌, ◌++◌, length, take, drop, slice_get, IsNone, IsTrue, IfOk, IsOk, OnOk, OnErr, vec_capacity};
+ghost use Rattle.std.specs.Prelude.{◌≡◌, ◌↔◌, ◌+◌, ◌*◌, ◌-◌, ◌^◌, ◌<◌, ◌≤◌, ℕ, List, [], ◌∷◌, ◌++◌, length, take, drop, slice_get, IsNone, IsSome, IsTrue, IfOk, IsOk, OnOk, OnErr, vec_capacity};
 ghost use Rattle.std.specs.Str.{chars};
 ghost use Rattle.wtf8.specs.Appending.{AppendsUnits, KeepsContents, HasRoomFor, AddsLength};
 ghost use Rattle.wtf8.specs.CodePoint.{number};
@@ -203,7 +203,11 @@ impl<A: Allocator> IndexedBuf<A> {
     pub fn slice_units(&self, begin: usize, end: usize) -> UnitSlice<'_>
         requires order { begin ≤ end }
         requires within { end ≤ length self.now.units }
-        ensures { units_of_slice result ≡ drop begin (take end self.now.units) }
+        ensures units { units_of_slice result ≡ drop begin (take end self.now.units) }
+
+        // If the part is not empty, it has a half at an end exactly if that end splits a pair.
+        ensures trail { begin < end → (IsSome result.trail ↔ DividesPair self.now.units begin) }
+        ensures lead { begin < end → (IsSome result.lead ↔ DividesPair self.now.units end) }
     {
         self.part(begin, end - begin)
     }
@@ -211,7 +215,9 @@ impl<A: Allocator> IndexedBuf<A> {
     /// The `len` code units from index `begin` on.
     pub(crate) fn part(&self, begin: usize, len: usize) -> UnitSlice<'_>
         requires { begin + len ≤ length self.now.units }
-        ensures { units_of_slice result ≡ take len (drop begin self.now.units) }
+        ensures units { units_of_slice result ≡ take len (drop begin self.now.units) }
+        ensures trail { 0 < len → (IsSome result.trail ↔ DividesPair self.now.units begin) }
+        ensures lead { 0 < len → (IsSome result.lead ↔ DividesPair self.now.units (begin + len)) }
     {
         self.marked().units_from(begin, len)
     }

@@ -1,5 +1,5 @@
 // The marks of a text, from which a unit is found without counting from the front of the text.
-ghost use Rattle.std.specs.Prelude.{◌≡◌, ◌≢◌, ◌+◌, ◌-◌, ◌*◌, ◌/◌, ◌<◌, ◌≤◌, ℕ, List, length, vec_capacity, take, drop, IfSome, IsTrue, ◌↔◌};
+ghost use Rattle.std.specs.Prelude.{◌≡◌, ◌≢◌, ◌+◌, ◌-◌, ◌*◌, ◌/◌, ◌<◌, ◌≤◌, ℕ, List, length, vec_capacity, take, drop, IfSome, IsSome, IsTrue, ◌↔◌};
 ghost use Rattle.std.proofs.Props.{props};
 ghost use Rattle.unit_text.specs.Marks.{AreEnough, AreKept, AreMarks};
 ghost use Rattle.wtf8.specs.OneForm.{IsForm-prop};
@@ -345,18 +345,24 @@ impl<'a> MarkedView<'a> {
         ensures units { drop result.1 (view_units result.0) ≡ drop units (view_units self.now.text.view) }
         ensures within { result.1 ≤ length (view_units result.0) }
         ensures close { AreEnough self.now.text.view.bytes.now (view_units self.now.text.view) (length self.now.marks.now) → result.1 ≤ SPACING + 1 }
+
+        // From `units` on, a cut divides a pair of the rest exactly if it divides one of the text.
+        ensures pairs { (n : ℕ) → result.1 + n ≤ length (view_units result.0) → DividesPair (view_units result.0) (result.1 + n) ↔ DividesPair (view_units self.now.text.view) (units + n) }
     {
         if self.text.count <= SPACING && (units < FRONT || !self.text.is_ascii()) {
             return (self.text.view, units);
         }
         let mark = self.mark_at_or_before(units);
+        laws::law_marks();
         (self.text.view.slice_from_mark(mark), units - mark.units)
     }
 
     /// Returns the `len` units from index `begin` on.
     pub(crate) fn units_from(&self, begin: usize, len: usize) -> UnitSlice<'a>
         requires within { begin + len ≤ self.now.text.count }
-        ensures { units_of_slice result ≡ take len (drop begin (view_units self.now.text.view)) }
+        ensures units { units_of_slice result ≡ take len (drop begin (view_units self.now.text.view)) }
+        ensures trail { 0 < len → (IsSome result.trail ↔ DividesPair (view_units self.now.text.view) begin) }
+        ensures lead { 0 < len → (IsSome result.lead ↔ DividesPair (view_units self.now.text.view) (begin + len)) }
     {
         let (rest, at) = self.rest_from_mark(begin);
         // There are no more units than bytes, so the sum fits.
