@@ -85,10 +85,10 @@ const char *wtf8_version(void);
 
 /* ---- Making a string ----
  *
- * A wtf8_set_ call uses the string's capacity if the new string fits it, and is not refused then: of a text or a string
- * the bytes have to fit, of units 3 bytes for each, since their bytes are not counted first. Else it makes a new buffer,
- * and keeps the old one until that is filled. A string without a buffer gets one, which may be refused, also for an empty
- * string.
+ * A wtf8_set_ call uses the string's capacity if the new string fits it, and keeps it, and is not refused then: of a text
+ * or a string the bytes have to fit, of units 3 bytes for each, since their bytes are not counted first. Else it makes a
+ * new buffer, and keeps the old one until that is filled. A string without a buffer gets one, which may be refused, also
+ * for an empty string.
  */
 
 /* Replaces the string by `n` units. Never refused if 3 bytes for each fit. If they do not, a string that has a buffer
@@ -236,8 +236,9 @@ WTF8_CODE wtf8_result wtf8_truncate_bytes(wtf8_string *string, size_t position);
  * is empty). */
 WTF8_CODE wtf8_result wtf8_pop(wtf8_string *string, uint32_t *code_point);
 
-/* Replaces `into` by the units of `string` from `begin`, found by the marks, to before `end`. Codes: OK, NO_MEMORY,
- * BAD_POSITION (`begin` is greater than `end`, or `end` than the length). */
+/* Replaces `into` by the units of `string` from `begin`, found by the marks, to before `end`. Uses the capacity of `into` as
+ * a wtf8_set_ call does, but makes a new buffer if that is `string` itself. Codes: OK, NO_MEMORY, BAD_POSITION (`begin` is
+ * greater than `end`, or `end` than the length). */
 WTF8_CODE wtf8_result wtf8_slice_units(wtf8_string *into, const wtf8_string *string, size_t begin, size_t end);
 
 /* ---- Copying out ----

@@ -945,6 +945,38 @@ static void set_again(void) {
     wtf8_free(&string);
 }
 
+/* A slice replaces a string in its capacity, and is refused only if it does not fit, also with halves of pairs at its ends. */
+static void sliced_in_place(void) {
+    static const uint16_t units[] = {0xD83D, 0xDCA9, 'a', 0xE9, 0x4E2D, 0xD83D, 0xDCA9};
+    enum { UNITS = sizeof units / sizeof units[0] };
+    wtf8_string whole = WTF8_EMPTY;
+    must(wtf8_set_units(&whole, units, UNITS) == WTF8_OK, "units to slice");
+    for (size_t begin = 0; begin <= UNITS; begin++) {
+        for (size_t end = begin; end <= UNITS; end++) {
+            wtf8_string part = WTF8_EMPTY;
+            must(wtf8_slice_units(&part, &whole, begin, end) == WTF8_OK, "a slice");
+            size_t bytes = wtf8_byte_len(&part);
+            for (size_t missing = 0; missing <= 1 && missing <= bytes; missing++) {
+                wtf8_string into = WTF8_EMPTY;
+                must(wtf8_set_utf8(&into, letters, bytes - missing, NULL) == WTF8_OK, "a string as long as a slice");
+                wtf8_shrink(&into);
+                size_t capacity = wtf8_capacity(&into);
+                must(capacity == bytes - missing, "no spare capacity");
+                refuse_after = 0;
+                wtf8_result code = wtf8_slice_units(&into, &whole, begin, end);
+                refuse_after = -1;
+                must(code == (missing ? WTF8_NO_MEMORY : WTF8_OK), "a slice in place");
+                must(missing ? wtf8_byte_len(&into) == capacity : wtf8_equal(&into, &part), "the string after a slice in place");
+                must(wtf8_capacity(&into) == capacity, "the capacity after a slice in place");
+                wtf8_free(&into);
+            }
+            must_have(&part, units + begin, end - begin, "the units of a slice");
+            wtf8_free(&part);
+        }
+    }
+    wtf8_free(&whole);
+}
+
 /* Code points are taken off the end, each with the units of both halves of a pair, until none is left. */
 static void pops(void) {
     static const uint16_t units[] = {0xDC00, 0xD83D, 0xDCA9, 'a', 0xE9, 0x4E2D, 0xFFFF, 0xDBFF, 0xDFFF, 0xDFFF, 0,
@@ -1085,6 +1117,7 @@ int main(void) {
     reserve();
     replaced_in_place();
     set_again();
+    sliced_in_place();
     pops();
     shrinks();
     kept_capacity();

@@ -17,10 +17,6 @@ use wtf8::{UnitMark, UnitSlice, Wtf8, Wtf8Buf, laws};
 /// most this number of units has no marks.
 pub(crate) const SPACING: usize = 128;
 
-/// In an ASCII text of at most `SPACING` units, units before this index are found from the front; from this index on,
-/// each index is itself a mark. At the front of 40 units `starts_with_at` takes 172 instructions so, 227 from a mark.
-const FRONT: usize = 8;
-
 /// A view with its number of code units.
 #[derive(Clone, Copy)]
 pub(crate) struct CountedView<'a> {
@@ -338,7 +334,7 @@ impl<'a> MarkedView<'a> {
     }
 
     /// Returns the rest of the text after a mark at or before unit index `units`, and the offset of `units` in it. A
-    /// text of at most `SPACING` units is returned whole, unless it is ASCII and `units` is at least `FRONT`.
+    /// text of at most `SPACING` units is returned whole.
     #[inline(always)]
     fn rest_from_mark(&self, units: usize) -> (Wtf8<'a>, usize)
         requires within { units ≤ self.now.text.count }
@@ -349,7 +345,7 @@ impl<'a> MarkedView<'a> {
         // From `units` on, a cut divides a pair of the rest exactly if it divides one of the text.
         ensures pairs { (n : ℕ) → result.1 + n ≤ length (view_units result.0) → DividesPair (view_units result.0) (result.1 + n) ↔ DividesPair (view_units self.now.text.view) (units + n) }
     {
-        if self.text.count <= SPACING && (units < FRONT || !self.text.is_ascii()) {
+        if self.text.count <= SPACING {
             return (self.text.view, units);
         }
         let mark = self.mark_at_or_before(units);
@@ -364,9 +360,39 @@ impl<'a> MarkedView<'a> {
         ensures trail { 0 < len → (IsSome result.trail ↔ DividesPair (view_units self.now.text.view) begin) }
         ensures lead { 0 < len → (IsSome result.lead ↔ DividesPair (view_units self.now.text.view) (begin + len)) }
     {
+        if self.text.is_ascii() {
+            return self.ascii_part(begin, len);
+        }
         let (rest, at) = self.rest_from_mark(begin);
         // There are no more units than bytes, so the sum fits.
         prove!(rest.len() <= usize::MAX);
         rest.slice_units(at, at + len)
+    }
+
+    /// Returns the `len` units from index `begin` on of an ASCII text, in which each index is the position of a mark.
+    fn ascii_part(&self, begin: usize, len: usize) -> UnitSlice<'a>
+        requires within { begin + len ≤ self.now.text.count }
+        requires ascii { length self.now.text.view.bytes.now ≡ length (view_units self.now.text.view) }
+        ensures units { units_of_slice result ≡ take len (drop begin (view_units self.now.text.view)) }
+        ensures trail { 0 < len → (IsSome result.trail ↔ DividesPair (view_units self.now.text.view) begin) }
+        ensures lead { 0 < len → (IsSome result.lead ↔ DividesPair (view_units self.now.text.view) (begin + len)) }
+    {
+        laws::law_marks();
+        let rest = self.text.view.slice_from_mark(UnitMark {
+            position: begin,
+            units: begin,
+        });
+        laws::law_mark(
+            rest,
+            UnitMark {
+                position: len,
+                units: len,
+            },
+        );
+        UnitSlice {
+            trail: None,
+            whole: rest.slice_to(len),
+            lead: None,
+        }
     }
 }

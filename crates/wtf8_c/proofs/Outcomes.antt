@@ -121,3 +121,11 @@ capacity_same same = omega (arith, ap (λ x. x.capacity) same)
 -- no number is both below another and not below it
 pub outside : {A : Type 0} {a b : ℕ} → a < b → b ≤ a → A
 outside l m = absurd (omega arith)
+
+-- a string that another buffer replaces, unless there is no memory for it, has at least the old capacity if that buffer has
+pub replaced_no_smaller : {k : ℤ} {old same new made : UnitString} → (k ≡ pos 0) ⊎ (k ≡ pos 1) → (k ≡ pos 0 → new ≡ made)
+    → (k ≡ pos 1 → new ≡ same) → same ≡ old → old.capacity ≤ made.capacity → old.capacity ≤ new.capacity
+replaced_no_smaller h ok kept e less = elim h [
+  | inl d ↦ omega (arith, ap (λ x. x.capacity) (ok d), less)
+  | inr d ↦ omega (arith, ap (λ x. x.capacity) (kept d ∙ e))
+]

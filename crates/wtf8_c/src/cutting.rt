@@ -1,10 +1,11 @@
 // Calls that shorten a string, and that copy or append a part of one.
 ghost use Rattle.std.specs.Prelude.{◌≡◌, [], ◌∷◌, ◌++◌, ◌⊎◌, ◌<◌, ◌≤◌, ◌↔◌, IsTrue, length, take, drop};
-ghost use Rattle.wtf8.specs.Appending.{AppendsUnits, KeepsContents, HasRoomFor};
+ghost use Rattle.wtf8.specs.Appending.{AppendsUnits, KeepsContents, HasRoomFor, FitWithin};
 ghost use Rattle.wtf8.specs.Position.{IsBoundary, IsFront};
 ghost use Rattle.wtf8.specs.Unicode.{units_of};
 ghost use Rattle.wtf8.specs.UnitPosition.{units_of_slice};
 ghost use Rattle.wtf8_c.specs.Contents.{contents, buffer_contents};
+ghost use Rattle.wtf8_c.specs.Halves.{AreHalves};
 
 use crate::codes::{BAD_POSITION, END, NO_MEMORY, OK, code_of};
 use crate::handle::Wtf8String;
@@ -140,19 +141,45 @@ pub extern "C" fn wtf8_slice_units(
     ensures position { result ≡ BAD_POSITION ↔ ¬ ((begin ≤ end) × (end ≤ length (contents string.old).units)) }
     ensures ok { result ≡ OK → (contents into.new).units ≡ drop begin (take end (contents string.old).units) }
     ensures kept { ¬ (result ≡ OK) → contents into.new ≡ contents into.old }
+    ensures room { IsTrue into.old.full → (begin ≤ end) × (end ≤ length (contents string.old).units) → FitWithin (drop begin (take end (contents string.old).units)) 0 (contents into.old).capacity → result ≡ OK }
     ensures string { contents string.new ≡ contents string.old }
+    ensures capacity { (contents into.old).capacity ≤ (contents into.new).capacity }
 {
     let held = string.take(alloc);
     if end < begin || unit_len(&held) < end {
         string.put_back(held);
         return BAD_POSITION;
     }
-    let mut made = IndexedBuf::new(alloc);
-    let pushed = made.push_unit_slice(slice_of(&held, begin, end));
+    let code = set_part(alloc, into, slice_of(&held, begin, end));
     string.put_back(held);
-    match pushed {
-        Ok(()) => replace(alloc, into, made),
-        Err(_) => NO_MEMORY,
+    code
+}
+
+/// Replaces the string by a copy of a slice, in the buffer's capacity if it fits.
+fn set_part(alloc: Global, string: &mut Wtf8String, slice: UnitSlice<'_>) -> i32
+    requires { AreHalves slice }
+    ensures code { (result ≡ OK) ⊎ (result ≡ NO_MEMORY) }
+    ensures ok { result ≡ OK → (contents string.new).units ≡ units_of_slice slice.entry }
+    ensures kept { result ≡ NO_MEMORY → contents string.new ≡ contents string.old }
+    ensures room { IsTrue string.old.full → FitWithin (units_of_slice slice.entry) 0 (contents string.old).capacity → result ≡ OK }
+    ensures capacity { (contents string.old).capacity ≤ (contents string.new).capacity }
+{
+    // A half of a pair has three bytes.
+    let halves = usize::from(slice.trail.is_some()) + usize::from(slice.lead.is_some());
+    match string.take_if_fits(alloc, slice.whole.len(), 3 * halves) {
+        Some(mut buf) => {
+            buf.clear();
+            let pushed = buf.push_unit_slice(slice);
+            string.put(buf);
+            code_of(pushed)
+        }
+        None => {
+            let mut made = IndexedBuf::new(alloc);
+            match made.push_unit_slice(slice) {
+                Ok(()) => replace(alloc, string, made),
+                Err(_) => NO_MEMORY,
+            }
+        }
     }
 }
 
@@ -207,7 +234,8 @@ fn slice_of(
 ) -> UnitSlice<'_>
     requires order { begin ≤ end }
     requires within { end ≤ length (buffer_contents held.now).units }
-    ensures { units_of_slice result ≡ drop begin (take end (buffer_contents held.now).units) }
+    ensures units { units_of_slice result ≡ drop begin (take end (buffer_contents held.now).units) }
+    ensures halves { AreHalves result }
 {
     match held {
         Some(buf) => buf.slice_units(begin, end),

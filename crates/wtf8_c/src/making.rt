@@ -29,7 +29,7 @@ pub extern "C" fn wtf8_set_units(alloc: Global, string: &mut Wtf8String, units: 
     ensures again { IsTrue string.old.full → length units.now ≤ ROOMY_UNITS → result ≡ OK → 3 * length units.now ≤ (contents string.new).capacity }
 {
     let is_again = string.is_full();
-    match string.take_if_fits(alloc, 3 * units.len()) {
+    match string.take_if_fits(alloc, 3 * units.len(), 0) {
         Some(mut buf) => {
             buf.clear();
             let pushed = buf.push_units(units);
@@ -78,6 +78,7 @@ pub extern "C" fn wtf8_set_utf8(
     ensures ok { result ≡ OK → (contents string.new).units ≡ units (chars text.now) }
     ensures kept { ¬ (result ≡ OK) → contents string.new ≡ contents string.old }
     ensures room { IsTrue string.old.full → IsUtf8 text.now → length text.now ≤ (contents string.old).capacity → result ≡ OK }
+    ensures capacity { (contents string.old).capacity ≤ (contents string.new).capacity }
     ensures valid { result ≡ NOT_UTF8 → valid.new ≡ utf8_valid_len text.now }
     ensures valid_kept { ¬ (result ≡ NOT_UTF8) → valid.new ≡ valid.old }
 {
@@ -101,6 +102,7 @@ pub extern "C" fn wtf8_set_string(
     ensures ok { result ≡ OK → (contents string.new).units ≡ (contents other.old).units }
     ensures kept { result ≡ NO_MEMORY → contents string.new ≡ contents string.old }
     ensures room { IsTrue string.old.full → length (contents other.old).bytes ≤ (contents string.old).capacity → result ≡ OK }
+    ensures capacity { (contents string.old).capacity ≤ (contents string.new).capacity }
     ensures other { contents other.new ≡ contents other.old }
 {
     let held = other.take(alloc);
@@ -115,8 +117,9 @@ pub(crate) fn set_view(alloc: Global, string: &mut Wtf8String, view: Wtf8<'_>) -
     ensures ok { result ≡ OK → (contents string.new).units ≡ view_units view.entry }
     ensures kept { result ≡ NO_MEMORY → contents string.new ≡ contents string.old }
     ensures room { IsTrue string.old.full → length view.entry.bytes.now ≤ (contents string.old).capacity → result ≡ OK }
+    ensures capacity { (contents string.old).capacity ≤ (contents string.new).capacity }
 {
-    match string.take_if_fits(alloc, view.len()) {
+    match string.take_if_fits(alloc, view.len(), 0) {
         Some(mut buf) => {
             buf.clear();
             let pushed = buf.push_wtf8(view);

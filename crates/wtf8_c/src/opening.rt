@@ -1,5 +1,5 @@
 // The buffer of a string, taken out for a call and put back.
-ghost use Rattle.std.specs.Prelude.{◌≡◌, [], ◌≤◌, IsTrue, IsFalse, IsOk, IfOk, OnOk, OnErr, IfSome, IsSome, IsNone, length};
+ghost use Rattle.std.specs.Prelude.{◌≡◌, [], ◌+◌, ◌≤◌, IsTrue, IsFalse, IsOk, IfOk, OnOk, OnErr, IfSome, IsSome, IsNone, length};
 ghost use Rattle.wtf8.specs.View.{view_points, view_units};
 ghost use Rattle.wtf8_c.specs.Contents.{contents, buffer_contents};
 
@@ -23,23 +23,26 @@ impl Wtf8String {
         }
     }
 
-    /// Takes the buffer out if there is one, with a capacity of at least `n` bytes.
+    /// Takes the buffer out if there is one, with a capacity of at least `n` and `more` bytes together.
     pub(crate) fn take_if_fits(
         &mut self,
         alloc: Global,
         n: usize,
+        more: usize,
     ) -> Option<Box<IndexedBuf<Global>, Global>>
         ensures contents { IfSome result (λ b. b.value ≡ contents self.old) }
-        ensures fits { IfSome result (λ b. n ≤ b.value.capacity) }
+        ensures fits { IfSome result (λ b. n + more ≤ b.value.capacity) }
         ensures empty { IsSome result → IsFalse self.new.full }
         ensures kept { IsNone result → contents self.new ≡ contents self.old }
-        ensures room { IsTrue self.old.full → n ≤ (contents self.old).capacity → IsSome result }
+        ensures room { IsTrue self.old.full → n + more ≤ (contents self.old).capacity → IsSome result }
+        ensures no_room { IsNone result → (contents self.old).capacity ≤ n + more }
     {
         if !self.is_full() {
             return None;
         }
         let buf = self.take_parts(alloc).into_box();
-        if buf.capacity() < n {
+        let capacity = buf.capacity();
+        if capacity < n || capacity - n < more {
             self.put(buf);
             return None;
         }
