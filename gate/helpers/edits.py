@@ -98,12 +98,13 @@ def controls(crate):
 class Item:
     """A function or a constant of a source: its lines, from 0 on, and its names.
 
-    `head` is its first line, `body` the first of its body (None if it has none on lines of its own), `end` its last.
+    `top` is the first line of its comment, `head` that of its signature, `body` that of its body (None if it has none on
+    lines of its own), `end` its last.
     """
 
     def __init__(self, kind, name, path, head, owner):
         self.kind, self.name, self.path, self.head, self.owner = kind, name, path, head, owner
-        self.body = self.end = None
+        self.top = self.body = self.end = None
 
     def __repr__(self):
         return f"{self.path}:{self.head + 1} {self.owner or ''} {self.name}"
@@ -161,9 +162,17 @@ def items_of(path, text):
             continue
         indent, name = (function or constant).groups()
         item = Item("fn" if function else "const", name, path, at, owner if indent else None)
+        item.top = top_of(lines, at)
         item.body, item.end = body_of(lines, at, indent) if function else (at, end_of_constant(lines, at))
         found.append(item)
     return found
+
+
+def top_of(lines, head):
+    """Returns the first line of the comment and the attributes above a signature, or its own."""
+    while 0 < head and re.match(r" *(//|#\[)", lines[head - 1]):
+        head -= 1
+    return head
 
 
 def body_of(lines, head, indent):
