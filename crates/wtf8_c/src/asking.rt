@@ -9,11 +9,10 @@ ghost use Rattle.wtf8.specs.UnitPosition.{DividesPair};
 ghost use Rattle.unit_text.specs.Positions.{AreUnitsBefore};
 ghost use Rattle.wtf8_c.specs.Contents.{contents, buffer_contents};
 
-use crate::codes::{AFTER, BAD_POSITION, BEFORE, OK, SAME};
+use crate::codes::{AFTER, BAD_POSITION, BEFORE, OK, SAME, code_of_order};
 use crate::handle::Wtf8String;
-use crate::opening::{unit_len, view};
+use crate::opening::{HeldBuf, unit_len, view};
 use std::alloc::Global;
-use std::cmp::Ordering;
 use unit_text::IndexedBuf;
 
 /// The number of units.
@@ -53,7 +52,7 @@ pub extern "C" fn wtf8_capacity(alloc: Global, string: &mut Wtf8String) -> usize
 }
 
 /// The capacity of the buffer, if there is one.
-fn capacity(held: &Option<Box<IndexedBuf<Global>, Global>>) -> usize
+fn capacity(held: &HeldBuf) -> usize
     ensures { result ≡ (buffer_contents held.now).capacity }
 {
     match held {
@@ -89,11 +88,7 @@ pub extern "C" fn wtf8_position_at(
 }
 
 /// The byte position of the boundary before the unit at `index` of the buffer's string.
-fn find_position(
-    alloc: Global,
-    held: &Option<Box<IndexedBuf<Global>, Global>>,
-    index: usize,
-) -> usize
+fn find_position(alloc: Global, held: &HeldBuf, index: usize) -> usize
     requires { index ≤ length (buffer_contents held.now).units }
     ensures whole { ¬ (DividesPair (buffer_contents held.now).units index) → IsFront (buffer_contents held.now).units result (take index (buffer_contents held.now).units) }
     ensures divided { DividesPair (buffer_contents held.now).units index → IsFront (buffer_contents held.now).units result (take (index - 1) (buffer_contents held.now).units) }
@@ -117,11 +112,7 @@ pub extern "C" fn wtf8_unit_before(alloc: Global, string: &mut Wtf8String, posit
 }
 
 /// The number of units of the buffer's string before the last boundary at or before a position.
-fn count_before(
-    alloc: Global,
-    held: &Option<Box<IndexedBuf<Global>, Global>>,
-    position: usize,
-) -> usize
+fn count_before(alloc: Global, held: &HeldBuf, position: usize) -> usize
     ensures { AreUnitsBefore (buffer_contents held.now).units position result }
 {
     match held {
@@ -157,7 +148,7 @@ pub extern "C" fn wtf8_unit_at(
 }
 
 /// The unit of the buffer's string at an index, if there is one.
-fn find_unit(held: &Option<Box<IndexedBuf<Global>, Global>>, index: usize) -> Option<u16>
+fn find_unit(held: &HeldBuf, index: usize) -> Option<u16>
     ensures { result ≡ slice_get (buffer_contents held.now).units index }
 {
     match held {
@@ -224,11 +215,7 @@ pub extern "C" fn wtf8_compare_units(
     let order = view(&held).cmp_units(&view(&others));
     string.put_back(held);
     other.put_back(others);
-    match order {
-        Ordering::Less => BEFORE,
-        Ordering::Equal => SAME,
-        Ordering::Greater => AFTER,
-    }
+    code_of_order(order)
 }
 
 /// Compares two strings by their code points.
@@ -250,9 +237,5 @@ pub extern "C" fn wtf8_compare_code_points(
     let order = view(&held).cmp(&view(&others));
     string.put_back(held);
     other.put_back(others);
-    match order {
-        Ordering::Less => BEFORE,
-        Ordering::Equal => SAME,
-        Ordering::Greater => AFTER,
-    }
+    code_of_order(order)
 }

@@ -1,7 +1,9 @@
 // What a call returns.
+ghost use Rattle.std.specs.declared.cmp.Ordering.TheVariants.{Less, Equal, Greater};
 ghost use Rattle.std.specs.Prelude.{◌≡◌, IsOk, IsErr, ◌↔◌};
 
 use std::alloc::AllocError;
+use std::cmp::Ordering;
 
 /// The call did what it says.
 pub(crate) const OK: i32 = 0;
@@ -44,5 +46,18 @@ pub(crate) fn code_of(asked: Result<(), AllocError>) -> i32
     match asked {
         Ok(()) => OK,
         Err(_) => NO_MEMORY,
+    }
+}
+
+/// The code of the order of two strings.
+pub(crate) fn code_of_order(order: Ordering) -> i32
+    ensures before { result ≡ BEFORE ↔ order ≡ Less }
+    ensures same { result ≡ SAME ↔ order ≡ Equal }
+    ensures after { result ≡ AFTER ↔ order ≡ Greater }
+{
+    match order {
+        Ordering::Less => BEFORE,
+        Ordering::Equal => SAME,
+        Ordering::Greater => AFTER,
     }
 }

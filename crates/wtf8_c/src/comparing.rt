@@ -6,12 +6,11 @@ ghost use Rattle.wtf8.specs.Order.{Before};
 ghost use Rattle.wtf8.specs.View.{view_units};
 ghost use Rattle.wtf8_c.specs.Contents.{contents, buffer_contents};
 
-use crate::codes::{AFTER, BEFORE, SAME};
+use crate::codes::{AFTER, BEFORE, SAME, code_of_order};
 use crate::handle::Wtf8String;
-use crate::opening::{unit_len, view};
+use crate::opening::{HeldBuf, unit_len, view};
 use std::alloc::Global;
 use std::cmp::Ordering;
-use unit_text::IndexedBuf;
 use wtf8::Wtf8;
 
 /// Whether the units of the string are these.
@@ -42,11 +41,7 @@ pub extern "C" fn wtf8_compare_with_units(
     let held = string.take(alloc);
     let order = compare_units(&held, units);
     string.put_back(held);
-    match order {
-        Ordering::Less => BEFORE,
-        Ordering::Equal => SAME,
-        Ordering::Greater => AFTER,
-    }
+    code_of_order(order)
 }
 
 /// Whether the units of the string from `index` on begin with the units of `other`. An empty `other` is found at each
@@ -71,14 +66,14 @@ pub extern "C" fn wtf8_starts_with(
 }
 
 /// Whether the units of the buffer's string are these.
-fn has_units(held: &Option<Box<IndexedBuf<Global>, Global>>, units: &[u16]) -> bool
+fn has_units(held: &HeldBuf, units: &[u16]) -> bool
     ensures { IsTrue result ↔ (buffer_contents held.now).units ≡ units.now }
 {
     unit_len(held) == units.len() && compare_units(held, units).is_eq()
 }
 
 /// The order of the units of the buffer's string and these.
-fn compare_units(held: &Option<Box<IndexedBuf<Global>, Global>>, units: &[u16]) -> Ordering
+fn compare_units(held: &HeldBuf, units: &[u16]) -> Ordering
     ensures order { MatchOrdering result (Before (buffer_contents held.now).units units.now) ((buffer_contents held.now).units ≡ units.now) (Before units.now (buffer_contents held.now).units) }
     ensures equal { IsTrue (is_eq result) ↔ (buffer_contents held.now).units ≡ units.now }
 {
@@ -87,12 +82,7 @@ fn compare_units(held: &Option<Box<IndexedBuf<Global>, Global>>, units: &[u16]) 
 }
 
 /// Whether the units of the buffer's string from `index` on begin with the `n` units of `other`.
-fn begins_at(
-    held: &Option<Box<IndexedBuf<Global>, Global>>,
-    index: usize,
-    other: Wtf8<'_>,
-    n: usize,
-) -> bool
+fn begins_at(held: &HeldBuf, index: usize, other: Wtf8<'_>, n: usize) -> bool
     requires { n ≡ length (view_units other) }
     ensures { IsTrue result ↔ take (length (view_units other.entry)) (drop index (buffer_contents held.now).units) ≡ view_units other.entry }
 {

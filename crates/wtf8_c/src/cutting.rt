@@ -10,7 +10,7 @@ ghost use Rattle.wtf8_c.specs.Halves.{AreHalves};
 use crate::codes::{BAD_POSITION, END, NO_MEMORY, OK, code_of};
 use crate::handle::Wtf8String;
 use crate::making::replace;
-use crate::opening::{unit_len, view};
+use crate::opening::{HeldBuf, unit_len, view};
 use crate::walking::previous_of;
 use std::alloc::Global;
 use unit_text::IndexedBuf;
@@ -63,10 +63,7 @@ pub extern "C" fn wtf8_truncate_bytes(
 }
 
 /// Shortens the buffer's string to `position` bytes, if there is a buffer.
-fn truncated(
-    held: Option<Box<IndexedBuf<Global>, Global>>,
-    position: usize,
-) -> Option<Box<IndexedBuf<Global>, Global>>
+fn truncated(held: HeldBuf, position: usize) -> HeldBuf
     requires { IsBoundary (buffer_contents held).units position }
     ensures front { IsFront (buffer_contents held).units position (buffer_contents result).units }
     ensures capacity { (buffer_contents result).capacity ≡ (buffer_contents held).capacity }
@@ -227,11 +224,7 @@ fn push_part(alloc: Global, string: &mut Wtf8String, slice: UnitSlice<'_>) -> i3
 }
 
 /// The part of the buffer's string from unit `begin` to before unit `end`.
-fn slice_of(
-    held: &Option<Box<IndexedBuf<Global>, Global>>,
-    begin: usize,
-    end: usize,
-) -> UnitSlice<'_>
+fn slice_of(held: &HeldBuf, begin: usize, end: usize) -> UnitSlice<'_>
     requires order { begin ≤ end }
     requires within { end ≤ length (buffer_contents held.now).units }
     ensures units { units_of_slice result ≡ drop begin (take end (buffer_contents held.now).units) }

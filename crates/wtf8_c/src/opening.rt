@@ -9,9 +9,12 @@ use std::alloc::{AllocError, Global};
 use unit_text::IndexedBuf;
 use wtf8::Wtf8;
 
+/// The buffer of a string while a call works on it, or `None` if the string has none.
+pub(crate) type HeldBuf = Option<Box<IndexedBuf<Global>, Global>>;
+
 impl Wtf8String {
     /// Takes the buffer out, if there is one.
-    pub(crate) fn take(&mut self, alloc: Global) -> Option<Box<IndexedBuf<Global>, Global>>
+    pub(crate) fn take(&mut self, alloc: Global) -> HeldBuf
         ensures contents { buffer_contents result ≡ contents self.old }
         ensures full { IsTrue self.old.full → IsSome result }
         ensures empty { IsFalse self.new.full }
@@ -24,12 +27,7 @@ impl Wtf8String {
     }
 
     /// Takes the buffer out if there is one, with a capacity of at least `n` and `more` bytes together.
-    pub(crate) fn take_if_fits(
-        &mut self,
-        alloc: Global,
-        n: usize,
-        more: usize,
-    ) -> Option<Box<IndexedBuf<Global>, Global>>
+    pub(crate) fn take_if_fits(&mut self, alloc: Global, n: usize, more: usize) -> HeldBuf
         ensures contents { IfSome result (λ b. b.value ≡ contents self.old) }
         ensures fits { IfSome result (λ b. n + more ≤ b.value.capacity) }
         ensures empty { IsSome result → IsFalse self.new.full }
@@ -50,7 +48,7 @@ impl Wtf8String {
     }
 
     /// Puts back what `take` returned.
-    pub(crate) fn put_back(&mut self, held: Option<Box<IndexedBuf<Global>, Global>>)
+    pub(crate) fn put_back(&mut self, held: HeldBuf)
         requires { IsFalse self.old.full }
         ensures { contents self.new ≡ buffer_contents held }
     {
@@ -90,7 +88,7 @@ impl Wtf8String {
 }
 
 /// A view of the buffer's string, or of the empty one if there is no buffer.
-pub(crate) fn view(held: &Option<Box<IndexedBuf<Global>, Global>>) -> Wtf8<'_>
+pub(crate) fn view(held: &HeldBuf) -> Wtf8<'_>
     ensures units { view_units result ≡ (buffer_contents held.now).units }
     ensures points { view_points result ≡ (buffer_contents held.now).form.points }
     ensures bytes { result.bytes.now ≡ (buffer_contents held.now).bytes }
@@ -102,7 +100,7 @@ pub(crate) fn view(held: &Option<Box<IndexedBuf<Global>, Global>>) -> Wtf8<'_>
 }
 
 /// The number of units of the buffer's string, or 0 if there is no buffer. Constant.
-pub(crate) fn unit_len(held: &Option<Box<IndexedBuf<Global>, Global>>) -> usize
+pub(crate) fn unit_len(held: &HeldBuf) -> usize
     ensures { result ≡ length (buffer_contents held.now).units }
 {
     match held {

@@ -7,9 +7,8 @@ ghost use Rattle.wtf8_c.specs.Front.{with_front};
 
 use crate::codes::{ARRAY_TOO_SHORT, BAD_POSITION, HAS_SURROGATE, NO_MEMORY, OK};
 use crate::handle::Wtf8String;
-use crate::opening::{unit_len, view};
+use crate::opening::{HeldBuf, unit_len, view};
 use std::alloc::Global;
-use unit_text::IndexedBuf;
 
 /// Writes all units at the front of `out`, and their number to `len`.
 #[unsafe(no_mangle)]
@@ -138,11 +137,7 @@ fn write_text(text: &[u8], out: &mut [u8], len: &mut usize) -> i32
 }
 
 /// Writes the units of the buffer's string at the front of `out` if they fit, and their number in any case.
-fn write_units(
-    held: &Option<Box<IndexedBuf<Global>, Global>>,
-    out: &mut [u16],
-    len: &mut usize,
-) -> i32
+fn write_units(held: &HeldBuf, out: &mut [u16], len: &mut usize) -> i32
     ensures code { (result ≡ OK) ⊎ (result ≡ ARRAY_TOO_SHORT) }
     ensures short { result ≡ ARRAY_TOO_SHORT ↔ length out.old < length (buffer_contents held.now).units }
     ensures ok { result ≡ OK → out.new ≡ with_front (buffer_contents held.now).units out.old }
@@ -159,13 +154,7 @@ fn write_units(
 }
 
 /// Writes the units from index `begin` to before `end` at the front of `out` if they fit, and their number in any case.
-fn write_part(
-    held: &Option<Box<IndexedBuf<Global>, Global>>,
-    begin: usize,
-    end: usize,
-    out: &mut [u16],
-    len: &mut usize,
-) -> i32
+fn write_part(held: &HeldBuf, begin: usize, end: usize, out: &mut [u16], len: &mut usize) -> i32
     requires order { begin ≤ end }
     requires within { end ≤ length (buffer_contents held.now).units }
     ensures code { (result ≡ OK) ⊎ (result ≡ ARRAY_TOO_SHORT) }
