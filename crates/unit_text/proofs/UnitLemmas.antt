@@ -5,12 +5,7 @@ use Rattle.std.proofs.Math.Seq.{take-append-add, drop-append-add}
 use Rattle.std.proofs.lemmas.List.{drop-drop, drop_all, take-append-drop}
 use Rattle.std.proofs.lemmas.Slice.{take-put_mid, drop-put_mid}
 use borrow.Rule.Slice.PartMut.{put_mid}
-use Rattle.wtf8.specs.Unicode.{units_of}
-use Rattle.wtf8.proofs.lemmas.codec.Readings.{units_one, units_two}
 use Rattle.unit_text.specs.Written.{WritesAt}
-
-pub units_of_lengths : (p : ℕ) → (p < 0x10000 → length (units_of p) ≡ 1) × (0x10000 ≤ p → length (units_of p) ≡ 2)
-units_of_lengths p = (λ h. ap length (units_one p h), λ h. ap length (units_two p h))
 
 -- two parts, one after the other
 pub WritesAt-append : {old mid new : List ℕ} (at : ℕ) (v w : List ℕ) → WritesAt old at v mid → WritesAt mid (at + length v) w new

@@ -308,7 +308,7 @@ impl<A: Allocator> IndexedBuf<A> {
         ensures room_left { length self.old.bytes + length (encoding (number code_point)) ≤ self.old.capacity → IsOk result }
     {
         self.text.push(code_point)?;
-        let more = unit_count(code_point);
+        let more = code_point.len_utf16();
         marks::count_more(&self.text, &mut self.count, &mut self.marks, more);
         Ok(())
     }
@@ -350,7 +350,7 @@ impl<A: Allocator> IndexedBuf<A> {
         ensures ascii_room { c < 0x80 → length self.old.bytes + 1 ≤ self.old.capacity → IsOk result }
     {
         self.text.push_char(c)?;
-        let more = unit_count(CodePoint::from_char(c));
+        let more = CodePoint::from_char(c).len_utf16();
         marks::count_more(&self.text, &mut self.count, &mut self.marks, more);
         Ok(())
     }
@@ -530,13 +530,4 @@ impl<A: Allocator> IndexedBuf<A> {
         let text = CountedView::new(&self.text, self.count);
         MarkedView::new(text, self.marks.as_ref())
     }
-}
-
-/// The number of units of a code point: one below U+10000, else two.
-#[inline(always)]
-#[tactic(auto, using(crate::proofs::UnitLemmas::units_of_lengths))]
-fn unit_count(code_point: CodePoint) -> usize
-    ensures { result ≡ length (units_of (number code_point)) }
-{
-    if code_point.to_u32() < 0x10000 { 1 } else { 2 }
 }

@@ -1,5 +1,5 @@
 -- What follows from the code that a call returns, and from the buffer that it worked on.
-use Rattle.std.proofs.Common.{◌≡◌, ℕ, ◌<◌, ◌≤◌, ◌⊎◌, ◌↔◌, inl, inr, ℤ, pos, negsuc, Bool, false, nat_eq, refl, sym, ap, ◌∙◌}
+use Rattle.std.proofs.Common.{◌≡◌, ℕ, ◌<◌, ◌≤◌, ◌⊎◌, ◌↔◌, inl, inr, ℤ, pos, Bool, false, nat_eq, refl, sym, ap, ◌∙◌}
 use Rattle.std.proofs.Common.{subst}
 use Rattle.std.proofs.Common.{List, ◌++◌, Result, Ok, Err, to_z, of_z, w32, arith}
 use Rattle.std.specs.Prelude.{IsOk, IsErr, OnOk, OnErr, IsTrue}
@@ -13,12 +13,6 @@ use Rattle.wtf8.specs.UnitString.{UnitString}
 -- a code is none of the others
 pub other_code : {A : Type 0} (m n : ℕ) → nat_eq m n ≡ false → pos m ≡ pos n → A
 other_code m n d e = absurd (grind (arith, nat_tests))
-
-pub below_codes : {A : Type 0} (m n : ℕ) → negsuc m ≡ pos n → A
-below_codes m n e = cc
-
-pub above_codes : {A : Type 0} (m n : ℕ) → pos m ≡ negsuc n → A
-above_codes m n e = cc
 
 pub either : {A B C : Type 0} → (A → C) → (B → C) → A ⊎ B → C
 either f g h = elim h [ inl a ↦ f a | inr b ↦ g b ]

@@ -60,9 +60,14 @@ none_within {u} {begin} {next} {end} {p} q b l = elim (cases_lt end next) [
   | inr m ↦ m
 ]
 
+-- the code point before a boundary
+pub record IsPointBefore (u : List ℕ) (end p : ℕ) : Type 0 where
+  pub between : IsPointBetween u (end - length (encoding p)) end p
+  pub within : length (encoding p) ≤ end
+
 -- the code point after the last boundary before another one ends there
 pub ends_at : {u : List ℕ} {begin end p : ℕ} → IsPointBetween u begin (begin + length (encoding p)) p → IsBoundary u end → begin < end
-    → ((k : ℕ) → IsBoundary u k → k ≤ end - 1 → k ≤ begin) → IsPointBetween u begin end p
+    → ((k : ℕ) → IsBoundary u k → k ≤ end - 1 → k ≤ begin) → IsPointBefore u end p
 ends_at {u} {begin} {end} {p} q b l last =
     let next = begin + length (encoding p) in
     let is_boundary : IsBoundary u next = record { front = q.front ++ p ∷ []; back = q.back; splits = q.ends } in
@@ -70,7 +75,11 @@ ends_at {u} {begin} {end} {p} q b l last =
       | inl m ↦ absurd (omega (arith, m, last next is_boundary (omega (arith, m)), length-encoding_bounds p))
       | inr m ↦ omega (arith, m, none_within q b l)
     ] in
-    subst (λ k. IsPointBetween u begin k p) same q
+    let begins : begin ≡ end - length (encoding p) = omega (arith, same) in
+    record {
+      between = subst (λ k. IsPointBetween u k end p) begins (subst (λ k. IsPointBetween u begin k p) same q);
+      within = omega (arith, same);
+    }
 
 -- the code point before the end is the last one
 last_of : {w u : List ℕ} {begin p : ℕ} (f : IsForm w u) (q : IsPointBetween u begin (length w) p) → f.points ≡ q.front ++ p ∷ []
@@ -93,7 +102,6 @@ pub record IsBeforeLast (u : List ℕ) (p n : ℕ) (c : List ℕ) : Type 0 where
   pub front : List ℕ
   pub points : c ≡ front ++ p ∷ []
   pub reads : Reads front (take (length u - n) u)
-  pub within : n ≤ length u
 
 pub before_last : {w u : List ℕ} {begin p n : ℕ} (f : IsForm w u) → IsPointBetween u begin (length w) p → n ≡ length (units_of p)
     → IsBeforeLast u p n f.points
@@ -107,5 +115,4 @@ before_last {w} {u} {begin} {p} {n} f q e =
       front = q.front;
       points = points;
       reads = record { clean = clean-front q.front (p ∷ []) (subst IsClean points f.reads.clean); same_units = front };
-      within = omega (arith, count);
     }

@@ -2,7 +2,6 @@
 ghost use Rattle.std.specs.Prelude.{◌≡◌, [], ◌∷◌, ◌++◌, ◌⊎◌, ◌<◌, ◌≤◌, ◌↔◌, IsTrue, length, take, drop};
 ghost use Rattle.wtf8.specs.Appending.{AppendsUnits, KeepsContents, HasRoomFor, FitWithin};
 ghost use Rattle.wtf8.specs.Position.{IsBoundary, IsFront};
-ghost use Rattle.wtf8.specs.Unicode.{units_of};
 ghost use Rattle.wtf8.specs.UnitPosition.{units_of_slice};
 ghost use Rattle.wtf8_c.specs.Contents.{contents, buffer_contents};
 ghost use Rattle.wtf8_c.specs.Halves.{AreHalves};
@@ -11,7 +10,7 @@ use crate::codes::{BAD_POSITION, END, NO_MEMORY, OK, code_of};
 use crate::handle::Wtf8String;
 use crate::making::replace;
 use crate::opening::{HeldBuf, unit_len, view};
-use crate::walking::previous_of;
+use crate::walking::code_point_before;
 use std::alloc::Global;
 use unit_text::IndexedBuf;
 use wtf8::{UnitSlice, Wtf8};
@@ -108,21 +107,16 @@ fn pop_of(buf: &mut IndexedBuf<Global>, code_point: &mut u32) -> i32
     ensures code_point { result ≡ END → code_point.new ≡ code_point.old }
     ensures capacity { buf.new.capacity ≡ buf.old.capacity }
 {
-    let len = buf.unit_len();
-    let mut position = buf.as_wtf8().len();
-    let code = previous_of(buf.as_wtf8(), &mut position, code_point);
-    if code != OK {
-        return END;
+    let text = buf.as_wtf8();
+    match code_point_before(text, text.len()) {
+        Some(last) => {
+            let len = buf.unit_len();
+            buf.truncate_units(len - last.len_utf16());
+            *code_point = last.to_u32();
+            OK
+        }
+        None => END,
     }
-    buf.truncate_units(len - unit_count(*code_point));
-    OK
-}
-
-/// The number of units of a code point.
-fn unit_count(code_point: u32) -> usize
-    ensures { result ≡ length (units_of code_point) }
-{
-    if code_point < 0x10000 { 1 } else { 2 }
 }
 
 /// Replaces `into` by the units of `string` from index `begin` to before `end`.

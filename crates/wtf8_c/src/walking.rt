@@ -1,5 +1,5 @@
 // Calls that walk over a string, code point by code point.
-ghost use Rattle.std.specs.Prelude.{◌≡◌, ◌⊎◌, ◌+◌, ◌≤◌, ◌↔◌, ℕ, IfSome, IsNone, length};
+ghost use Rattle.std.specs.Prelude.{◌≡◌, ◌⊎◌, ◌+◌, ◌-◌, ◌≤◌, ◌↔◌, IfSome, IsNone, length};
 ghost use Rattle.wtf8.specs.CodePoint.{number};
 ghost use Rattle.wtf8.specs.Form.{encoding};
 ghost use Rattle.wtf8.specs.Position.{IsBoundary};
@@ -81,7 +81,7 @@ fn next_of(text: Wtf8<'_>, position: &mut usize, code_point: &mut u32) -> i32
 }
 
 /// The code point of `text` before `position`, as `wtf8_previous_code_point` writes it.
-pub(crate) fn previous_of(text: Wtf8<'_>, position: &mut usize, code_point: &mut u32) -> i32
+fn previous_of(text: Wtf8<'_>, position: &mut usize, code_point: &mut u32) -> i32
     ensures code { (result ≡ OK) ⊎ ((result ≡ BAD_POSITION) ⊎ (result ≡ END)) }
     ensures position { result ≡ BAD_POSITION ↔ ¬ (IsBoundary (view_units text.entry) position.old) }
     ensures end { result ≡ END ↔ position.old ≡ 0 }
@@ -93,13 +93,9 @@ pub(crate) fn previous_of(text: Wtf8<'_>, position: &mut usize, code_point: &mut
     if !text.is_code_point_boundary(end) {
         return BAD_POSITION;
     }
-    if end == 0 {
-        return END;
-    }
-    let begin = boundary_before(text, end - 1);
-    match code_point_at(text, begin) {
+    match code_point_before(text, end) {
         Some(found) => {
-            *position = begin;
+            *position = end - found.encoded_len();
             *code_point = found.to_u32();
             OK
         }
@@ -117,17 +113,16 @@ fn code_point_at(text: Wtf8<'_>, position: usize) -> Option<CodePoint>
     text.slice_from(position).code_points().next()
 }
 
-/// The last boundary of `text` at or before a position. It goes back at most three bytes, as a code point has at most
-/// three continuation bytes.
-fn boundary_before(text: Wtf8<'_>, position: usize) -> usize
-    requires { position ≤ length text.bytes.now }
-    ensures boundary { IsBoundary (view_units text.entry) result }
-    ensures before { result ≤ position }
-    ensures last { (k : ℕ) → IsBoundary (view_units text.entry) k → k ≤ position → k ≤ result }
+/// The code point of `text` before the boundary `position`, or `None` at the start.
+pub(crate) fn code_point_before(text: Wtf8<'_>, position: usize) -> Option<CodePoint>
+    requires { IsBoundary (view_units text) position }
+    ensures some { IfSome result (λ p. IsPointBetween (view_units text.entry) (position - length (encoding (number p))) position (number p)) }
+    ensures within { IfSome result (λ p. length (encoding (number p)) ≤ position) }
+    ensures none { IsNone result ↔ position ≡ 0 }
 {
-    let mut boundary = position;
-    while !text.is_code_point_boundary(boundary) {
-        boundary -= 1;
+    if position == 0 {
+        return None;
     }
-    boundary
+    let begin = text.boundary_before(position - 1);
+    code_point_at(text, begin)
 }

@@ -108,6 +108,15 @@ fn iterators_show_what_they_have_left(rt: HostRuntime) -> Result<(), Failed> {
     expect_all_left(rt.alloc(), Wtf8::from_str(TEXT))
 }
 
+#[test]
+fn boundaries_before_positions_are_those_of_the_marks(rt: HostRuntime) {
+    let text = Wtf8::from_str(TEXT);
+    for (position, row) in marks().iter().enumerate() {
+        let is_right = position <= text.len() && text.boundary_before(position) == row.0;
+        assert!(rt; is_right, "{position}");
+    }
+}
+
 /// Whether a number is that of a code point of this encoded length.
 fn has_len(number: u32, len: usize) -> bool {
     match CodePoint::from_u32(number) {
@@ -130,5 +139,28 @@ fn encoded_lengths_are_those_of_table_3_6(rt: HostRuntime) {
         (0x10FFFF, 4),
     ] {
         assert!(rt; has_len(number, len), "{number}");
+    }
+}
+
+/// Whether a number is that of a code point of this number of units.
+fn has_units(number: u32, units: usize) -> bool {
+    match CodePoint::from_u32(number) {
+        Some(point) => point.len_utf16() == units,
+        None => false,
+    }
+}
+
+#[test]
+fn numbers_of_units_are_those_of_table_3_5(rt: HostRuntime) {
+    for (number, units) in [
+        (0x00, 1),
+        (0xD7FF, 1),
+        (0xD800, 1),
+        (0xDFFF, 1),
+        (0xFFFF, 1),
+        (0x10000, 2),
+        (0x10FFFF, 2),
+    ] {
+        assert!(rt; has_units(number, units), "{number}");
     }
 }

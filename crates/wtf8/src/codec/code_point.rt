@@ -2,7 +2,7 @@
 ghost use Rattle.std.specs.Prelude.{◌≡◌, ◌≤◌, ◌↔◌, length, IsSome, IfSome, IsNone, IsTrue};
 ghost use Rattle.wtf8.specs.Form.{encoding};
 ghost use Rattle.wtf8.specs.Surrogates.{replace_surrogate};
-ghost use Rattle.wtf8.specs.Unicode.{IsCodePoint, IsSurrogate, IsLead, IsTrail, pair};
+ghost use Rattle.wtf8.specs.Unicode.{IsCodePoint, IsSurrogate, IsLead, IsTrail, pair, units_of};
 
 /// A Unicode code point: a number from 0 to 0x10FFFF, surrogates included.
 ///
@@ -75,6 +75,21 @@ impl CodePoint {
             0x80..=0x7FF => 2,
             0x800..=0xFFFF => 3,
             _ => 4,
+        }
+    }
+
+    /// The number of code units of the code point: 1 below 0x10000, else 2. Of a `char` it is `len_utf16`.
+    #[inline(always)]
+    #[tactic(auto, using(crate::proofs::lemmas::codec::Readings::units_of_lengths))]
+    pub fn len_utf16(&self) -> usize
+        ensures value { result ≡ length (units_of (number self.now)) }
+        ensures at_least_one { 1 ≤ result }
+        ensures at_most_two { result ≤ 2 }
+    {
+        if self.value < FIRST_SUPPLEMENTARY {
+            1
+        } else {
+            2
         }
     }
 

@@ -106,8 +106,9 @@ impl<'a> Wtf8<'a> {
         UnitMark { position, units }
     }
 
-    /// Goes back at most three bytes, since a code point has at most three continuation bytes.
-    pub(crate) fn boundary_before(&self, position: usize) -> usize
+    /// The greatest code point boundary at or before the byte `position`, which must be at most the length. Constant: a
+    /// code point has at most three continuation bytes to go back over.
+    pub fn boundary_before(&self, position: usize) -> usize
         requires { position ≤ length self.now.bytes.now }
         ensures boundary { IsBoundary (view_units self.now) result }
         ensures before { result ≤ position }

@@ -87,6 +87,9 @@ pub units_two : (p : ℕ) → 0x10000 ≤ p → units_of p ≡ lead_of p ∷ tra
 unfolding units_of
 units_two p h = rw (le-ltb p 0x10000 h) refl
 
+pub units_of_lengths : (p : ℕ) → (p < 0x10000 → length (units_of p) ≡ 1) × (0x10000 ≤ p → length (units_of p) ≡ 2)
+units_of_lengths p = (λ h. ap length (units_one p h), λ h. ap length (units_two p h))
+
 pub units_pair : (l t : ℕ) → IsLead l → IsTrail t → units_of (pair l t) ≡ l ∷ t ∷ []
 units_pair l t h k = grind (arith, units_two)
 

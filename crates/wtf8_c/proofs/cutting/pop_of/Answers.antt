@@ -1,34 +1,22 @@
-use Rattle.std.proofs.Common.{◌≡◌, ◌-◌, ◌++◌, ◌∷◌, [], ℕ, ℤ, List, length, take, refl, sym, ap, ◌∙◌, subst, pos, of_z, to_z, w32, arith}
-use Rattle.wtf8.specs.Form.{Reads}
+use Rattle.std.proofs.Common.{◌≡◌, ◌-◌, ◌++◌, ◌∷◌, [], length, take, sym, ap, ◌∙◌, refl, subst, arith}
+use Rattle.wtf8.specs.CodePoint.{number}
+use Rattle.wtf8.specs.Form.{Reads, encoding}
 use Rattle.wtf8.specs.Unicode.{units_of}
-use Rattle.wtf8.specs.UnitString.{UnitString}
 use Rattle.wtf8.proofs.lemmas.codec.Readings.{reads_same}
 use Rattle.wtf8_c.specs.Walks.{IsPointBetween}
-use Rattle.wtf8_c.proofs.Outcomes.{same_code}
-use Rattle.wtf8_c.proofs.Walks.{IsBeforeLast, before_last}
+use Rattle.wtf8_c.proofs.Walks.{before_last}
 use Rattle.wtf8_c.proofs.cutting.pop_of.Goals as goal
 
--- the code point that `previous_of` found before the end of the buffer's view is the last one of the buffer
-found : (s : UnitString) {u : List ℕ} {begin end p n : ℕ} (code : ℤ) → code ≡ to_z w32 (of_z w32 code) → of_z w32 code ≡ 0
-    → (code ≡ pos 0 → IsPointBetween u begin end p) → u ≡ s.units → end ≡ length s.bytes → n ≡ length (units_of p)
-    → IsBeforeLast s.units p n s.form.points
-found s {u} {begin} {end} {p} code same zero ok units bytes =
-    before_last s.form (subst (λ v. IsPointBetween v begin (length s.bytes) p) units
-    (subst (λ k. IsPointBetween u begin k p) bytes (ok (same ∙ ap (to_z w32) zero))))
-
-pub overflow_sub-len : goal.overflow_sub-len
-overflow_sub-len c =
-    let end = c.len-position.ensures.bytes ∙ ap length c.as_wtf8.ensures.bytes in
-    let last = found c.args.buf.now c.previous_of-code.result (sym (same_code c.previous_of-code.type_inv refl)) c.if-code-ne-OK.false
-    c.previous_of-code.ensures.ok c.as_wtf8-2.ensures.units end c.unit_count.ensures in
-    omega (arith, last.within, c.unit_len-len.ensures)
-
-pub returns-clause-ok : goal.returns-clause-ok
-returns-clause-ok c _ =
-    let end = c.len-position.ensures.bytes ∙ ap length c.as_wtf8.ensures.bytes in
-    let last = found c.args.buf.now c.previous_of-code.result (sym (same_code c.previous_of-code.type_inv refl)) c.if-code-ne-OK.false
-    c.previous_of-code.ensures.ok c.as_wtf8-2.ensures.units end c.unit_count.ensures in
+pub returns-in-Some-clause-ok : goal.returns-in-Some-clause-ok
+returns-in-Some-clause-ok c _ =
+    let old = c.args.buf.now in
     let now = c.truncate_units.new.self in
-    let left = ap (λ n. take (n - c.unit_count.result) c.args.buf.now.units) c.unit_len-len.ensures in
-    let reads = subst (λ v. Reads now.form.points v) (c.truncate_units.ensures.units ∙ left) now.form.reads in
-    last.points ∙ ap (λ f. f ++ c.previous_of-code.new.code_point ∷ []) (reads_same last.reads reads)
+    let p = number c.in-Some.last in
+    let end : c.len.result ≡ length old.bytes = c.len.ensures.bytes ∙ ap length c.as_wtf8-text.ensures.bytes in
+    let between = subst (λ k. IsPointBetween old.units (k - length (encoding p)) k p) end
+    (subst (λ u. IsPointBetween u (c.len.result - length (encoding p)) c.len.result p) c.as_wtf8-text.ensures.units c.in-Some.ensures.some) in
+    let last = before_last old.form between refl in
+    let left : now.units ≡ take (length old.units - length (units_of p)) old.units =
+    c.truncate_units.ensures.units ∙ ap (λ n. take n old.units) (omega (arith, c.unit_len-len.ensures, c.len_utf16.ensures.value)) in
+    last.points ∙ ap (λ f. f ++ p ∷ []) (reads_same last.reads (subst (λ v. Reads now.form.points v) left now.form.reads))
+    ∙ ap (λ x. now.form.points ++ x ∷ []) (sym c.to_u32.ensures.value)
