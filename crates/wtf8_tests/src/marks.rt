@@ -108,12 +108,28 @@ fn iterators_show_what_they_have_left(rt: HostRuntime) -> Result<(), Failed> {
     expect_all_left(rt.alloc(), Wtf8::from_str(TEXT))
 }
 
+/// Whether the last boundary of a text at or before a position is this one.
+fn has_boundary_before(text: Wtf8<'_>, position: usize, boundary: usize) -> bool {
+    if text.len() < position {
+        return false;
+    }
+    text.boundary_before(position) == boundary
+}
+
 #[test]
-fn boundaries_before_positions_are_those_of_the_marks(rt: HostRuntime) {
+fn last_boundary_before_a_position(rt: HostRuntime) {
     let text = Wtf8::from_str(TEXT);
-    for (position, row) in marks().iter().enumerate() {
-        let is_right = position <= text.len() && text.boundary_before(position) == row.0;
-        assert!(rt; is_right, "{position}");
+    for (position, boundary) in [
+        (0, 0),
+        (1, 1),
+        (2, 1),
+        (3, 3),
+        (4, 4),
+        (5, 4),
+        (7, 4),
+        (8, 8),
+    ] {
+        assert!(rt; has_boundary_before(text, position, boundary), "{position}");
     }
 }
 
