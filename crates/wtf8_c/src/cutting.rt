@@ -57,23 +57,14 @@ pub extern "C" fn wtf8_truncate_bytes(
         string.put_back(held);
         return BAD_POSITION;
     }
-    string.put_back(truncated(held, position));
-    OK
-}
-
-/// Shortens the buffer's string to `position` bytes, if there is a buffer.
-fn truncated(held: HeldBuf, position: usize) -> HeldBuf
-    requires { IsBoundary (buffer_contents held).units position }
-    ensures front { IsFront (buffer_contents held).units position (buffer_contents result).units }
-    ensures capacity { (buffer_contents result).capacity ≡ (buffer_contents held).capacity }
-{
     match held {
         Some(mut buf) => {
             buf.truncate(position);
-            Some(buf)
+            string.put(buf);
         }
-        None => None,
+        None => (),
     }
+    OK
 }
 
 /// Takes the last code point off, and writes it to `code_point`.
