@@ -108,6 +108,7 @@ impl<'a> Wtf8<'a> {
 
     /// The greatest code point boundary at or before the byte `position`, which must be at most the length. Constant: a
     /// code point has at most three continuation bytes to go back over.
+    #[inline(always)]
     pub fn boundary_before(&self, position: usize) -> usize
         requires { position ≤ length self.now.bytes.now }
         ensures boundary { IsBoundary (view_units self.now) result }
