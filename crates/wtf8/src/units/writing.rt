@@ -5,6 +5,7 @@ ghost use lib.Lanes.{mask_l};
 ghost use Rattle.wtf8.specs.private.Prefixes.{AreAscii};
 ghost use Rattle.wtf8.specs.private.UnitEnds.{picked, words, joined_words};
 ghost use Rattle.wtf8.specs.private.EncodedBytes.{BecomesOrKeeps, BeginsWithUnits, Writes};
+ghost use Rattle.wtf8.specs.private.UnitsOut.{Decodes, HasRoom};
 ghost use Rattle.wtf8.specs.CodePoint.{number};
 ghost use Rattle.wtf8.specs.Unicode.{units_of};
 ghost use Rattle.wtf8.specs.View.{view_units};
@@ -121,9 +122,9 @@ fn pair_of(code_point: CodePoint) -> [u16; 2]
 
 #[inline(always)]
 fn decode_point<'a>(units: &mut [u16], left: Undecoded<'a>) -> Undecoded<'a>
-    requires room { left.at + length (view_units left.view) ≤ length units.old }
+    requires room { HasRoom units.old left }
     requires nonempty { 0 < length left.view.bytes.now }
-    ensures written { Writes units.old left.entry.at (view_units left.entry.view) units.new result.at (view_units result.view) }
+    ensures written { Decodes units.old left.entry units.new result }
     ensures shorter { length result.view.bytes.now < length left.entry.view.bytes.now }
 {
     let bytes = left.view.bytes;
@@ -156,7 +157,7 @@ fn write_front<'a, const N: usize>(
     requires room { left.at + N ≤ length units.old }
     requires within { (count ≤ N) × (width ≤ length left.view.bytes.now) }
     requires begins { BeginsWithUnits left.view.bytes.now (take count block) width }
-    ensures written { Writes units.old left.entry.at (view_units left.entry.view) units.new result.at (view_units result.view) }
+    ensures written { Decodes units.old left.entry units.new result }
     ensures bytes { result.view.bytes.now ≡ drop width left.entry.view.bytes.now }
 {
     store_units(units, left.at, block);
@@ -209,8 +210,8 @@ fn store_block(units: &mut [u16], at: usize, block: UnitEnds) -> usize
 
 #[inline(always)]
 fn decode_points<'a>(units: &mut [u16], left: Undecoded<'a>) -> Undecoded<'a>
-    requires room { left.at + length (view_units left.view) ≤ length units.old }
-    ensures written { Writes units.old left.entry.at (view_units left.entry.view) units.new result.at (view_units result.view) }
+    requires room { HasRoom units.old left }
+    ensures written { Decodes units.old left.entry units.new result }
     ensures all { (result.view.bytes.now ≡ []) × (view_units result.view ≡ []) }
 {
     let mut rest = left;
@@ -224,10 +225,10 @@ fn decode_points<'a>(units: &mut [u16], left: Undecoded<'a>) -> Undecoded<'a>
 /// end, decodes the rest of the string code point by code point.
 #[inline(always)]
 fn decode_positions<'a>(units: &mut [u16], left: Undecoded<'a>, bytes: u8x32) -> Undecoded<'a>
-    requires room { left.at + length (view_units left.view) ≤ length units.old }
+    requires room { HasRoom units.old left }
     requires least { POSITIONS ≤ length left.view.bytes.now }
     requires front { bytes ≡ take POSITIONS left.view.bytes.now }
-    ensures written { Writes units.old left.entry.at (view_units left.entry.view) units.new result.at (view_units result.view) }
+    ensures written { Decodes units.old left.entry units.new result }
     ensures shorter { length result.view.bytes.now < length left.entry.view.bytes.now }
 {
     let block = unit_ends(bytes);
@@ -249,8 +250,8 @@ fn decode_full_blocks<'a, const N: usize, const BYTES: usize, K: EncodedLength<N
     left: Undecoded<'a>,
 ) -> Undecoded<'a>
     requires lanes { (N ≤ POSITIONS) × (0 < BYTES) }
-    requires room { left.at + length (view_units left.view) ≤ length units.old }
-    ensures written { Writes units.old left.entry.at (view_units left.entry.view) units.new result.at (view_units result.view) }
+    requires room { HasRoom units.old left }
+    ensures written { Decodes units.old left.entry units.new result }
     ensures within { length result.view.bytes.now ≤ length left.entry.view.bytes.now }
     ensures same { length result.view.bytes.now ≡ length left.entry.view.bytes.now → result.view.bytes.now ≡ left.entry.view.bytes.now }
 {
@@ -267,8 +268,8 @@ fn decode_full_blocks<'a, const N: usize, const BYTES: usize, K: EncodedLength<N
 /// Decodes full blocks of the encoded length whose units end at these positions of 32 bytes, if there is one.
 #[inline(always)]
 fn decode_one_length<'a>(units: &mut [u16], left: Undecoded<'a>, ends: u64) -> Undecoded<'a>
-    requires room { left.at + length (view_units left.view) ≤ length units.old }
-    ensures written { Writes units.old left.entry.at (view_units left.entry.view) units.new result.at (view_units result.view) }
+    requires room { HasRoom units.old left }
+    ensures written { Decodes units.old left.entry units.new result }
     ensures within { length result.view.bytes.now ≤ length left.entry.view.bytes.now }
     ensures same { length result.view.bytes.now ≡ length left.entry.view.bytes.now → result.view.bytes.now ≡ left.entry.view.bytes.now }
 {
@@ -288,13 +289,13 @@ fn decode_ascii_front<'a>(
     block: u8x32,
     count: usize,
 ) -> Undecoded<'a>
-    requires room { left.at + length (view_units left.view) ≤ length units.old }
+    requires room { HasRoom units.old left }
     requires block_room { left.at + POSITIONS ≤ length units.old }
     requires least { POSITIONS ≤ length left.view.bytes.now }
     requires front { block ≡ take POSITIONS left.view.bytes.now }
     requires few { count < POSITIONS }
     requires ascii { AreAscii (take count block) }
-    ensures written { Writes units.old left.entry.at (view_units left.entry.view) units.new result.at (view_units result.view) }
+    ensures written { Decodes units.old left.entry units.new result }
     ensures shorter { length result.view.bytes.now < length left.entry.view.bytes.now }
 {
     let after = write_front(units, left, widen(block), count, count);
@@ -314,9 +315,9 @@ fn decode_ascii_front<'a>(
 /// The third is told by the positions alone, at which units of other code points may end too: then there is no full block.
 #[inline(always)]
 fn decode_next<'a>(units: &mut [u16], left: Undecoded<'a>) -> Undecoded<'a>
-    requires room { left.at + length (view_units left.view) ≤ length units.old }
+    requires room { HasRoom units.old left }
     requires least { POSITIONS ≤ length left.view.bytes.now }
-    ensures written { Writes units.old left.entry.at (view_units left.entry.view) units.new result.at (view_units result.view) }
+    ensures written { Decodes units.old left.entry units.new result }
     ensures shorter { length result.view.bytes.now < length left.entry.view.bytes.now }
 {
     let bytes = left.view.bytes;
