@@ -253,7 +253,6 @@ fn decode_full_blocks<'a, const N: usize, const BYTES: usize, K: EncodedLength<N
     requires room { HasRoom units.old left }
     ensures written { Decodes units.old left.entry units.new result }
     ensures within { length result.view.bytes.now ≤ length left.entry.view.bytes.now }
-    ensures same { length result.view.bytes.now ≡ length left.entry.view.bytes.now → result.view.bytes.now ≡ left.entry.view.bytes.now }
 {
     let mut rest = left;
     while BYTES <= rest.view.len() {
@@ -263,22 +262,6 @@ fn decode_full_blocks<'a, const N: usize, const BYTES: usize, K: EncodedLength<N
         rest = write_front(units, rest, block, N, BYTES);
     }
     rest
-}
-
-/// Decodes full blocks of the encoded length whose units end at these positions of 32 bytes, if there is one.
-#[inline(always)]
-fn decode_one_length<'a>(units: &mut [u16], left: Undecoded<'a>, ends: u64) -> Undecoded<'a>
-    requires room { HasRoom units.old left }
-    ensures written { Decodes units.old left.entry units.new result }
-    ensures within { length result.view.bytes.now ≤ length left.entry.view.bytes.now }
-    ensures same { length result.view.bytes.now ≡ length left.entry.view.bytes.now → result.view.bytes.now ≡ left.entry.view.bytes.now }
-{
-    match ends {
-        ENDS_OF_TWOS => decode_full_blocks::<16, 32, TwoBytes>(units, left),
-        ENDS_OF_THREES => decode_full_blocks::<8, 24, ThreeBytes>(units, left),
-        ENDS_OF_FOURS => decode_full_blocks::<16, 32, FourBytes>(units, left),
-        _ => left,
-    }
 }
 
 /// Decodes the ASCII bytes at the front of a block and the code point after them.
@@ -335,11 +318,16 @@ fn decode_next<'a>(units: &mut [u16], left: Undecoded<'a>) -> Undecoded<'a>
             return decode_ascii_front(units, left, block, count);
         }
     }
-    let rest = decode_one_length(units, left, end_positions(block));
-    if rest.view.len() < left.view.len() {
+    let rest = match end_positions(block) {
+        ENDS_OF_TWOS => decode_full_blocks::<16, 32, TwoBytes>(units, left),
+        ENDS_OF_THREES => decode_full_blocks::<8, 24, ThreeBytes>(units, left),
+        ENDS_OF_FOURS => decode_full_blocks::<16, 32, FourBytes>(units, left),
+        _ => return decode_positions(units, left, block),
+    };
+    if rest.view.len() < POSITIONS {
         return rest;
     }
-    decode_positions(units, rest, block)
+    decode_positions(units, rest, u8x32::from_slice(rest.view.bytes))
 }
 
 /// May overwrite up to `POSITIONS` later units. Not inlined, so that all callers share the one loop.
