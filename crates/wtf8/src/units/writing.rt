@@ -26,9 +26,9 @@ use std::alloc::{AllocError, Allocator};
 use std::simd::prelude::*;
 
 /// Strings of fewer bytes than this, but for short ASCII ones, are decoded into a buffer on the stack, so that their
-/// units need not be counted first: five CJK units copied by C take 291 instructions for 343. Before ASCII tails went
-/// by eight, with 32 in place of 64, 40 ASCII took 313 for 232; with 128, 12 CJK 247 for 239, though 30 took 398 for
-/// 569.
+/// units need not be counted first: five CJK units copied by C take 291 instructions for 343. An earlier form, in which
+/// the last bytes went by code points too, took with 32 in place of 64 for 40 ASCII 313 instructions for 232; with 128,
+/// for 12 CJK 247 for 239, though for 30 398 for 569.
 const SCRATCH_UNITS: usize = 4 * VECTOR;
 
 /// Where units end in 32 bytes of two-byte code points; below, of three-byte and of four-byte ones.
@@ -285,17 +285,19 @@ fn decode_ascii_front<'a>(
     decode_point(units, after)
 }
 
-/// Decodes the front of a string, by its first 32 bytes:
+/// Decodes the front of a string, which its first 32 bytes choose the way for:
 ///
-/// - 32 ASCII bytes: at once, in 0.78 of the time that blocks of 16 take;
-/// - ASCII bytes before a four-byte code point, and `LEAST_ASCII_FRONT` of them or more before any other: these bytes and
-///   that code point (joined in one condition, emoji in ASCII take 1.08 of the instructions; in the other order, 1.16 of
-///   the time);
-/// - two-, three- or four-byte code points alone: full blocks of them, as long as they come. By positions they take 1.7 to
-///   1.9, four-byte ones 4.2 of the instructions;
-/// - any others: all whole code points, by the positions at which their units end.
+/// - 32 ASCII bytes: widened at once, in 0.78 of the time that blocks of 16 take;
+/// - ASCII bytes before a four-byte code point, or `LEAST_ASCII_FRONT` of them or more before any other, with room for 32
+///   units: these bytes and that code point. Joined in one condition, emoji in ASCII take 1.08 of the instructions; in
+///   the other order, 1.16 of the time;
+/// - two-, three- or four-byte code points alone: full blocks of them, and the 32 bytes after these by positions. All by
+///   positions take 1.7 to 1.9, four-byte ones 3.5 of the instructions. To choose again after the full blocks takes
+///   Japanese 1.08;
+/// - any others: all whole code points, by the positions at which units end.
 ///
-/// The third is told by the positions alone, at which units of other code points may end too: then there is no full block.
+/// Code points of one length are told by these positions alone. Those of other lengths that end units at the same ones
+/// have no full block, and go by positions too.
 #[inline(always)]
 fn decode_next<'a>(units: &mut [u16], left: Undecoded<'a>) -> Undecoded<'a>
     requires room { HasRoom units.old left }
