@@ -26,44 +26,16 @@ abbrev pub lead_byte : List ℕ → ℕ
 lead_byte w = get_or w 0 0
 
 pub DecodesRun-one_byte : DecodesRun 1 (λ b. b < 0x80) (λ w. lead_byte w ∷ []) (map_run 1 lead_byte)
-DecodesRun-one_byte = record {
-  positive = omega arith;
-  width = grind (arith, encoding-from_ascii_byte, get_or_append_left);
-  part = grind (arith, encoding-from_ascii_byte, get_or_append_left, units_one);
-  local = grind (arith, get_or_append_left);
-  none = λ w. refl;
-  more = λ k w. refl;
-}
+DecodesRun-one_byte = grind (arith, encoding-from_ascii_byte, get_or_append_left, units_one)
 
 pub DecodesRun-two_bytes : DecodesRun 2 (λ b. b / 32 ≡ 6) (λ w. unit_of_two w ∷ []) (map_run 2 unit_of_two)
-DecodesRun-two_bytes = record {
-  positive = omega arith;
-  width = grind (arith, get_or_append_left, encoding_cases);
-  part = grind (arith, get_or_append_left, encoding_cases, units_one);
-  local = grind (arith, get_or_append_left);
-  none = λ w. refl;
-  more = λ k w. refl;
-}
+DecodesRun-two_bytes = grind (arith, get_or_append_left, encoding_cases, units_one)
 
 pub DecodesRun-three_bytes : DecodesRun 3 (λ b. b / 16 ≡ 14) (λ w. unit_of_three w ∷ []) (map_run 3 unit_of_three)
-DecodesRun-three_bytes = record {
-  positive = omega arith;
-  width = grind (arith, get_or_append_left, encoding_cases);
-  part = grind (arith, get_or_append_left, encoding_cases, units_one);
-  local = grind (arith, get_or_append_left);
-  none = λ w. refl;
-  more = λ k w. refl;
-}
+DecodesRun-three_bytes = grind (arith, get_or_append_left, encoding_cases, units_one)
 
 pub DecodesRun-four_bytes : DecodesRun 4 (λ b. b / 8 ≡ 30) (λ w. lead_of_four w ∷ trail_of_four w ∷ []) pairs_of_fours
-DecodesRun-four_bytes = record {
-  positive = omega arith;
-  width = grind (arith, get_or_append_left, encoding_cases);
-  part = grind (arith, get_or_append_left, encoding_cases, units_two);
-  local = grind (arith, get_or_append_left);
-  none = λ w. refl;
-  more = λ k w. refl;
-}
+DecodesRun-four_bytes = grind (arith, get_or_append_left, encoding_cases, units_two)
 
 -- the units of `k` code points, if the lead bytes of all satisfy `P`
 units_then_rest : {P : ℕ → Type 0} (n : ℕ) (f : List ℕ → List ℕ) (run : ℕ → List ℕ → List ℕ) → DecodesRun n P f run → (k : ℕ) (w b r : List ℕ)
