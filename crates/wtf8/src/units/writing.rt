@@ -26,9 +26,8 @@ use std::alloc::{AllocError, Allocator};
 use std::simd::prelude::*;
 
 /// Strings of fewer bytes than this, but for short ASCII ones, are decoded into a buffer on the stack, so that their
-/// units need not be counted first: five CJK units copied by C take 291 instructions for 343. An earlier form, in which
-/// the last bytes went by code points too, took with 32 in place of 64 for 40 ASCII 313 instructions for 232; with 128,
-/// for 12 CJK 247 for 239, though for 30 398 for 569.
+/// units need not be counted first: to write five CJK units takes 321 instructions for 379. With 128 in place of 64, 12
+/// take 363 for 353, though 30 take 559 for 683.
 const SCRATCH_UNITS: usize = 4 * VECTOR;
 
 /// Where units end in 32 bytes of two-byte code points; below, of three-byte and of four-byte ones.
