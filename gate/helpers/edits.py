@@ -137,8 +137,8 @@ def owner_of(header):
 
     >>> owner_of("<A: Allocator<X>> Extend<CodePoint> for Wtf8Buf<A> {"), owner_of("<'a> Wtf8<'a>")
     (('Wtf8Buf', 'ExtendCodePoint'), ('Wtf8', None))
-    >>> owner_of(" EncodedLength<8, 2, 16> for TwoBytes")
-    ('TwoBytes', 'EncodedLength8216')
+    >>> owner_of(" EncodedLength<16, 32> for TwoBytes")
+    ('TwoBytes', 'EncodedLength1632')
     """
     words = without_generics(header).split("{")[0].split(" where ")[0]
     trait, _, of = words.strip().rpartition(" for ")

@@ -215,14 +215,15 @@ pub fn ended_after_letters() -> Vec<Vec<Call>> {
     WIDER.map(ended).to_vec()
 }
 
-/// The most units that a store writes past those of a string.
-const MOST_LANES: usize = 64;
+/// The units after those of a string: more than a store writes past them.
+const UNITS_AFTER: usize = 64;
 
-/// Strings of 64 bytes or more of each kind, written to a slice with `MOST_LANES` units after them, which stay.
+/// Strings of 64 bytes or more of each kind, written to a slice with `UNITS_AFTER` units after them, which stay. From 192
+/// bytes on only the units of the last 96 are counted first.
 pub fn units_after() -> Vec<Vec<Call>> {
     let of_base = |base: &'static [u16]| {
-        let lens = [64, 97, 383, 384, 400];
-        let read = |bytes| units_out(&units_of_bytes(base, bytes), &[0x7E; MOST_LANES]);
+        let lens = [64, 97, 191, 192, 383, 384, 400];
+        let read = |bytes| units_out(&units_of_bytes(base, bytes), &[0x7E; UNITS_AFTER]);
         lens.into_iter().flat_map(read).collect()
     };
     BASES.into_iter().map(of_base).collect()

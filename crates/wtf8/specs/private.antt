@@ -5,3 +5,4 @@ pub mod Prefixes
 pub mod Search
 pub mod UnitEnds
 pub mod UnitsInBytes
+pub mod UnitsOut

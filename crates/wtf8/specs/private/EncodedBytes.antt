@@ -73,13 +73,13 @@ abbrev pub BeginsWithUnits : List ℕ → List ℕ → ℕ → Type 0
 BeginsWithUnits w v at = (h : IsWellFormed w) → (rest : IsWellFormed (drop at w)) × (units h.points ≡ v ++ units rest.points)
 
 -- `left` less `rest` was written at `at..end`: `new` before `end`, then `rest`, is `old` before `at`, then `left`. What
--- is at index `end + 64` and later is as before.
+-- is at index `end + 32` and later is as before.
 pub record Writes (old : List ℕ) (at : ℕ) (left new : List ℕ) (end : ℕ) (rest : List ℕ) : Type 0 where
   pub units : take end new ++ rest ≡ take at old ++ left
   pub same_total : end + length rest ≡ at + length left
   pub order : at ≤ end
   pub len : length new ≡ length old
-  pub later : (n : ℕ) → end + 64 ≤ n → drop n new ≡ drop n old
+  pub later : (n : ℕ) → end + 32 ≤ n → drop n new ≡ drop n old
 
 module _ {T E Z : Type 0} where
   -- A call leaves `whole`, or on an error the old items. It succeeds if `whole` fits the capacity, which never shrinks.

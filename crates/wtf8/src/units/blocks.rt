@@ -1,15 +1,9 @@
 // Decodes blocks of WTF-8 code points of one encoded length to code units.
-ghost use Rattle.std.specs.Prelude.{◌≡◌, ◌*◌, ◌/◌, ◌<◌, ◌≤◌, ◌++◌, length, take, drop, get_or, IsTrue};
+ghost use Rattle.std.specs.Prelude.{◌≡◌, ◌*◌, ◌/◌, ◌<◌, ◌≤◌, ◌++◌, length, drop, get_or, IsTrue, IfSome};
 ghost use lib.Lanes.{Each1};
 ghost use Rattle.wtf8.specs.private.EncodedBytes.{BeginsWithUnits, map_run, unit_of_two, unit_of_three, pairs_of_fours};
 
-use crate::lanes::first_set_lane;
 use std::simd::prelude::*;
-
-/// Shuffle indices: the lead bytes of eight two-byte code points; below, their second bytes.
-const FIRST_OF_TWO: [usize; 8] = [0, 2, 4, 6, 8, 10, 12, 14];
-
-const SECOND_OF_TWO: [usize; 8] = [1, 3, 5, 7, 9, 11, 13, 15];
 
 /// Shuffle indices for bytes 0 to 15 and 8 to 23: the lead bytes of eight three-byte code points, twice each; below,
 /// their third and second bytes.
@@ -25,18 +19,13 @@ const BACKS_OF_FOURS: [usize; 16] = [2, 3, 6, 7, 10, 11, 14, 15, 18, 19, 22, 23,
 /// Leads and trails by turns.
 const BY_TURNS: [usize; 16] = [0, 8, 1, 9, 2, 10, 3, 11, 4, 12, 5, 13, 6, 14, 7, 15];
 
-/// Code points of one encoded length, with `WIDTH` bytes for each unit: `N` units are decoded from a load of `BYTES`
-/// bytes.
-pub(crate) trait EncodedLength<const N: usize, const WIDTH: usize, const BYTES: usize> {
-    /// Decodes `N` units as if all code points had this length. Returns them, and how many at the front are right.
-    fn read(bytes: &[u8]) -> ([u16; N], usize)
+/// Code points of one encoded length, which have `N` units in `BYTES` bytes.
+pub(crate) trait EncodedLength<const N: usize, const BYTES: usize> {
+    /// Returns the units of the first `BYTES` bytes, or `None` if not all code points in them have this length.
+    fn read(bytes: &[u8]) -> Option<[u16; N]>
         requires { BYTES ≤ length bytes.now }
-        ensures within { (result.1 ≤ N) × (result.1 ≤ WIDTH * result.1) × (WIDTH * result.1 ≤ BYTES) }
-        ensures more { result.1 < N → WIDTH * result.1 < BYTES }
-        ensures begins { BeginsWithUnits bytes.now (take result.1 result.0) (WIDTH * result.1) };
+        ensures { IfSome result (λ units. (length units ≡ N) × BeginsWithUnits bytes.now units BYTES) };
 }
-
-pub(crate) struct OneByte;
 
 pub(crate) struct TwoBytes;
 
@@ -46,61 +35,12 @@ pub(crate) struct ThreeBytes;
 /// Code points of four bytes, with two units each.
 pub(crate) struct FourBytes;
 
-/// Whether `byte` begins a code point of `width` bytes, at most three.
-#[inline(always)]
-pub(crate) fn is_lead_byte(byte: u8, width: usize) -> bool {
-    match width {
-        1 => byte < 0x80,
-        2 => byte / 32 == 6,
-        _ => byte / 16 == 14,
-    }
-}
-
 #[inline(always)]
 pub(crate) fn widen<const N: usize>(block: Simd<u8, N>) -> [u16; N]
     requires lanes { N ≤ u64.BITS }
     ensures { result ≡ block.entry }
 {
     block.cast::<u16>().to_array()
-}
-
-/// Returns the number of lanes before the first with `byte / size != prefix`. Size and prefix are 128 and 0 for ASCII,
-/// 32 and 6 for lead bytes of two-byte code points (Unicode 3.9, "UTF-8", Table 3-6).
-#[inline(always)]
-fn count_leading_with_prefix<const N: usize>(bytes: Simd<u8, N>, size: u8, prefix: u8) -> usize
-    requires lanes { N ≤ u64.BITS }
-    requires size { 0 < size }
-    ensures within { result ≤ N }
-    ensures each { Each1 (λ b. b / size ≡ prefix) (take result bytes.entry) }
-{
-    let kinds = bytes / Simd::splat(size);
-    first_set_lane(kinds.simd_ne(Simd::splat(prefix)).to_bitmask()).unwrap_or(N)
-}
-
-/// `count_leading_with_prefix` of lanes of 16 bits.
-#[inline(always)]
-fn count_leading_words<const N: usize>(lanes: Simd<u16, N>, size: u16, prefix: u16) -> usize
-    requires lanes { N ≤ u64.BITS }
-    requires size { 0 < size }
-    ensures within { result ≤ N }
-    ensures each { Each1 (λ b. b / size ≡ prefix) (take result lanes.entry) }
-{
-    let kinds = lanes / Simd::splat(size);
-    first_set_lane(kinds.simd_ne(Simd::splat(prefix)).to_bitmask()).unwrap_or(N)
-}
-
-/// Decodes eight two-byte code points. Returns their lead bytes, which are not checked here, and their units.
-#[inline(always)]
-fn read_twos(bytes: u8x16) -> (u8x8, [u16; 8])
-    ensures firsts { result.0 ≡ map_run 2 (λ w. get_or w 0 0) 8 bytes }
-    ensures units { result.1 ≡ map_run 2 unit_of_two 8 bytes }
-{
-    let first: u8x8 = bytes.shuffle(bytes, FIRST_OF_TWO);
-    let second: u8x8 = bytes.shuffle(bytes, SECOND_OF_TWO);
-    let high = (first % u8x8::splat(32)).cast::<u16>();
-    let low = (second % u8x8::splat(64)).cast::<u16>();
-    let units = high.strict_mul(u16x8::splat(64)).strict_add(low);
-    (first, units.to_array())
 }
 
 #[inline(always)]
@@ -159,55 +99,36 @@ fn read_eight_fours(bytes: u8x32) -> (u16x8, [u16; 16])
     (fronts % u16x8::splat(256), units.to_array())
 }
 
-impl EncodedLength<8, 1, 8> for OneByte {
+impl EncodedLength<16, 32> for TwoBytes {
     #[inline(always)]
-    fn read(bytes: &[u8]) -> ([u16; 8], usize) {
-        let block = u8x8::from_slice(bytes);
-        (widen(block), count_leading_with_prefix(block, 128, 0))
-    }
-}
-
-impl EncodedLength<8, 2, 16> for TwoBytes {
-    #[inline(always)]
-    fn read(bytes: &[u8]) -> ([u16; 8], usize) {
-        let (firsts, units) = read_twos(u8x16::from_slice(bytes));
-        (units, count_leading_with_prefix(firsts, 32, 6))
-    }
-}
-
-/// All sixteen code points or none.
-impl EncodedLength<16, 2, 32> for TwoBytes {
-    #[inline(always)]
-    fn read(bytes: &[u8]) -> ([u16; 16], usize) {
+    fn read(bytes: &[u8]) -> Option<[u16; 16]> {
         let (firsts, units) = read_sixteen_twos(u8x32::from_slice(bytes));
         if all_have_prefix(firsts, 32, 6) {
-            return (units, 16);
+            return Some(units);
         }
-        (units, 0)
+        None
     }
 }
 
-/// Full blocks are tested for first: counted alone, CJK takes 16% more instructions.
-impl EncodedLength<8, 3, 24> for ThreeBytes {
+impl EncodedLength<8, 24> for ThreeBytes {
     #[inline(always)]
-    fn read(bytes: &[u8]) -> ([u16; 8], usize) {
+    fn read(bytes: &[u8]) -> Option<[u16; 8]> {
         let back = u8x16::from_slice(&bytes[8..]);
         let (firsts, units) = read_eight_threes(u8x16::from_slice(bytes), back);
         if all_have_prefix(firsts, 4096, 14) {
-            return (units, 8);
+            return Some(units);
         }
-        (units, count_leading_words(firsts, 4096, 14))
+        None
     }
 }
 
-/// All eight code points or none.
-impl EncodedLength<16, 2, 32> for FourBytes {
+impl EncodedLength<16, 32> for FourBytes {
     #[inline(always)]
-    fn read(bytes: &[u8]) -> ([u16; 16], usize) {
+    fn read(bytes: &[u8]) -> Option<[u16; 16]> {
         let (firsts, units) = read_eight_fours(u8x32::from_slice(bytes));
         if all_have_prefix(firsts, 8, 30) {
-            return (units, 16);
+            return Some(units);
         }
-        (units, 0)
+        None
     }
 }

@@ -1,10 +1,11 @@
 // Appends the code units of a view to a vector.
-ghost use Rattle.std.specs.Prelude.{◌≡◌, ℕ, List, Bool, ◌++◌, ◌+◌, ◌*◌, ◌/◌, ◌%◌, ◌^◌, ◌<◌, ◌≤◌, length, take, drop, IsOk, IsTrue, OnOk, OnErr, false, vec_len, vec_capacity};
+ghost use Rattle.std.specs.Prelude.{◌≡◌, ℕ, List, [], Bool, ◌++◌, ◌+◌, ◌*◌, ◌/◌, ◌%◌, ◌^◌, ◌<◌, ◌≤◌, length, take, drop, IsOk, OnOk, OnErr, vec_len, vec_capacity};
 ghost use lib.Count.{ones};
 ghost use lib.Lanes.{mask_l};
 ghost use Rattle.wtf8.specs.private.Prefixes.{AreAscii};
 ghost use Rattle.wtf8.specs.private.UnitEnds.{picked, words, joined_words};
 ghost use Rattle.wtf8.specs.private.EncodedBytes.{BecomesOrKeeps, BeginsWithUnits, Writes};
+ghost use Rattle.wtf8.specs.private.UnitsOut.{Decodes, HasRoom};
 ghost use Rattle.wtf8.specs.CodePoint.{number};
 ghost use Rattle.wtf8.specs.Unicode.{units_of};
 ghost use Rattle.wtf8.specs.View.{view_units};
@@ -16,9 +17,7 @@ use crate::codec::encoding;
 use crate::lanes::VECTOR;
 use crate::lanes::ascii::{ascii_run_len, is_ascii_overlapping};
 use crate::strings::view::Wtf8;
-use crate::units::blocks::{
-    EncodedLength, FourBytes, OneByte, ThreeBytes, TwoBytes, is_lead_byte, widen,
-};
+use crate::units::blocks::{EncodedLength, FourBytes, ThreeBytes, TwoBytes, widen};
 use crate::units::unit_ends::{
     FIRST_OF_FOUR, POSITIONS, UnitEnds, end_positions, interleave, pack_words, unit_ends,
 };
@@ -27,13 +26,9 @@ use std::alloc::{AllocError, Allocator};
 use std::simd::prelude::*;
 
 /// Strings of fewer bytes than this, but for short ASCII ones, are decoded into a buffer on the stack, so that their
-/// units need not be counted first: five CJK units copied by C take 291 instructions for 343. Before ASCII tails went
-/// by eight, with 32 in place of 64, 40 ASCII took 313 for 232; with 128, 12 CJK 247 for 239, though 30 took 398 for
-/// 569.
+/// units need not be counted first: to write five CJK units takes 321 instructions for 379. With 128 in place of 64, 12
+/// take 363 for 353, though 30 take 559 for 683.
 const SCRATCH_UNITS: usize = 4 * VECTOR;
-
-/// From this many bytes on a block of any kind can be loaded, so that the length is compared once for all kinds.
-const LONGEST_LOAD: usize = 2 * VECTOR;
 
 /// Where units end in 32 bytes of two-byte code points; below, of three-byte and of four-byte ones.
 const ENDS_OF_TWOS: u64 = 0xAAAA_AAAA;
@@ -42,20 +37,14 @@ const ENDS_OF_THREES: u64 = 0x2492_4924;
 
 const ENDS_OF_FOURS: u64 = 0xCCCC_CCCC;
 
-/// The bytes of six three-byte code points.
-const SIX_THREES: usize = 18;
-
 /// From this number of ASCII bytes at the front of a block on it is cheaper to decode them and one code point more than
 /// the whole block by positions. With 4, texts that do not repeat, so that a processor cannot foresee how long a front
 /// is, take longer: French 1.2 to 1.3, one accent in six 1.3 to 1.5 of the time.
 const LEAST_ASCII_FRONT: usize = VECTOR;
 
-/// The most lanes of a vector, so the most units that one store writes.
-const MOST_LANES: usize = 64;
-
-/// The bytes at the end of a string of `COUNTED_FROM` bytes or more whose units `write_units` counts: `MOST_LANES`
-/// units or more, since a unit takes at most three. Stores of the bytes before reach no further.
-const COUNTED_BYTES: usize = 3 * MOST_LANES;
+/// The bytes at the end of a string of `COUNTED_FROM` bytes or more whose units `write_units` counts: `POSITIONS` units
+/// or more, since a unit takes at most three. Stores of the bytes before reach no further.
+const COUNTED_BYTES: usize = 3 * POSITIONS;
 
 const COUNTED_FROM: usize = 2 * COUNTED_BYTES;
 
@@ -132,9 +121,9 @@ fn pair_of(code_point: CodePoint) -> [u16; 2]
 
 #[inline(always)]
 fn decode_point<'a>(units: &mut [u16], left: Undecoded<'a>) -> Undecoded<'a>
-    requires room { left.at + length (view_units left.view) ≤ length units.old }
+    requires room { HasRoom units.old left }
     requires nonempty { 0 < length left.view.bytes.now }
-    ensures written { Writes units.old left.entry.at (view_units left.entry.view) units.new result.at (view_units result.view) }
+    ensures written { Decodes units.old left.entry units.new result }
     ensures shorter { length result.view.bytes.now < length left.entry.view.bytes.now }
 {
     let bytes = left.view.bytes;
@@ -163,75 +152,17 @@ fn write_front<'a, const N: usize>(
     count: usize,
     width: usize,
 ) -> Undecoded<'a>
-    requires lanes { N ≤ u64.BITS }
+    requires lanes { N ≤ POSITIONS }
     requires room { left.at + N ≤ length units.old }
     requires within { (count ≤ N) × (width ≤ length left.view.bytes.now) }
     requires begins { BeginsWithUnits left.view.bytes.now (take count block) width }
-    ensures written { Writes units.old left.entry.at (view_units left.entry.view) units.new result.at (view_units result.view) }
+    ensures written { Decodes units.old left.entry units.new result }
     ensures bytes { result.view.bytes.now ≡ drop width left.entry.view.bytes.now }
 {
     store_units(units, left.at, block);
     Undecoded {
         view: left.view.skip_bytes(width),
         at: left.at + count,
-    }
-}
-
-/// Decodes the code points of a kind at the front of one block. Returns whether they fill it: then the next load need
-/// not wait for the count, since the block advances by a constant.
-#[inline(always)]
-fn decode_block<
-    'a,
-    const N: usize,
-    const WIDTH: usize,
-    const BYTES: usize,
-    K: EncodedLength<N, WIDTH, BYTES>,
->(units: &mut [u16], left: Undecoded<'a>) -> (Undecoded<'a>, bool)
-    requires lanes { (0 < N) × (N ≤ u64.BITS) }
-    requires room { left.at + length (view_units left.view) ≤ length units.old }
-    requires nonempty { 0 < length left.view.bytes.now }
-    ensures written { Writes units.old left.entry.at (view_units left.entry.view) units.new result.0.at (view_units result.0.view) }
-    ensures whole { IsTrue result.1 → length result.0.view.bytes.now < length left.entry.view.bytes.now }
-    ensures part { result.1 ≡ false → 0 < length result.0.view.bytes.now }
-    ensures not_longer { length result.0.view.bytes.now ≤ length left.entry.view.bytes.now }
-{
-    let bytes = left.view.bytes;
-    if bytes.len() < BYTES || units.len() - left.at < N {
-        return (left, false);
-    }
-    let (block, count) = K::read(bytes);
-    if count == N {
-        return (write_front(units, left, block, N, WIDTH * N), true);
-    }
-    (write_front(units, left, block, count, WIDTH * count), false)
-}
-
-/// Decodes by blocks, and after one that is not full one code point of any kind, until another kind follows.
-#[inline(always)]
-fn decode_run<
-    'a,
-    const N: usize,
-    const WIDTH: usize,
-    const BYTES: usize,
-    K: EncodedLength<N, WIDTH, BYTES>,
->(units: &mut [u16], left: Undecoded<'a>) -> Undecoded<'a>
-    requires lanes { (0 < N) × (N ≤ u64.BITS) }
-    requires room { left.at + length (view_units left.view) ≤ length units.old }
-    requires nonempty { 0 < length left.view.bytes.now }
-    ensures written { Writes units.old left.entry.at (view_units left.entry.view) units.new result.at (view_units result.view) }
-    ensures shorter { length result.view.bytes.now < length left.entry.view.bytes.now }
-{
-    let mut rest = left;
-    loop {
-        let (after, is_whole) = decode_block::<N, WIDTH, BYTES, K>(units, rest);
-        rest = after;
-        if !is_whole {
-            rest = decode_point(units, after);
-        }
-        let bytes = rest.view.bytes;
-        if bytes.len() < BYTES || bytes.is_empty() || !is_lead_byte(bytes[0], WIDTH) {
-            return rest;
-        }
     }
 }
 
@@ -278,25 +209,25 @@ fn store_block(units: &mut [u16], at: usize, block: UnitEnds) -> usize
 
 #[inline(always)]
 fn decode_points<'a>(units: &mut [u16], left: Undecoded<'a>) -> Undecoded<'a>
-    requires room { left.at + length (view_units left.view) ≤ length units.old }
-    requires nonempty { 0 < length left.view.bytes.now }
-    ensures written { Writes units.old left.entry.at (view_units left.entry.view) units.new result.at (view_units result.view) }
-    ensures shorter { length result.view.bytes.now < length left.entry.view.bytes.now }
+    requires room { HasRoom units.old left }
+    ensures written { Decodes units.old left.entry units.new result }
+    ensures all { (result.view.bytes.now ≡ []) × (view_units result.view ≡ []) }
 {
-    let mut rest = decode_point(units, left);
-    while LONGEST_LOAD <= rest.view.len() {
+    let mut rest = left;
+    while !rest.view.is_empty() {
         rest = decode_point(units, rest);
     }
     rest
 }
 
-/// Without room for the eight units that the last store writes, so near the end, decodes code points one by one.
+/// Decodes all whole code points of 32 bytes. Without room for the eight units that the last store writes, so near the
+/// end, decodes the rest of the string code point by code point.
 #[inline(always)]
 fn decode_positions<'a>(units: &mut [u16], left: Undecoded<'a>, bytes: u8x32) -> Undecoded<'a>
-    requires room { left.at + length (view_units left.view) ≤ length units.old }
+    requires room { HasRoom units.old left }
     requires least { POSITIONS ≤ length left.view.bytes.now }
     requires front { bytes ≡ take POSITIONS left.view.bytes.now }
-    ensures written { Writes units.old left.entry.at (view_units left.entry.view) units.new result.at (view_units result.view) }
+    ensures written { Decodes units.old left.entry units.new result }
     ensures shorter { length result.view.bytes.now < length left.entry.view.bytes.now }
 {
     let block = unit_ends(bytes);
@@ -311,56 +242,23 @@ fn decode_positions<'a>(units: &mut [u16], left: Undecoded<'a>, bytes: u8x32) ->
     }
 }
 
-/// Decodes full blocks of code points of a kind. If there is none, or no room for one, decodes one code point.
+/// Decodes full blocks of code points of one encoded length, as many as follow each other.
 #[inline(always)]
-fn decode_full_blocks<
-    'a,
-    const N: usize,
-    const WIDTH: usize,
-    const BYTES: usize,
-    K: EncodedLength<N, WIDTH, BYTES>,
->(units: &mut [u16], left: Undecoded<'a>) -> Undecoded<'a>
-    requires lanes { (0 < N) × (N ≤ u64.BITS) }
-    requires room { left.at + length (view_units left.view) ≤ length units.old }
-    requires nonempty { 0 < length left.view.bytes.now }
-    ensures written { Writes units.old left.entry.at (view_units left.entry.view) units.new result.at (view_units result.view) }
-    ensures shorter { length result.view.bytes.now < length left.entry.view.bytes.now }
+fn decode_full_blocks<'a, const N: usize, const BYTES: usize, K: EncodedLength<N, BYTES>>(
+    units: &mut [u16],
+    left: Undecoded<'a>,
+) -> Undecoded<'a>
+    requires lanes { (N ≤ POSITIONS) × (0 < BYTES) }
+    requires room { HasRoom units.old left }
+    ensures written { Decodes units.old left.entry units.new result }
+    ensures within { length result.view.bytes.now ≤ length left.entry.view.bytes.now }
 {
     let mut rest = left;
-    while BYTES <= rest.view.len() && N <= units.len() - rest.at {
-        let (block, count) = K::read(rest.view.bytes);
-        if count < N {
-            break;
-        }
-        rest = write_front(units, rest, block, N, WIDTH * N);
-    }
-    if rest.view.len() < left.view.len() {
-        return rest;
-    }
-    decode_point(units, rest)
-}
-
-/// Decodes full blocks of three-byte code points, then the front of each block that is not full and the code point
-/// after it, as long as a lead byte of three is where it would be after six code points of three bytes: a loop of its
-/// own, so that full blocks take no more instructions.
-#[inline(always)]
-fn decode_threes<'a>(units: &mut [u16], left: Undecoded<'a>) -> Undecoded<'a>
-    requires room { left.at + length (view_units left.view) ≤ length units.old }
-    requires nonempty { 0 < length left.view.bytes.now }
-    ensures written { Writes units.old left.entry.at (view_units left.entry.view) units.new result.at (view_units result.view) }
-    ensures shorter { length result.view.bytes.now < length left.entry.view.bytes.now }
-{
-    let mut rest = decode_full_blocks::<8, 3, 24, ThreeBytes>(units, left);
-    while LONGEST_LOAD <= rest.view.len() {
-        let (after, is_whole) = decode_block::<8, 3, 24, ThreeBytes>(units, rest);
-        rest = after;
-        if !is_whole {
-            rest = decode_point(units, after);
-            let bytes = rest.view.bytes;
-            if bytes.len() <= SIX_THREES || !is_lead_byte(bytes[SIX_THREES], 3) {
-                return rest;
-            }
-        }
+    while BYTES <= rest.view.len() {
+        let Some(block) = K::read(rest.view.bytes) else {
+            return rest;
+        };
+        rest = write_front(units, rest, block, N, BYTES);
     }
     rest
 }
@@ -373,29 +271,37 @@ fn decode_ascii_front<'a>(
     block: u8x32,
     count: usize,
 ) -> Undecoded<'a>
-    requires room { left.at + length (view_units left.view) ≤ length units.old }
+    requires room { HasRoom units.old left }
     requires block_room { left.at + POSITIONS ≤ length units.old }
-    requires least { LONGEST_LOAD ≤ length left.view.bytes.now }
-    requires front { block ≡ take LONGEST_LOAD left.view.bytes.now }
+    requires least { POSITIONS ≤ length left.view.bytes.now }
+    requires front { block ≡ take POSITIONS left.view.bytes.now }
     requires few { count < POSITIONS }
     requires ascii { AreAscii (take count block) }
-    ensures written { Writes units.old left.entry.at (view_units left.entry.view) units.new result.at (view_units result.view) }
+    ensures written { Decodes units.old left.entry units.new result }
     ensures shorter { length result.view.bytes.now < length left.entry.view.bytes.now }
 {
     let after = write_front(units, left, widen(block), count, count);
     decode_point(units, after)
 }
 
-/// Decodes 32 ASCII bytes, in 0.78 of the time that blocks of 16 take; or the ASCII bytes at the front and one other
-/// code point, if a supplementary one follows or at least `LEAST_ASCII_FRONT` are ASCII (joined in one condition, emoji
-/// in ASCII take 1.08 of the instructions; in the other order, 1.16 of the time); or full blocks of two-, three- or
-/// four-byte code points, which take 1.7 to 1.9 by positions, four-byte ones 4.2 of the instructions; or all whole code
-/// points in 32 bytes. The positions of unit ends only choose: each way is right for any bytes.
+/// Decodes the front of a string, which its first 32 bytes choose the way for:
+///
+/// - 32 ASCII bytes: widened at once, in 0.78 of the time that blocks of 16 take;
+/// - ASCII bytes before a four-byte code point, or `LEAST_ASCII_FRONT` of them or more before any other, with room for 32
+///   units: these bytes and that code point. Joined in one condition, emoji in ASCII take 1.08 of the instructions; in
+///   the other order, 1.16 of the time;
+/// - two-, three- or four-byte code points alone: full blocks of them, and the 32 bytes after these by positions. All by
+///   positions take 1.7 to 1.9, four-byte ones 3.5 of the instructions. To choose again after the full blocks takes
+///   Japanese 1.08;
+/// - any others: all whole code points, by the positions at which units end.
+///
+/// Code points of one length are told by these positions alone. Those of other lengths that end units at the same ones
+/// have no full block, and go by positions too.
 #[inline(always)]
 fn decode_next<'a>(units: &mut [u16], left: Undecoded<'a>) -> Undecoded<'a>
-    requires room { left.at + length (view_units left.view) ≤ length units.old }
-    requires least { LONGEST_LOAD ≤ length left.view.bytes.now }
-    ensures written { Writes units.old left.entry.at (view_units left.entry.view) units.new result.at (view_units result.view) }
+    requires room { HasRoom units.old left }
+    requires least { POSITIONS ≤ length left.view.bytes.now }
+    ensures written { Decodes units.old left.entry units.new result }
     ensures shorter { length result.view.bytes.now < length left.entry.view.bytes.now }
 {
     let bytes = left.view.bytes;
@@ -413,59 +319,32 @@ fn decode_next<'a>(units: &mut [u16], left: Undecoded<'a>) -> Undecoded<'a>
             return decode_ascii_front(units, left, block, count);
         }
     }
-    let ends = end_positions(block);
-    if ends == ENDS_OF_TWOS {
-        return decode_full_blocks::<16, 2, 32, TwoBytes>(units, left);
+    let rest = match end_positions(block) {
+        ENDS_OF_TWOS => decode_full_blocks::<16, 32, TwoBytes>(units, left),
+        ENDS_OF_THREES => decode_full_blocks::<8, 24, ThreeBytes>(units, left),
+        ENDS_OF_FOURS => decode_full_blocks::<16, 32, FourBytes>(units, left),
+        _ => return decode_positions(units, left, block),
+    };
+    if rest.view.len() < POSITIONS {
+        return rest;
     }
-    if ends == ENDS_OF_THREES {
-        return decode_threes(units, left);
-    }
-    if ends == ENDS_OF_FOURS {
-        return decode_full_blocks::<16, 2, 32, FourBytes>(units, left);
-    }
-    decode_positions(units, left, block)
+    decode_positions(units, rest, u8x32::from_slice(rest.view.bytes))
 }
 
-/// `decode_next` for fewer than `LONGEST_LOAD` bytes: by blocks if the first two code points have one byte each or two.
-/// By ASCII blocks of eight bytes 40 ASCII units take 0.67 of the instructions that they take by blocks of 16.
-#[inline(always)]
-fn decode_next_of_tail<'a>(units: &mut [u16], left: Undecoded<'a>) -> Undecoded<'a>
-    requires room { left.at + length (view_units left.view) ≤ length units.old }
-    requires nonempty { 0 < length left.view.bytes.now }
-    ensures written { Writes units.old left.entry.at (view_units left.entry.view) units.new result.at (view_units result.view) }
-    ensures shorter { length result.view.bytes.now < length left.entry.view.bytes.now }
-{
-    let bytes = left.view.bytes;
-    // The length is compared once here, since each of the patterns would compare it.
-    if bytes.len() < VECTOR / 2 {
-        return decode_point(units, left);
-    }
-    match bytes {
-        [0x00..=0x7F, 0x00..=0x7F, ..] => decode_run::<8, 1, 8, OneByte>(units, left),
-        [0xC0..=0xDF, _, 0xC0..=0xDF, ..] if VECTOR <= bytes.len() => {
-            decode_run::<8, 2, 16, TwoBytes>(units, left)
-        }
-        _ => decode_point(units, left),
-    }
-}
-
-/// May overwrite up to `MOST_LANES` later units. Not inlined, so that all callers share the one loop.
+/// May overwrite up to `POSITIONS` later units. Not inlined, so that all callers share the one loop.
 #[inline(never)]
 fn decode_all(units: &mut [u16], from: usize, view: Wtf8<'_>) -> usize
     requires room { from + length (view_units view) ≤ length units.old }
     ensures units { take result units.new ≡ take from units.old ++ view_units view.entry }
     ensures index { result ≡ from + length (view_units view.entry) }
-    ensures later { (n : ℕ) → result + MOST_LANES ≤ n → drop n units.new ≡ drop n units.old }
+    ensures later { (n : ℕ) → result + POSITIONS ≤ n → drop n units.new ≡ drop n units.old }
     ensures len { length units.new ≡ length units.old }
 {
     let mut left = Undecoded { view, at: from };
-    while LONGEST_LOAD <= left.view.len() {
+    while POSITIONS <= left.view.len() {
         left = decode_next(units, left);
     }
-    while !left.view.is_empty() {
-        left = decode_next_of_tail(units, left);
-    }
-    left.at
+    decode_points(units, left).at
 }
 
 /// Not inlined, since a caller would pay for the buffer on the stack at each entry.
@@ -578,6 +457,9 @@ impl<'a> Wtf8<'a> {
             2..=3 if is_ascii_overlapping::<2>(self.bytes) => append_ascii::<2, B>(units, *self),
             4..=7 if is_ascii_overlapping::<4>(self.bytes) => append_ascii::<4, B>(units, *self),
             8..=15 if is_ascii_overlapping::<8>(self.bytes) => append_ascii::<8, B>(units, *self),
+            16..=31 if is_ascii_overlapping::<16>(self.bytes) => append_ascii::<16, B>(
+                units, *self,
+            ),
             0..SCRATCH_UNITS => append_short(units, *self),
             _ => append_counted(units, *self),
         }

@@ -1,9 +1,9 @@
 -- Masks of lanes: the lowest set bit is the first set lane, and so the first position of a block with a property.
-use Rattle.wtf8.proofs.Common.{◌≡◌, ◌↔◌, ℕ, zero, suc, ◌+◌, ◌-◌, ◌/◌, ◌%◌, ◌^◌, ◌<◌, ◌≤◌, eqb, Bool, true, false, not, cond, Option, Some}
-use Rattle.wtf8.proofs.Common.{None, List, [], ◌∷◌, map, length, take, replicate, refl, sym, ap, ◌∙◌, subst, arith, both_ways, cases_Bool}
-use Rattle.wtf8.proofs.Common.{eqb-true, inl, inr, mask_l-mod, mask_l, top, zip2, Each1, NoneIn, IsLeast, not-false, tops_compared}
-use Rattle.wtf8.proofs.Common.{length-zip2, w8, w16, not-true, length-replicate, map-id, prefix_len_passes, prefix_len_stops, prefix_len}
-use Rattle.wtf8.proofs.Common.{unwrap_or, MatchOption, IsFirstIn, IsFirstSet, IsSet}
+use Rattle.wtf8.proofs.Common.{◌≡◌, ◌↔◌, ℕ, ◌+◌, ◌-◌, ◌%◌, ◌^◌, ◌<◌, ◌≤◌, Bool, true, false, not, Option, Some}
+use Rattle.wtf8.proofs.Common.{None, List, [], ◌∷◌, map, length, sym, ap, ◌∙◌, subst, arith, both_ways}
+use Rattle.wtf8.proofs.Common.{mask_l-mod, mask_l, NoneIn, IsLeast, not-false}
+use Rattle.wtf8.proofs.Common.{not-true, map-id, prefix_len_passes, prefix_len_stops, prefix_len}
+use Rattle.wtf8.proofs.Common.{MatchOption, IsFirstIn, IsSet}
 use Rattle.std.proofs.lemmas.Simd.{leading_from_mask_l, trailing_mask_l}
 use lib.Count.{count_trailing_zeros}
 
@@ -61,46 +61,3 @@ first_at_offset P Q i n equivalent r first = by r first
       },
       omega (arith, h.1),
     )
-
--- the `n` lanes divided by `d`, and for each whether this quotient differs from `y`
-abbrev pub quotients : ℕ → ℕ → List ℕ → List ℕ
-quotients d n xs = zip2 (λ a b. a / b) xs (replicate n d)
-
-abbrev pub unequal_quotients : ℕ → ℕ → ℕ → List ℕ → List Bool
-unequal_quotients d y n xs = zip2 (λ a b. not (eqb a b)) (quotients d n xs) (replicate n y)
-
-quotients_before_first : (d y n m : ℕ) (xs : List ℕ) → length xs ≡ n → m ≤ n → NoneIn (IsSet (unequal_quotients d y n xs)) 0 m
-    → Each1 (λ b. b / d ≡ y) (take m xs)
-quotients_before_first d y n zero xs long le none = tt
-quotients_before_first d y n (suc m) [] long le none = tt
-quotients_before_first d y zero (suc m) (x ∷ xs) long le none = absurd (omega arith)
-quotients_before_first d y (suc n) (suc m) (x ∷ xs) long le none = (
-  elim (cases_Bool (eqb (x / d) y)) [ inl t ↦ eqb-true (x / d) y t | inr f ↦ absurd (none 0 (omega arith) (omega arith) (rw f refl)) ],
-  quotients_before_first d y n m xs (omega arith) (omega arith) (λ k _ l. none (suc k) (omega arith) (omega arith)),
-)
-
--- the lanes before the first set bit have the quotient `y` by `d`
-module _ (d y n : ℕ) (xs : List ℕ) (few : n ≤ 64) (long : length xs ≡ n) where
-  leading_from_mask : (bits : ℕ) → bits ≡ mask_l (unequal_quotients d y n xs) % 2 ^ 64 → (r : Option ℕ) → IsFirstSet bits r
-      → (unwrap_or r n ≤ n) × Each1 (λ b. b / d ≡ y) (take (unwrap_or r n) xs)
-  leading_from_mask bits same r first = by r (first n (unequal_quotients d y n xs) few lanes same)
-    where
-      lanes : length (unequal_quotients d y n xs) ≡ n
-      lanes = grind (arith, length-zip2, length-replicate)
-
-      by : (r : Option ℕ) → IsFirstIn (IsSet (unequal_quotients d y n xs)) 0 n r
-          → (unwrap_or r n ≤ n) × Each1 (λ b. b / d ≡ y) (take (unwrap_or r n) xs)
-      by None none = (omega arith, quotients_before_first d y n n xs long (omega arith) none)
-      by (Some k) h = (omega (arith, h.1), quotients_before_first d y n k xs long (omega (arith, h.1)) h.0.none_between)
-
-  pub quotients_leading : (r : Option ℕ)
-      → IsFirstSet (mask_l (map (top 7) (zip2 (λ a b. cond (not (eqb a b)) 255 0) (quotients d n xs) (replicate n y))) % 2 ^ 64) r
-      → (unwrap_or r n ≤ n) × Each1 (λ b. b / d ≡ y) (take (unwrap_or r n) xs)
-  quotients_leading = leading_from_mask _
-      (ap (λ ms. mask_l ms % 2 ^ 64) (tops_compared w8 (λ a b. not (eqb a b)) (quotients d n xs) (replicate n y)))
-
-  pub word_quotients_leading : (r : Option ℕ)
-      → IsFirstSet (mask_l (map (top 15) (zip2 (λ a b. cond (not (eqb a b)) 65535 0) (quotients d n xs) (replicate n y))) % 2 ^ 64) r
-      → (unwrap_or r n ≤ n) × Each1 (λ b. b / d ≡ y) (take (unwrap_or r n) xs)
-  word_quotients_leading = leading_from_mask _
-      (ap (λ ms. mask_l ms % 2 ^ 64) (tops_compared w16 (λ a b. not (eqb a b)) (quotients d n xs) (replicate n y)))

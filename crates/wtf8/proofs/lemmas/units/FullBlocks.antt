@@ -165,12 +165,10 @@ words-threes u v l m e f =
     )
 
 -- lead bytes that are doubled
-pub undoubled : (k n : ℕ) (v : List ℕ) → AreBytes v → Each1 (λ b. b / 4096 ≡ 14) (take n (map_run 3 (λ w. 257 * get_or w 0 0) k v))
-    → Each1 (λ b. b / 16 ≡ 14) (take n (map_run 3 (λ w. get_or w 0 0) k v))
-undoubled zero zero v h e = tt
-undoubled zero (suc n) v h e = tt
-undoubled (suc k) zero v h e = tt
-undoubled (suc k) (suc n) v h e = (omega (arith, h 0, e.0), undoubled k n (drop 3 v) (AreBytes-drop 3 v h) e.1)
+pub undoubled : (k : ℕ) (v : List ℕ) → AreBytes v → Each1 (λ b. b / 4096 ≡ 14) (map_run 3 (λ w. 257 * get_or w 0 0) k v)
+    → Each1 (λ b. b / 16 ≡ 14) (map_run 3 (λ w. get_or w 0 0) k v)
+undoubled zero v h e = tt
+undoubled (suc k) v h e = (omega (arith, h 0, e.0), undoubled k (drop 3 v) (AreBytes-drop 3 v h) e.1)
 
 -- the two vectors of a block are its 24 bytes
 pub joined_vectors : (w : List ℕ) → take 16 w ++ drop 8 (take 16 (drop 8 w)) ≡ take 24 w

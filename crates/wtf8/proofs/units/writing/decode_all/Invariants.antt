@@ -7,9 +7,3 @@ invariant-loop-units l = Writes l.fn.units l.from (view_units l.view) l.units l.
 
 abbrev pub decreases-loop-units : goal.decreases-loop-units
 decreases-loop-units l = length l.left.view.bytes.now
-
-abbrev pub invariant-loop-units-2 : goal.invariant-loop-units-2
-invariant-loop-units-2 l = Writes l.fn.units l.from (view_units l.view) l.units l.left.at (view_units l.left.view)
-
-abbrev pub decreases-loop-units-2 : goal.decreases-loop-units-2
-decreases-loop-units-2 l = length l.left.view.bytes.now

@@ -1,12 +1,10 @@
-use Rattle.wtf8.proofs.Common.{◌<◌, length, view_units, Writes}
+use Rattle.wtf8.proofs.Common.{length}
+use Rattle.wtf8.specs.private.UnitsOut.{Decodes}
 use Rattle.wtf8.proofs.units.writing.decode_points.Given as goal
 
 -- the units written so far, followed by the units of the bytes left, are all units
 abbrev pub invariant-loop-units : goal.invariant-loop-units
-invariant-loop-units l = record {
-  written : Writes l.fn.units l.left.at (view_units l.left.view) l.units l.rest.at (view_units l.rest.view);
-  shorter : length l.rest.view.bytes.now < length l.left.view.bytes.now;
-}
+invariant-loop-units l = Decodes l.fn.units l.left l.units l.rest
 
 abbrev pub decreases-loop-units : goal.decreases-loop-units
 decreases-loop-units l = length l.rest.view.bytes.now

@@ -1,0 +1,13 @@
+-- The part of a view that is left to decode: whether its units fit the slice, and what was written of them.
+use Rattle.std.specs.Prelude.{ℕ, ◌+◌, ◌≤◌, List, length}
+use Rattle.wtf8.specs.View.{view_units}
+use Rattle.wtf8.specs.private.EncodedBytes.{Writes}
+use Rattle.wtf8.specs.declared.units.writing.Undecoded.{Undecoded}
+
+-- The slice has room for all units that are left.
+abbrev pub HasRoom : List ℕ → Undecoded → Type 0
+HasRoom units left = left.at + length (view_units left.view) ≤ length units
+
+-- `rest` is left of `left`, and the units before it were written to the slice `old`, which became `new`.
+abbrev pub Decodes : List ℕ → Undecoded → List ℕ → Undecoded → Type 0
+Decodes old left new rest = Writes old left.at (view_units left.view) new rest.at (view_units rest.view)
