@@ -115,8 +115,8 @@ static bool make_strings(struct side *side, const struct text *text) {
     return true;
 }
 
-/* Checks a side's strings: their units, and their lengths in bytes, which it takes from the first side that is checked. */
-static void check(struct side *side, const struct text *text, size_t *byte_lens, bool is_first) {
+/* Checks a side's strings: their units, and their lengths in bytes against those of the first side that is checked. */
+static void check(struct side *side, const struct text *text, size_t *byte_lens) {
     side->has_text = make_strings(side, text);
     if (!side->has_text) return;
     for (size_t i = 0; i < text->pieces; i++) {
@@ -124,7 +124,7 @@ static void check(struct side *side, const struct text *text, size_t *byte_lens,
         size_t n = piece_len(text, i), byte_len = side->byte_len(side->strings[i]);
         memset(text->out, 0, n * sizeof *units);
         if (side->out(side->strings[i], text->out, n) != n || memcmp(text->out, units, n * sizeof *units) != 0) fail(side->path, text->name);
-        if (is_first) byte_lens[i] = byte_len;
+        if (byte_lens[i] == 0) byte_lens[i] = byte_len;
         if (byte_lens[i] != byte_len) fail(side->path, text->name);
     }
     drop_strings(side, text->pieces);
@@ -173,10 +173,10 @@ static void print_least(void) {
 }
 
 static void measure(const struct text *text, uint16_t *arrays[2], size_t rounds) {
-    size_t byte_lens[PIECES];
+    size_t byte_lens[PIECES] = {0};
     struct text first = moved(text, arrays, 0);
     for (size_t i = 0; i < side_count; i++) {
-        check(&sides[i], &first, byte_lens, i == 0);
+        check(&sides[i], &first, byte_lens);
         sides[i].least[IN] = sides[i].least[OUT] = 1e30;
     }
     for (int group = 0; group <= sides[side_count - 1].group; group++)
