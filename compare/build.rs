@@ -1,6 +1,7 @@
 //! Links the proved static library and the toolchain's own small C library, which is found through `rt`; or neither, if
 //! `COMPARE_PROGRAM` names a program that runs the scripts. Links simdutf too if `COMPARE_SIMDUTF` names the folder of
-//! the library that compare/simdutf builds.
+//! the library that compare/simdutf builds. If `COMPARE_MOVED_BY` has a number of bytes, all code begins that many after a
+//! multiple of 64.
 
 use std::env;
 use std::path::{Path, PathBuf};
@@ -24,6 +25,11 @@ fn main() {
         println!("cargo:rustc-link-lib=stdc++");
     }
     println!("cargo:rustc-check-cfg=cfg(further)");
+    println!("cargo:rustc-check-cfg=cfg(moved)");
+    println!("cargo:rerun-if-env-changed=COMPARE_MOVED_BY");
+    if env::var_os("COMPARE_MOVED_BY").is_some() {
+        println!("cargo:rustc-cfg=moved");
+    }
     // Only compilers that allow unstable features give access to the standard library's own WTF-8.
     println!("cargo:rustc-check-cfg=cfg(std_wtf8)");
     println!("cargo:rerun-if-env-changed=RUSTC_BOOTSTRAP");

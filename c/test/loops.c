@@ -3,9 +3,10 @@
  * "with"), asks for its length ("length"), for the unit in the middle ("unit"), its position ("at") or the index of that
  * ("before"), or whether 12 units stand there ("starts"), copies 64 units from there ("part") or appends them to an
  * empty string ("slice"), or walks a step, from the start again after the end ("next"), or back ("back"). "marked" before
- * one of these marks the string. The input says which, for which text, of how many units, at most 100,000, and how often.
- * c/count and gate/instructions count what it takes. */
+ * one of these marks the string. The input says which, for which text or pattern, of how many units, at most 100,000, and
+ * how often. c/count, gate/instructions and compare/patterns count what it takes. */
 #include "../wtf8.h"
+#include "patterns.h"
 
 #include <stdio.h>
 #include <string.h>
@@ -22,6 +23,11 @@ static uint16_t unit_of(const char *text, size_t i) {
     return (uint16_t)(0xD800 + i % 0x400); /* lone leads */
 }
 
+static void fill(const char *text, uint16_t *units, size_t n) {
+    if (is_pattern(text)) fill_by_pattern(text, units, n);
+    else for (size_t i = 0; i < n; i++) units[i] = unit_of(text, i);
+}
+
 enum call { IN, OUT, APPEND, EQUAL, ORDER, LENGTH, UNIT, PART, PUSH, SAME, WITH, AT, BEFORE, STARTS, SLICE, NEXT, BACK };
 static const char *const names[] = {"in", "out", "append", "equal", "order", "length", "unit", "part", "push", "same", "with",
                                     "at", "before", "starts", "slice", "next", "back"};
@@ -31,7 +37,7 @@ static const char *const names[] = {"in", "out", "append", "equal", "order", "le
 
 int main(void) {
     static uint16_t units[UNITS], out[UNITS];
-    char word[8], text[16];
+    char word[8], text[64];
     uint16_t unit = 0;
     uint32_t value = 0;
     size_t count, rounds, len = 0, bad = 0, at = 0, middle = 0;
@@ -39,11 +45,11 @@ int main(void) {
     if (scanf("%7s", word) != 1) return 1;
     int is_marked = strcmp(word, "marked") == 0;
     if (is_marked && scanf("%7s", word) != 1) return 1;
-    if (scanf("%15s %zu %zu", text, &count, &rounds) != 3 || count > UNITS) return 1;
+    if (scanf("%63s %zu %zu", text, &count, &rounds) != 3 || count > UNITS) return 1;
     enum call call = IN;
     while (strcmp(word, names[call]) != 0)
         if (++call > BACK) return 1;
-    for (size_t i = 0; i < count; i++) units[i] = unit_of(text, i);
+    fill(text, units, count);
     bad += wtf8_set_units(&string, units, count) != WTF8_OK;
     bad += wtf8_set_units(&equal, units, count) != WTF8_OK;
     bad += wtf8_set_units(&part, units + count / 2, count - count / 2 < 12 ? count - count / 2 : 12) != WTF8_OK;

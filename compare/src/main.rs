@@ -33,6 +33,15 @@ std::arch::global_asm!(
     ".text"
 );
 
+// The same by any number of bytes after a multiple of 64, so that a loop can be timed at several addresses.
+#[cfg(moved)]
+std::arch::global_asm!(
+    ".section .text.moved,\"axR\"",
+    ".balign 64",
+    concat!(".skip 64 + ", env!("COMPARE_MOVED_BY")),
+    ".text"
+);
+
 const USAGE: &str = "usage: compare differ [--seed S] [--cases N] [--every-point]
        compare record FOLDER [--seed S] [--cases N]
        compare bench FILE [WORD]..
