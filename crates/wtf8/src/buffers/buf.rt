@@ -147,7 +147,7 @@ impl<A: Allocator> Wtf8Buf<A> {
         ensures form { IfOk result (λ b. (w : List ℕ) → IsForm w v.now → b.bytes ≡ w) }
         ensures empty { v.now ≡ [] → IsOk result }
     {
-        let mut bytes = Vec::with_capacity(alloc, v.len())?;
+        let mut bytes = Vec::new(alloc);
         let start = Progress {
             at: 0,
             is_utf8: true,

@@ -15,7 +15,7 @@
 // `SHUFFLES` for units 0-3, plus 256 times that for units 4-7, and so on. A row packs the bytes to be written.
 #![tactic(auto)]
 
-ghost use Rattle.std.specs.Prelude.{◌≡◌, ◌⊎◌, ℕ, List, Bool, ◌&&◌, ◌+◌, ◌-◌, ◌*◌, ◌%◌, ◌/◌, ◌^◌, ◌<◌, ◌≤◌, ◌++◌, length, map, take, drop, replicate, slice_index_or, vec_capacity, IfOk, IsOk, IsTrue};
+ghost use Rattle.std.specs.Prelude.{◌≡◌, ◌⊎◌, ◌↔◌, ℕ, List, Bool, ◌&&◌, ◌+◌, ◌-◌, ◌*◌, ◌%◌, ◌/◌, ◌^◌, ◌<◌, ◌≤◌, ◌++◌, length, map, take, drop, replicate, slice_index_or, vec_capacity, IfOk, IsOk, IsTrue};
 ghost use lib.Lanes.{Each1};
 ghost use Rattle.wtf8.specs.Unicode.{IsLead, IsUnit};
 ghost use Rattle.wtf8.specs.private.Prefixes.{AreScalarUnits, HasRoomFrom, IsKnownForm, ReadsOn};
@@ -229,7 +229,7 @@ fn write_block(units: u16x16, scratch: &mut [u8], len: usize) -> Written
     let bytes = unit_bytes(units);
     let end = pack_block(units, bytes, scratch, len);
     let is_utf8 = bytes.is_utf8;
-    if units.to_array()[BLOCK_UNITS - 1] / SURROGATES_PER_HALF == LEAD_KIND {
+    if ends_with_lead(units) {
         return Written {
             units: BLOCK_UNITS - 1,
             end: end - 2,
@@ -241,6 +241,39 @@ fn write_block(units: u16x16, scratch: &mut [u8], len: usize) -> Written
         end,
         is_utf8,
     }
+}
+
+#[inline(always)]
+fn ends_with_lead(units: u16x16) -> bool
+    ensures { IsTrue result ↔ IsLead (slice_index_or units 15 0) }
+{
+    units.to_array()[BLOCK_UNITS - 1] / SURROGATES_PER_HALF == LEAD_KIND
+}
+
+/// The number of bytes of a block's units: one for each, and one for each set bit of the four rows' indexes.
+#[inline(always)]
+fn byte_count(units: u16x16, from: UnitBytes) -> usize
+    requires from { AreUnitBytes (tagged_block units) from.heads from.lasts }
+    ensures { result ≡ length (packed_units 0 (tagged_block units)) }
+{
+    let high_bits = from.lasts.to_le_bytes().simd_ge(u8x32::splat(0x80));
+    BLOCK_UNITS + high_bits.to_bitmask().count_ones() as usize
+}
+
+/// Returns the number of a block's units that `write_block` encodes, and the number of bytes that it writes.
+#[inline(always)]
+pub(crate) fn block_len(units: u16x16) -> (usize, usize)
+    ensures taken { ((result.0 ≡ 16) × ¬ (IsLead (slice_index_or units 15 0))) ⊎ ((result.0 ≡ 15) × IsLead (slice_index_or units 15 0)) }
+    ensures bytes { result.1 ≡ length (packed_units 0 (take result.0 (tagged_block units))) }
+{
+    if are_scalar(units) {
+        return (BLOCK_UNITS, byte_count(units, scalar_unit_bytes(units)));
+    }
+    let count = byte_count(units, unit_bytes(units));
+    if ends_with_lead(units) {
+        return (BLOCK_UNITS - 1, count - 2);
+    }
+    (BLOCK_UNITS, count)
 }
 
 /// Copies the first and the last `N` units: a copy of a number that only the call knows would be a call of `memcpy`.

@@ -6,6 +6,7 @@ ghost use Rattle.wtf8.specs.private.Prefixes.{IsKnownForm, IsReadTo, ReadsOn, Ha
 use crate::codec::code_point::CodePoint;
 use crate::codec::encoding;
 use crate::from_utf16::decode;
+use crate::from_utf16::encoded_len::{MOST_BYTES, encoded_len};
 use crate::from_utf16::kernel::{self, LAST_UNITS, MIN_SPARE, Progress};
 use crate::lanes::ascii::first_not_ascii;
 use crate::vec::spare_capacity;
@@ -17,7 +18,6 @@ const LONG_RUN: usize = 32;
 
 const MEDIUM_RUN: usize = LONG_RUN / 2;
 
-/// Also the least number of units that a caller with few units appends by blocks.
 const SMALL_RUN: usize = MEDIUM_RUN / 2;
 
 const SHORT_RUN: usize = SMALL_RUN / 2;
@@ -26,16 +26,8 @@ const SHORT_RUN: usize = SMALL_RUN / 2;
 /// letters takes half the time. With 2 in place of 5, one with an accent in 25 takes 1.24 of it.
 const MANY_LETTERS: u32 = 5;
 
-/// The number of units from which on the kernel's scratch buffer has `LONG_SCRATCH_BYTES`. If it has them from 32 units
-/// on, lists of 40 take 3 to 5% more instructions.
-const LONG_LIST: usize = 128;
-
-/// The size in bytes of the kernel's scratch buffer while `LONG_LIST` or more units are left: room for ten blocks.
-const LONG_SCRATCH_BYTES: usize = 512;
-
-/// The size in bytes of the kernel's scratch buffer while fewer than `LONG_LIST` units are left: room for five blocks.
-/// No more are zeroed without a call of `memset`.
-const SCRATCH_BYTES: usize = 256;
+/// The size in bytes of the kernel's scratch buffer while `LONG_RUN` or more units are left: room for ten blocks.
+const SCRATCH_BYTES: usize = 512;
 
 /// The scratch buffer's size while fewer than `LONG_RUN` units are left: room for these, since it is zeroed first.
 const SHORT_SCRATCH_BYTES: usize = 112;
@@ -138,14 +130,13 @@ fn append_ascii_run<const N: usize, A: Allocator>(
     append_point(bytes, v, to)
 }
 
-/// Takes a step while `LONG_RUN` or more units are left. The kernel's scratch buffer has `SCRATCH` bytes.
+/// Takes a step while `LONG_RUN` or more units are left.
 #[inline(always)]
-fn append_next<const SCRATCH: usize, A: Allocator>(
+fn append_next<A: Allocator>(
     bytes: &mut Vec<u8, A>,
     v: &[u16],
     from: Progress,
 ) -> Result<Progress, AllocError>
-    requires room { (MIN_SPARE ≤ SCRATCH) × (SCRATCH < 2 ^ 16) }
     requires within { from.at + LONG_RUN ≤ length v.now }
     ensures order { IfOk result (λ to. (from.at < to.at) × (to.at ≤ length v.now)) }
     ensures read { IfOk result (λ to. ReadsOn bytes.old.items bytes.new.items v.now from.at from.is_utf8 to.at to.is_utf8) }
@@ -165,11 +156,6 @@ fn append_next<const SCRATCH: usize, A: Allocator>(
         if to.at == at + LONG_RUN {
             return Ok(to);
         }
-        // Pairs and punctuation among ASCII are cheaper one by one. With both tests in one condition, emoji in ASCII
-        // and an accent in 25 letters take 6% more instructions.
-        if 0x800 <= v[to.at] {
-            return append_point(bytes, v, to);
-        }
         if letters.count_ones() < MANY_LETTERS || v.len() - to.at < LAST_UNITS {
             return append_point(bytes, v, to);
         }
@@ -177,7 +163,7 @@ fn append_next<const SCRATCH: usize, A: Allocator>(
         // ASCII that follows soon is most often a run: encode one code point, and leave the run to a later step.
         return append_point(bytes, v, from);
     }
-    kernel::append_blocks::<SCRATCH, A>(bytes, v, to)
+    kernel::append_blocks::<SCRATCH_BYTES, A>(bytes, v, to)
 }
 
 /// Takes a step while `LAST_UNITS` or more units are left. The last block may have fewer units than others.
@@ -224,11 +210,8 @@ fn append_steps<A: Allocator>(
     ensures capacity { vec_capacity bytes.old ≤ vec_capacity bytes.new }
 {
     let mut read = from;
-    while LONG_LIST <= v.len() - read.at {
-        read = append_next::<LONG_SCRATCH_BYTES, A>(bytes, v, read)?;
-    }
     while LONG_RUN <= v.len() - read.at {
-        read = append_next::<SCRATCH_BYTES, A>(bytes, v, read)?;
+        read = append_next(bytes, v, read)?;
     }
     while LAST_UNITS <= v.len() - read.at {
         read = append_last(bytes, v, read)?;
@@ -262,6 +245,70 @@ fn append_rest<A: Allocator>(
     Ok(is_utf8)
 }
 
+/// Makes room for `count` more bytes: in a new string exactly, else at least, so that later calls find room too.
+#[inline(always)]
+fn reserve<A: Allocator>(bytes: &mut Vec<u8, A>, count: usize, is_new: bool) -> Result<(), AllocError>
+    ensures items { bytes.new.items ≡ bytes.old.items }
+    ensures room { length bytes.old.items + count ≤ vec_capacity bytes.old → IsOk result }
+    ensures capacity { vec_capacity bytes.old ≤ vec_capacity bytes.new }
+{
+    if is_new {
+        return bytes.reserve_exact(count);
+    }
+    bytes.reserve(count)
+}
+
+/// Appends the ASCII units at the front of `LONG_RUN` or more, by blocks, after one request of a byte for each unit.
+#[inline(always)]
+fn append_ascii_blocks<A: Allocator>(
+    bytes: &mut Vec<u8, A>,
+    v: &[u16],
+    from: Progress,
+    is_new: bool,
+) -> Result<Progress, AllocError>
+    requires within { from.at ≤ length v.now }
+    ensures order { IfOk result (λ to. to.at ≤ length v.now) }
+    ensures read { IfOk result (λ to. ReadsOn bytes.old.items bytes.new.items v.now from.at from.is_utf8 to.at to.is_utf8) }
+    ensures begins { take (length bytes.old.items) bytes.new.items ≡ bytes.old.items }
+    ensures room { HasRoomFrom bytes.old v.now from.at from.is_utf8 → IsOk result }
+    ensures capacity { vec_capacity bytes.old ≤ vec_capacity bytes.new }
+{
+    if v.len() - from.at < LONG_RUN || 0x80 <= v[from.at] {
+        return Ok(from);
+    }
+    reserve(bytes, v.len() - from.at, is_new)?;
+    let mut read = from;
+    while LONG_RUN <= v.len() - read.at {
+        let (to, _) = append_front::<LONG_RUN, A>(bytes, v, read)?;
+        let is_whole = to.at == read.at + LONG_RUN;
+        read = to;
+        if !is_whole {
+            return Ok(read);
+        }
+    }
+    Ok(read)
+}
+
+/// Reserves the bytes of all units from index `from.at` on, if they may not fit: they are counted, so that one request
+/// is enough.
+#[inline(always)]
+fn reserve_rest<A: Allocator>(
+    bytes: &mut Vec<u8, A>,
+    v: &[u16],
+    from: Progress,
+    is_new: bool,
+) -> Result<(), AllocError>
+    requires within { from.at ≤ length v.now }
+    ensures items { bytes.new.items ≡ bytes.old.items }
+    ensures room { HasRoomFrom bytes.old v.now from.at from.is_utf8 → IsOk result }
+    ensures capacity { vec_capacity bytes.old ≤ vec_capacity bytes.new }
+{
+    if MOST_BYTES * (v.len() - from.at) <= spare_capacity(bytes) {
+        return Ok(());
+    }
+    reserve(bytes, encoded_len(&v[from.at..]), is_new)
+}
+
 /// Appends the bytes of all units from index `from.at` on, after bytes with which they form no pair. Returns whether
 /// `from.is_utf8` and none of them is a lone surrogate. If memory is refused, more bytes may have been appended.
 pub(crate) fn append_utf16<A: Allocator>(
@@ -275,65 +322,9 @@ pub(crate) fn append_utf16<A: Allocator>(
     ensures room { HasRoomFrom bytes.old v.now from.at from.is_utf8 → IsOk result }
     ensures capacity { vec_capacity bytes.old ≤ vec_capacity bytes.new }
 {
-    let read = append_steps(bytes, v, from)?;
+    let is_new = bytes.is_empty();
+    let read = append_ascii_blocks(bytes, v, from, is_new)?;
+    reserve_rest(bytes, v, read, is_new)?;
+    let read = append_steps(bytes, v, read)?;
     append_rest(bytes, v, read)
-}
-
-/// Appends nothing if fewer than `SHORT_RUN` units are left or the first is not ASCII.
-#[inline(always)]
-fn append_short_run<A: Allocator>(
-    bytes: &mut Vec<u8, A>,
-    v: &[u16],
-    from: Progress,
-) -> Result<Progress, AllocError>
-    requires within { from.at ≤ length v.now }
-    ensures within { IfOk result (λ to. to.at ≤ length v.now) }
-    ensures read { IfOk result (λ to. ReadsOn bytes.old.items bytes.new.items v.now from.at from.is_utf8 to.at to.is_utf8) }
-    ensures begins { take (length bytes.old.items) bytes.new.items ≡ bytes.old.items }
-    ensures room { HasRoomFrom bytes.old v.now from.at from.is_utf8 → IsOk result }
-    ensures capacity { vec_capacity bytes.old ≤ vec_capacity bytes.new }
-{
-    if SHORT_RUN <= v.len() - from.at && v[from.at] < 0x80 {
-        return append_ascii_run::<SHORT_RUN, A>(bytes, v, from);
-    }
-    Ok(from)
-}
-
-/// `append_utf16` of few units: one code point at a time, after a short ASCII run.
-#[inline(always)]
-fn append_few<A: Allocator>(
-    bytes: &mut Vec<u8, A>,
-    v: &[u16],
-    from: Progress,
-) -> Result<bool, AllocError>
-    requires within { from.at ≤ length v.now }
-    ensures ok { IfOk result (λ known. (front : List ℕ) → IsReadTo bytes.old.items front v.now from.at from.is_utf8 → IsKnownForm bytes.new.items (front ++ v.now) known) }
-    ensures begins { take (length bytes.old.items) bytes.new.items ≡ bytes.old.items }
-    ensures room { HasRoomFrom bytes.old v.now from.at from.is_utf8 → IsOk result }
-    ensures capacity { vec_capacity bytes.old ≤ vec_capacity bytes.new }
-{
-    let mut read = append_short_run(bytes, v, from)?;
-    while read.at < v.len() {
-        read = append_point(bytes, v, read)?;
-    }
-    Ok(read.is_utf8)
-}
-
-/// `append_utf16` for a caller that often has few units: they do not pay for the registers and stack that blocks need.
-#[inline(always)]
-pub(crate) fn append_few_or_many<A: Allocator>(
-    bytes: &mut Vec<u8, A>,
-    v: &[u16],
-    from: Progress,
-) -> Result<bool, AllocError>
-    requires within { from.at ≤ length v.now }
-    ensures ok { IfOk result (λ known. (front : List ℕ) → IsReadTo bytes.old.items front v.now from.at from.is_utf8 → IsKnownForm bytes.new.items (front ++ v.now) known) }
-    ensures begins { take (length bytes.old.items) bytes.new.items ≡ bytes.old.items }
-    ensures room { HasRoomFrom bytes.old v.now from.at from.is_utf8 → IsOk result }
-    ensures capacity { vec_capacity bytes.old ≤ vec_capacity bytes.new }
-{
-    if v.len() - from.at < SMALL_RUN {
-        return append_few(bytes, v, from);
-    }
-    append_utf16(bytes, v, from)
 }

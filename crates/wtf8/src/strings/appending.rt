@@ -265,7 +265,7 @@ fn append_utf16<A: Allocator>(
                 },
             )
         }
-        None => transcode::append_few_or_many(bytes, v, Progress { at: 0, is_utf8 }),
+        None => transcode::append_utf16(bytes, v, Progress { at: 0, is_utf8 }),
     }
 }
 
@@ -298,8 +298,6 @@ fn push_utf16<A: Allocator>(
     ensures scalar { length bytes.old.items < utf8_prefix.new.len → OnOk result ((c : List ℕ) → Reads c v.now → AreScalar c) }
 {
     let len = bytes.len();
-    // Each unit adds at least one byte.
-    bytes.reserve(v.len())?;
     let is_utf8 = len <= utf8_prefix.len;
     let lead = lead_before(bytes, is_utf8, v);
     match append_utf16(bytes, is_utf8, lead, v) {

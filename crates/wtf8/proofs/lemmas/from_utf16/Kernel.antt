@@ -439,11 +439,11 @@ packed_units-quarters kept u long first second third fourth =
     rw (fourth, third, second, first, a, b, c) (simp append_assoc)
 
 -- the last of sixteen units is not tagged if it is a lead
-last-tagged : (u : List ℕ) → length u ≡ 16 → IsLead (get_or u 15 0) → IsLead (get_or (tagged_block u) 15 0)
+pub last-tagged : (u : List ℕ) → length u ≡ 16 → IsLead (get_or u 15 0) → IsLead (get_or (tagged_block u) 15 0)
 last-tagged u long = of_sixteen (λ u. IsLead (get_or u 15 0) → IsLead (get_or (tagged_block u) 15 0)) u long
     (λ l. subst IsLead (sym (tagged-lead_before_trail (get_or u 14 0) (get_or u 15 0) 0xDC00 l (omega arith, omega arith))) l)
 
-packed_units-last : (t : List ℕ) → length t ≡ 16 → packed_units 0 t ≡ packed_units 0 (take 15 t) ++ packed_unit (get_or t 14 0) (get_or t 15 0)
+pub packed_units-last : (t : List ℕ) → length t ≡ 16 → packed_units 0 t ≡ packed_units 0 (take 15 t) ++ packed_unit (get_or t 14 0) (get_or t 15 0)
 packed_units-last t long = of_sixteen (λ u. packed_units 0 u ≡ packed_units 0 (take 15 u) ++ packed_unit (get_or u 14 0) (get_or u 15 0)) t long
     (simp (append_assoc, append-nil))
 

@@ -7,7 +7,7 @@ use Rattle.wtf8.proofs.buffers.buf.Wtf8Buf.from_ill_formed_utf16.Goals as goal
 
 -- the form of all units
 all_read : (g : _) (c : In_ok-is_utf8 g) → IsKnownForm c.append_utf16.new.bytes.items c.args.v.now c.in_ok-is_utf8.is_utf8
-all_read g c = c.in_ok-is_utf8.ensures.ok [] (read_none true c.in_ok-bytes.ensures.items)
+all_read g c = c.in_ok-is_utf8.ensures.ok [] (read_none true c.new-bytes.ensures.items)
 
 pub from_well_formed-requires-clause-well_formed : goal.from_well_formed-requires-clause-well_formed
 from_well_formed-requires-clause-well_formed g c =
@@ -20,7 +20,7 @@ from_well_formed-requires-clause-scalar g c h =
 
 pub returns-in_err-is_utf8-clause-empty : goal.returns-in_err-is_utf8-clause-empty
 returns-in_err-is_utf8-clause-empty g c none =
-    absurd (false≢true (c.in_err-is_utf8.ensures.room (HasRoomFrom-none c.in_ok-bytes.bytes true c.in_ok-bytes.ensures.items none)))
+    absurd (false≢true (c.in_err-is_utf8.ensures.room (HasRoomFrom-none c.new-bytes.result true c.new-bytes.ensures.items none)))
 
 pub returns-clause-units : goal.returns-clause-units
 returns-clause-units g c =
