@@ -15,7 +15,7 @@
 // `SHUFFLES` for units 0-3, plus 256 times that for units 4-7, and so on. A row packs the bytes to be written.
 #![tactic(auto)]
 
-ghost use Rattle.std.specs.Prelude.{◌≡◌, ◌⊎◌, ◌↔◌, ℕ, List, Bool, ◌&&◌, ◌+◌, ◌-◌, ◌*◌, ◌%◌, ◌/◌, ◌^◌, ◌<◌, ◌≤◌, ◌++◌, length, map, take, drop, replicate, slice_index_or, vec_capacity, IfOk, IsOk, IsTrue};
+ghost use Rattle.std.specs.Prelude.{◌≡◌, ◌⊎◌, ℕ, List, Bool, ◌&&◌, ◌+◌, ◌-◌, ◌*◌, ◌%◌, ◌/◌, ◌^◌, ◌<◌, ◌≤◌, ◌++◌, length, map, take, drop, replicate, slice_index_or, vec_capacity, IfOk, IsOk, IsTrue};
 ghost use lib.Lanes.{Each1};
 ghost use Rattle.wtf8.specs.Unicode.{IsLead, IsUnit};
 ghost use Rattle.wtf8.specs.private.Prefixes.{AreScalarUnits, HasRoomFrom, IsKnownForm, ReadsOn};
@@ -31,7 +31,7 @@ pub(crate) const BLOCK_UNITS: usize = 16;
 
 const HALF_BLOCK: usize = BLOCK_UNITS / 2;
 
-const QUARTER_BLOCK: usize = BLOCK_UNITS / 4;
+pub(crate) const QUARTER_BLOCK: usize = BLOCK_UNITS / 4;
 
 /// The least number of the last units, fewer than a block, that are encoded as one.
 pub(crate) const LAST_UNITS: usize = QUARTER_BLOCK;
@@ -42,9 +42,9 @@ pub(crate) const MIN_SPARE: usize = 52;
 const MAX_BLOCK_BYTES: usize = 3 * BLOCK_UNITS;
 
 /// The high six bits of leads, and of leads alone; below, of trails.
-const LEAD_KIND: u16 = FIRST_LEAD / SURROGATES_PER_HALF;
+pub(crate) const LEAD_KIND: u16 = FIRST_LEAD / SURROGATES_PER_HALF;
 
-const TRAIL_KIND: u16 = FIRST_TRAIL / SURROGATES_PER_HALF;
+pub(crate) const TRAIL_KIND: u16 = FIRST_TRAIL / SURROGATES_PER_HALF;
 
 /// Shuffle indices: lanes 0 to 3 of two vectors, interleaved; below, lanes 4 to 7, 8 to 11 and 12 to 15.
 const FIRST_QUARTER: [usize; 8] = [0, 16, 1, 17, 2, 18, 3, 19];
@@ -229,7 +229,7 @@ fn write_block(units: u16x16, scratch: &mut [u8], len: usize) -> Written
     let bytes = unit_bytes(units);
     let end = pack_block(units, bytes, scratch, len);
     let is_utf8 = bytes.is_utf8;
-    if ends_with_lead(units) {
+    if units.to_array()[BLOCK_UNITS - 1] / SURROGATES_PER_HALF == LEAD_KIND {
         return Written {
             units: BLOCK_UNITS - 1,
             end: end - 2,
@@ -241,39 +241,6 @@ fn write_block(units: u16x16, scratch: &mut [u8], len: usize) -> Written
         end,
         is_utf8,
     }
-}
-
-#[inline(always)]
-fn ends_with_lead(units: u16x16) -> bool
-    ensures { IsTrue result ↔ IsLead (slice_index_or units 15 0) }
-{
-    units.to_array()[BLOCK_UNITS - 1] / SURROGATES_PER_HALF == LEAD_KIND
-}
-
-/// The number of bytes of a block's units: one for each, and one for each set bit of the four rows' indexes.
-#[inline(always)]
-fn byte_count(units: u16x16, from: UnitBytes) -> usize
-    requires from { AreUnitBytes (tagged_block units) from.heads from.lasts }
-    ensures { result ≡ length (packed_units 0 (tagged_block units)) }
-{
-    let high_bits = from.lasts.to_le_bytes().simd_ge(u8x32::splat(0x80));
-    BLOCK_UNITS + high_bits.to_bitmask().count_ones() as usize
-}
-
-/// Returns the number of a block's units that `write_block` encodes, and the number of bytes that it writes.
-#[inline(always)]
-pub(crate) fn block_len(units: u16x16) -> (usize, usize)
-    ensures taken { ((result.0 ≡ 16) × ¬ (IsLead (slice_index_or units 15 0))) ⊎ ((result.0 ≡ 15) × IsLead (slice_index_or units 15 0)) }
-    ensures bytes { result.1 ≡ length (packed_units 0 (take result.0 (tagged_block units))) }
-{
-    if are_scalar(units) {
-        return (BLOCK_UNITS, byte_count(units, scalar_unit_bytes(units)));
-    }
-    let count = byte_count(units, unit_bytes(units));
-    if ends_with_lead(units) {
-        return (BLOCK_UNITS - 1, count - 2);
-    }
-    (BLOCK_UNITS, count)
 }
 
 /// Copies the first and the last `N` units: a copy of a number that only the call knows would be a call of `memcpy`.

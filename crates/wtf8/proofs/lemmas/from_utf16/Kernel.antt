@@ -102,7 +102,7 @@ trail_mask n = if nat_lt n 0xDC00 then 0 else if nat_lt n 0xE000 then 0xFFFF els
 abbrev both_kinds : ℕ → ℕ → ℕ → ℕ → ℕ
 both_kinds x j n k = bit_and (cond (eqb (x / 1024) j) 0xFFFF 0) (cond (eqb (n / 1024) k) 0xFFFF 0)
 
-and_lanes : (s t : Bool) → bit_and (cond s 0xFFFF 0) (cond t 0xFFFF 0) ≡ cond (s && t) 0xFFFF 0
+pub and_lanes : (s t : Bool) → bit_and (cond s 0xFFFF 0) (cond t 0xFFFF 0) ≡ cond (s && t) 0xFFFF 0
 and_lanes s t = grind (arith)
 
 both_kinds-lead : (b x n : ℕ) → both_kinds x 54 n 55 ≡ lead_mask (tagged b x n)
@@ -439,11 +439,11 @@ packed_units-quarters kept u long first second third fourth =
     rw (fourth, third, second, first, a, b, c) (simp append_assoc)
 
 -- the last of sixteen units is not tagged if it is a lead
-pub last-tagged : (u : List ℕ) → length u ≡ 16 → IsLead (get_or u 15 0) → IsLead (get_or (tagged_block u) 15 0)
+last-tagged : (u : List ℕ) → length u ≡ 16 → IsLead (get_or u 15 0) → IsLead (get_or (tagged_block u) 15 0)
 last-tagged u long = of_sixteen (λ u. IsLead (get_or u 15 0) → IsLead (get_or (tagged_block u) 15 0)) u long
     (λ l. subst IsLead (sym (tagged-lead_before_trail (get_or u 14 0) (get_or u 15 0) 0xDC00 l (omega arith, omega arith))) l)
 
-pub packed_units-last : (t : List ℕ) → length t ≡ 16 → packed_units 0 t ≡ packed_units 0 (take 15 t) ++ packed_unit (get_or t 14 0) (get_or t 15 0)
+packed_units-last : (t : List ℕ) → length t ≡ 16 → packed_units 0 t ≡ packed_units 0 (take 15 t) ++ packed_unit (get_or t 14 0) (get_or t 15 0)
 packed_units-last t long = of_sixteen (λ u. packed_units 0 u ≡ packed_units 0 (take 15 u) ++ packed_unit (get_or u 14 0) (get_or u 15 0)) t long
     (simp (append_assoc, append-nil))
 

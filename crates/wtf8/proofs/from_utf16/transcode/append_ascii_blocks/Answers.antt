@@ -7,7 +7,7 @@ pub returns-in_err-reserve-clause-room : goal.returns-in_err-reserve-clause-room
 returns-in_err-reserve-clause-room g c room = absurd (false≢true (c.in_err-reserve.ensures.room (omega (
   arith,
   rest_form-fits c.args.bytes.now c.type_inv.v c.requires.within room,
-  rest_form-longer c.args.v.now c.args.from.at,
+  rest_form-longer c.args.v.now c.args.from.at c.type_inv.v,
   c.requires.within,
 ))))
 
