@@ -20,8 +20,6 @@ ghost use Rattle.wtf8.specs.View.{view_points, view_units};
 
 use crate::codec::code_point::CodePoint;
 use crate::codec::encoding;
-use crate::from_utf16::kernel::Progress;
-use crate::from_utf16::transcode;
 use crate::lanes::search;
 use crate::strings::appending;
 use crate::strings::lossy::replace_surrogates;
@@ -147,13 +145,9 @@ impl<A: Allocator> Wtf8Buf<A> {
         ensures form { IfOk result (λ b. (w : List ℕ) → IsForm w v.now → b.bytes ≡ w) }
         ensures empty { v.now ≡ [] → IsOk result }
     {
-        let mut bytes = Vec::new(alloc);
-        let start = Progress {
-            at: 0,
-            is_utf8: true,
-        };
-        let is_utf8 = transcode::append_utf16(&mut bytes, v, start)?;
-        Ok(from_well_formed(bytes, Utf8Prefix::new(is_utf8)))
+        let mut string = Wtf8Buf::new(alloc);
+        string.push_ill_formed_utf16(v)?;
+        Ok(string)
     }
 
     /// Copies the string, with a clone of its allocator. Linear in the length.

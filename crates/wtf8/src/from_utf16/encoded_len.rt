@@ -1,15 +1,19 @@
 // Counts the bytes of code units before they are encoded: one for each unit, and those that units from 0x80 on add.
-ghost use Rattle.std.specs.Prelude.{◌≡◌, ◌+◌, ◌-◌, ◌*◌, ◌<◌, ◌≤◌, ℕ, List, length, take, drop, slice_index, slice_index_or};
+ghost use Rattle.std.specs.Prelude.{◌≡◌, ◌+◌, ◌<◌, ◌≤◌, ℕ, Bool, List, length, slice_index, slice_index_or, vec_len, vec_capacity, IsOk, OnOk};
 ghost use lib.Lanes.{zip2};
 ghost use Rattle.wtf8.specs.Form.{IsForm};
 ghost use Rattle.wtf8.specs.private.EncodedLengths.{more_bytes, IsCounted};
+ghost use Rattle.wtf8.specs.private.Prefixes.{HasRoomFrom};
 
-use crate::from_utf16::kernel::{BLOCK_UNITS, LEAD_KIND, QUARTER_BLOCK, TRAIL_KIND};
-use crate::codec::code_point::SURROGATES_PER_HALF;
+use crate::codec::code_point::{LEAD_KIND, SURROGATES_PER_HALF, TRAIL_KIND};
+use crate::vec::spare_capacity;
+use std::alloc::{AllocError, Allocator};
 use std::simd::prelude::*;
 
-/// The most bytes that a code unit adds.
-pub(crate) const MOST_BYTES: usize = 3;
+/// The units that are counted at once, and fewer at the end.
+const BLOCK: usize = 16;
+
+const LAST_BLOCK: usize = 4;
 
 /// The most units whose lanes are added before they are summed up: a unit adds at most 2 to a sum of 16 bits.
 const SUMMED_UNITS: usize = 16384;
@@ -31,8 +35,8 @@ fn more_bytes_of_each<const N: usize>(units: Simd<u16, N>, next: Simd<u16, N>) -
     let per_half = Simd::<u16, N>::splat(SURROGATES_PER_HALF);
     let leads = (units / per_half).simd_eq(Simd::splat(LEAD_KIND));
     let trails = (next / per_half).simd_eq(Simd::splat(TRAIL_KIND));
-    let second = units.simd_ge(Simd::splat(0x80)).select(one, zero);
-    let third = units.simd_ge(Simd::splat(0x800)).select(one, zero);
+    let second = (units / Simd::splat(0x80)).simd_min(one);
+    let third = (units / Simd::splat(0x800)).simd_min(one);
     (leads & trails).select(zero, second + third)
 }
 
@@ -88,11 +92,11 @@ pub fn encoded_len(units: &[u16]) -> usize
     ensures { (w : List ℕ) → IsForm w units.now → result ≡ length w }
 {
     let mut counted = Counted { at: 0, len: 0 };
-    while BLOCK_UNITS < units.len() - counted.at {
-        counted = count_blocks::<BLOCK_UNITS>(units, counted);
+    while BLOCK < units.len() - counted.at {
+        counted = count_blocks::<BLOCK>(units, counted);
     }
-    if QUARTER_BLOCK < units.len() - counted.at {
-        counted = count_blocks::<QUARTER_BLOCK>(units, counted);
+    if LAST_BLOCK < units.len() - counted.at {
+        counted = count_blocks::<LAST_BLOCK>(units, counted);
     }
     while counted.at < units.len() {
         counted = Counted {
@@ -101,4 +105,58 @@ pub fn encoded_len(units: &[u16]) -> usize
         };
     }
     counted.len
+}
+
+/// Reserves `count` bytes for `units` units or for the last of them. If the string has no more bytes than these units,
+/// so that a copy of it costs no more than they do, the capacity is exact.
+#[inline(always)]
+pub(crate) fn reserve<A: Allocator>(
+    bytes: &mut Vec<u8, A>,
+    count: usize,
+    units: usize,
+) -> Result<(), AllocError>
+    ensures items { bytes.new.items ≡ bytes.old.items }
+    ensures ok { OnOk result (vec_len bytes.new + count ≤ vec_capacity bytes.new) }
+    ensures room { length bytes.old.items + count ≤ vec_capacity bytes.old → IsOk result }
+    ensures capacity { vec_capacity bytes.old ≤ vec_capacity bytes.new }
+{
+    if bytes.len() <= units {
+        return bytes.reserve_exact(count);
+    }
+    bytes.reserve(count)
+}
+
+/// Reserves the bytes of the units from index `at` on. They are counted, so that one request is enough. Not inlined,
+/// since few calls need it.
+#[inline(never)]
+fn reserve_rest<A: Allocator>(
+    bytes: &mut Vec<u8, A>,
+    v: &[u16],
+    at: usize,
+) -> Result<(), AllocError>
+    requires within { at ≤ length v.now }
+    ensures items { bytes.new.items ≡ bytes.old.items }
+    ensures room { (is_utf8 : Bool) → HasRoomFrom bytes.old v.now at is_utf8 → IsOk result }
+    ensures capacity { vec_capacity bytes.old ≤ vec_capacity bytes.new }
+{
+    reserve(bytes, encoded_len(&v[at..]), v.len())
+}
+
+/// Reserves the bytes of the units from index `at` on if there is no room for the next `count` bytes.
+#[inline(always)]
+pub(crate) fn make_room<A: Allocator>(
+    bytes: &mut Vec<u8, A>,
+    v: &[u16],
+    at: usize,
+    count: usize,
+) -> Result<(), AllocError>
+    requires within { at ≤ length v.now }
+    ensures items { bytes.new.items ≡ bytes.old.items }
+    ensures room { (is_utf8 : Bool) → HasRoomFrom bytes.old v.now at is_utf8 → IsOk result }
+    ensures capacity { vec_capacity bytes.old ≤ vec_capacity bytes.new }
+{
+    if count <= spare_capacity(bytes) {
+        return Ok(());
+    }
+    reserve_rest(bytes, v, at)
 }

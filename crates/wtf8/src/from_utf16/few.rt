@@ -1,22 +1,21 @@
-// Encodes a few code units straight into the string. It has room for them whatever they are, so that no unit asks for
-// it: zeros are appended first and overwritten, and those after the last unit's bytes cut off.
-ghost use Rattle.std.specs.Prelude.{◌≡◌, ℕ, List, ◌++◌, ◌+◌, ◌-◌, ◌*◌, ◌<◌, ◌≤◌, length, take, slice_index, vec_capacity, IfOk, IsOk};
+// Encodes a few code units on the stack, and appends their bytes at once.
+ghost use Rattle.std.specs.Prelude.{◌≡◌, ℕ, List, ◌++◌, ◌+◌, ◌-◌, ◌*◌, ◌<◌, ◌≤◌, length, take, slice_index, vec_capacity, IfOk, IsOk, OnErr};
 ghost use Rattle.wtf8.specs.CodePoint.{number};
 ghost use Rattle.wtf8.specs.Form.{encoding};
-ghost use Rattle.wtf8.specs.private.Prefixes.{IsKnownForm, IsReadTo, ReadsOn};
+ghost use Rattle.wtf8.specs.private.Prefixes.{HasRoomFrom, IsKnownForm, IsReadTo, ReadsOn};
 
 use crate::codec::code_point::{CodePoint, FIRST_LEAD};
 use crate::codec::encoding::{four_bytes, three_bytes, two_bytes};
 use crate::from_utf16::decode;
-use crate::from_utf16::kernel::Progress;
+use crate::from_utf16::encoded_len::reserve;
+use crate::from_utf16::kernel::{self, HALF_BLOCK, Progress};
 use std::alloc::{AllocError, Allocator};
 
 /// The most units that are encoded one by one: 12 of three bytes take 279 instructions, as a block with zeros 298.
 pub(crate) const FEW_UNITS: usize = 12;
 
-/// The bytes that a string must have room for: at least three for each unit, and four for the last code point. A
-/// multiple of 16, so that few stores zero them.
-pub(crate) const FEW_BYTES: usize = 48;
+/// At least three bytes for each unit, and four for the last code point. A multiple of 16, so that few stores zero them.
+const FEW_BYTES: usize = 64;
 
 /// Writes an array at index `at`. Returns the index after it.
 #[inline(always)]
@@ -106,6 +105,10 @@ fn write_few(v: &[u16], is_utf8: bool, out: &mut [u8]) -> (usize, bool)
     ensures short { result.0 ≤ FEW_BYTES }
     ensures read { (w : List ℕ) → ReadsOn w (w ++ take result.0 out.new) v.now 0 is_utf8 (length v.now) result.1 }
 {
+    if HALF_BLOCK <= v.len() {
+        let (len, are_utf8) = kernel::write_last_block(v, out, 0);
+        return (len, is_utf8 & are_utf8);
+    }
     let mut len = 0;
     let mut read = Progress { at: 0, is_utf8 };
     while read.at < v.len() {
@@ -115,7 +118,7 @@ fn write_few(v: &[u16], is_utf8: bool, out: &mut [u8]) -> (usize, bool)
 }
 
 /// Appends the bytes of at most `FEW_UNITS` units, after bytes with which they form no pair. Returns whether `is_utf8`
-/// and none of them is a lone surrogate.
+/// and none of them is a lone surrogate. They are encoded on the stack, so that one request is enough.
 #[inline(always)]
 pub(crate) fn append<A: Allocator>(
     bytes: &mut Vec<u8, A>,
@@ -123,14 +126,14 @@ pub(crate) fn append<A: Allocator>(
     is_utf8: bool,
 ) -> Result<bool, AllocError>
     requires few { length v.now ≤ FEW_UNITS }
-    requires room { length bytes.old.items + FEW_BYTES ≤ vec_capacity bytes.old }
     ensures ok { IfOk result (λ known. (front : List ℕ) → IsReadTo bytes.old.items front v.now 0 is_utf8 → IsKnownForm bytes.new.items (front ++ v.now) known) }
-    ensures done { IsOk result }
+    ensures kept { OnErr result (bytes.new.items ≡ bytes.old.items) }
+    ensures room { HasRoomFrom bytes.old v.now 0 is_utf8 → IsOk result }
     ensures capacity { vec_capacity bytes.old ≤ vec_capacity bytes.new }
 {
-    let start = bytes.len();
-    bytes.extend_from_slice(&[0; FEW_BYTES])?;
-    let (len, is_utf8) = write_few(v, is_utf8, &mut bytes[start..]);
-    bytes.truncate(start + len);
+    let mut block = [0; FEW_BYTES];
+    let (len, is_utf8) = write_few(v, is_utf8, &mut block);
+    reserve(bytes, len, v.len())?;
+    bytes.extend_from_slice(&block[..len])?;
     Ok(is_utf8)
 }

@@ -21,7 +21,8 @@ ghost use Rattle.wtf8.specs.Unicode.{IsLead, IsUnit};
 ghost use Rattle.wtf8.specs.private.Prefixes.{AreScalarUnits, HasRoomFrom, IsKnownForm, ReadsOn};
 ghost use Rattle.wtf8.specs.private.PackedUnits.{tagged_units, tagged_block, scalar_head, scalar_last_byte, three_byte_flag, byte_lanes, units_table_index, AreUnitBytes, packed_units};
 
-use crate::codec::code_point::{FIRST_LEAD, FIRST_TRAIL, SURROGATES_PER_HALF};
+use crate::codec::code_point::{FIRST_LEAD, LEAD_KIND, SURROGATES_PER_HALF, TRAIL_KIND};
+use crate::from_utf16::encoded_len::make_room;
 use crate::from_utf16::shuffle_table;
 use std::alloc::{AllocError, Allocator};
 use std::simd::prelude::*;
@@ -29,9 +30,9 @@ use std::simd::prelude::*;
 /// The number of units that are encoded together: the 16-bit lanes of a vector of 32 bytes, or of two of 16.
 pub(crate) const BLOCK_UNITS: usize = 16;
 
-const HALF_BLOCK: usize = BLOCK_UNITS / 2;
+pub(crate) const HALF_BLOCK: usize = BLOCK_UNITS / 2;
 
-pub(crate) const QUARTER_BLOCK: usize = BLOCK_UNITS / 4;
+const QUARTER_BLOCK: usize = BLOCK_UNITS / 4;
 
 /// The least number of the last units, fewer than a block, that are encoded as one.
 pub(crate) const LAST_UNITS: usize = QUARTER_BLOCK;
@@ -40,11 +41,6 @@ pub(crate) const LAST_UNITS: usize = QUARTER_BLOCK;
 pub(crate) const MIN_SPARE: usize = 52;
 
 const MAX_BLOCK_BYTES: usize = 3 * BLOCK_UNITS;
-
-/// The high six bits of leads, and of leads alone; below, of trails.
-pub(crate) const LEAD_KIND: u16 = FIRST_LEAD / SURROGATES_PER_HALF;
-
-pub(crate) const TRAIL_KIND: u16 = FIRST_TRAIL / SURROGATES_PER_HALF;
 
 /// Shuffle indices: lanes 0 to 3 of two vectors, interleaved; below, lanes 4 to 7, 8 to 11 and 12 to 15.
 const FIRST_QUARTER: [usize; 8] = [0, 16, 1, 17, 2, 18, 3, 19];
@@ -274,7 +270,7 @@ fn padded(units: &[u16]) -> u16x16
 /// Encodes units as a block with zeros after them. A lead before these is lone, and each of them takes one byte, a
 /// zero, which is left out. Returns the index after the other bytes, and whether no unit is a lone surrogate.
 #[inline(always)]
-fn write_last_block(units: &[u16], scratch: &mut [u8], len: usize) -> (usize, bool)
+pub(crate) fn write_last_block(units: &[u16], scratch: &mut [u8], len: usize) -> (usize, bool)
     requires least { LAST_UNITS ≤ length units.now }
     requires most { length units.now < BLOCK_UNITS }
     requires room { len + MIN_SPARE ≤ length scratch.old }
@@ -340,6 +336,7 @@ pub(crate) fn append_blocks<const SCRATCH: usize, A: Allocator>(
     let mut read = from;
     loop {
         let (len, to) = write_blocks(v, read.at, scratch);
+        make_room(bytes, v, read.at, len)?;
         bytes.extend_from_slice(&scratch[..len])?;
         read.at = to.at;
         read.is_utf8 &= to.is_utf8;

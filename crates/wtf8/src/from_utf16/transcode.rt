@@ -1,12 +1,12 @@
 // Encodes code units in steps, by what the next units are: an ASCII run of up to 32, 16, 8 or 4 units and the code
 // point after it, blocks of `kernel`, or one code point. `decode_utf16` decodes the last ones, fewer than `LAST_UNITS`.
-ghost use Rattle.std.specs.Prelude.{◌≡◌, ℕ, List, ◌++◌, ◌+◌, ◌^◌, ◌<◌, ◌≤◌, length, take, map, min, vec_capacity, IfOk, IsOk};
+ghost use Rattle.std.specs.Prelude.{◌≡◌, ℕ, Bool, List, ◌++◌, ◌+◌, ◌^◌, ◌<◌, ◌≤◌, length, take, map, min, vec_capacity, IfOk, IsOk};
 ghost use Rattle.wtf8.specs.private.Prefixes.{IsKnownForm, IsReadTo, ReadsOn, HasRoomFrom};
 
 use crate::codec::code_point::CodePoint;
 use crate::codec::encoding;
 use crate::from_utf16::decode;
-use crate::from_utf16::encoded_len::{MOST_BYTES, encoded_len};
+use crate::from_utf16::encoded_len::{make_room, reserve};
 use crate::from_utf16::kernel::{self, LAST_UNITS, MIN_SPARE, Progress};
 use crate::lanes::ascii::first_not_ascii;
 use crate::vec::spare_capacity;
@@ -32,6 +32,12 @@ const SCRATCH_BYTES: usize = 512;
 /// The scratch buffer's size while fewer than `LONG_RUN` units are left: room for these, since it is zeroed first.
 const SHORT_SCRATCH_BYTES: usize = 112;
 
+/// The most bytes of a code point.
+const MOST_POINT_BYTES: usize = 4;
+
+/// The most bytes that a code unit adds.
+const MOST_BYTES: usize = 3;
+
 /// Units narrowed to bytes. A unit above 0xFF becomes 0xFF, so that it is not ASCII.
 #[inline(always)]
 fn narrow_saturating<const N: usize>(units: Simd<u16, N>) -> Simd<u8, N>
@@ -53,6 +59,7 @@ fn append_point<A: Allocator>(
     ensures room { HasRoomFrom bytes.old v.now from.at from.is_utf8 → IsOk result }
     ensures capacity { vec_capacity bytes.old ≤ vec_capacity bytes.new }
 {
+    make_room(bytes, v, from.at, MOST_POINT_BYTES)?;
     let unit = v[from.at];
     if unit < 0x800 {
         // Letters of most alphabets: never a surrogate, and at most two bytes.
@@ -245,68 +252,22 @@ fn append_rest<A: Allocator>(
     Ok(is_utf8)
 }
 
-/// Makes room for `count` more bytes: in a new string exactly, else at least, so that later calls find room too.
+/// Reserves a byte for each unit from index `at` on if the first is ASCII, as most often all are.
 #[inline(always)]
-fn reserve<A: Allocator>(bytes: &mut Vec<u8, A>, count: usize, is_new: bool) -> Result<(), AllocError>
-    ensures items { bytes.new.items ≡ bytes.old.items }
-    ensures room { length bytes.old.items + count ≤ vec_capacity bytes.old → IsOk result }
-    ensures capacity { vec_capacity bytes.old ≤ vec_capacity bytes.new }
-{
-    if is_new {
-        return bytes.reserve_exact(count);
-    }
-    bytes.reserve(count)
-}
-
-/// Appends the ASCII units at the front of `LONG_RUN` or more, by blocks, after one request of a byte for each unit.
-#[inline(always)]
-fn append_ascii_blocks<A: Allocator>(
+fn reserve_ascii<A: Allocator>(
     bytes: &mut Vec<u8, A>,
     v: &[u16],
-    from: Progress,
-    is_new: bool,
-) -> Result<Progress, AllocError>
-    requires within { from.at ≤ length v.now }
-    ensures order { IfOk result (λ to. to.at ≤ length v.now) }
-    ensures read { IfOk result (λ to. ReadsOn bytes.old.items bytes.new.items v.now from.at from.is_utf8 to.at to.is_utf8) }
-    ensures begins { take (length bytes.old.items) bytes.new.items ≡ bytes.old.items }
-    ensures room { HasRoomFrom bytes.old v.now from.at from.is_utf8 → IsOk result }
-    ensures capacity { vec_capacity bytes.old ≤ vec_capacity bytes.new }
-{
-    if v.len() - from.at < LONG_RUN || 0x80 <= v[from.at] {
-        return Ok(from);
-    }
-    reserve(bytes, v.len() - from.at, is_new)?;
-    let mut read = from;
-    while LONG_RUN <= v.len() - read.at {
-        let (to, _) = append_front::<LONG_RUN, A>(bytes, v, read)?;
-        let is_whole = to.at == read.at + LONG_RUN;
-        read = to;
-        if !is_whole {
-            return Ok(read);
-        }
-    }
-    Ok(read)
-}
-
-/// Reserves the bytes of all units from index `from.at` on, if they may not fit: they are counted, so that one request
-/// is enough.
-#[inline(always)]
-fn reserve_rest<A: Allocator>(
-    bytes: &mut Vec<u8, A>,
-    v: &[u16],
-    from: Progress,
-    is_new: bool,
+    at: usize,
 ) -> Result<(), AllocError>
-    requires within { from.at ≤ length v.now }
+    requires within { at ≤ length v.now }
     ensures items { bytes.new.items ≡ bytes.old.items }
-    ensures room { HasRoomFrom bytes.old v.now from.at from.is_utf8 → IsOk result }
+    ensures room { (is_utf8 : Bool) → HasRoomFrom bytes.old v.now at is_utf8 → IsOk result }
     ensures capacity { vec_capacity bytes.old ≤ vec_capacity bytes.new }
 {
-    if MOST_BYTES * (v.len() - from.at) <= spare_capacity(bytes) {
+    if at == v.len() || 0x80 <= v[at] {
         return Ok(());
     }
-    reserve(bytes, encoded_len(&v[from.at..]), is_new)
+    reserve(bytes, v.len() - at, v.len())
 }
 
 /// Appends the bytes of all units from index `from.at` on, after bytes with which they form no pair. Returns whether
@@ -322,9 +283,8 @@ pub(crate) fn append_utf16<A: Allocator>(
     ensures room { HasRoomFrom bytes.old v.now from.at from.is_utf8 → IsOk result }
     ensures capacity { vec_capacity bytes.old ≤ vec_capacity bytes.new }
 {
-    let is_new = bytes.is_empty();
-    let read = append_ascii_blocks(bytes, v, from, is_new)?;
-    reserve_rest(bytes, v, read, is_new)?;
-    let read = append_steps(bytes, v, read)?;
+    reserve_ascii(bytes, v, from.at)?;
+    let read = append_steps(bytes, v, from)?;
+    make_room(bytes, v, read.at, MOST_BYTES * (v.len() - read.at))?;
     append_rest(bytes, v, read)
 }

@@ -2,7 +2,7 @@
 use Rattle.wtf8.proofs.Common.{◌≡◌, ℕ, ◌+◌, ◌-◌, ◌≤◌, List, [], ◌∷◌, ◌++◌, length, take, drop, get_or, arith, ap, ◌∙◌, sym}
 use Rattle.wtf8.proofs.Common.{length-append, length-drop, take_all, drop_all, subst, Bool, false, true, false≢true, Fits, w16, Each1}
 use Rattle.wtf8.proofs.Common.{IsKnownForm, HasRoomFrom, vec_capacity, IsForm, cases_lt, inl, inr, refl, zero, suc, ◌*◌, ◌/◌, ◌%◌, ◌<◌}
-use Rattle.wtf8.proofs.Common.{zip2, map, replicate, top, cond, eqb, leb, sel_l, bit_and, nat_tests, sum_l, Each1, Each2, Each2-of, Each1-weaker}
+use Rattle.wtf8.proofs.Common.{zip2, map, replicate, top, cond, eqb, ltb, sel_l, bit_and, nat_tests, sum_l, Each1, Each2, Each2-of, Each1-weaker}
 use Rattle.wtf8.proofs.Common.{IsClean, units, units_of, bytes, encoding, IsLead, IsTrail, length-take, length-zip2, take-add, drop-drop, sum_bound}
 use Rattle.wtf8.proofs.Common.{get_or-drop}
 use Rattle.wtf8.specs.private.EncodedLengths.{each_more, more_bytes, IsCounted}
@@ -54,8 +54,18 @@ rest_form-fits old {u} {at} {known} fits within room = elim (cases_lt at (length
 abbrev lanes_of_kind : ℕ → ℕ → List ℕ → List ℕ
 lanes_of_kind n k xs = zip2 (λ a b. cond (eqb a b) 0xFFFF 0) (zip2 (λ a b. a / b) xs (replicate n 1024)) (replicate n k)
 
+abbrev lanes_below : List ℕ → List ℕ → List ℕ
+lanes_below = zip2 (λ a b. cond (ltb a b) 0xFFFF 0)
+
+abbrev quotients : ℕ → ℕ → List ℕ → List ℕ
+quotients n k xs = zip2 (λ a b. a / b) xs (replicate n k)
+
+-- the lesser of each quotient and 1
 abbrev ones_from : ℕ → ℕ → List ℕ → List ℕ
-ones_from n k xs = sel_l (map (top 15) (zip2 (λ a b. cond (leb a b) 0xFFFF 0) (replicate n k) xs)) (replicate n 1) (replicate n 0)
+ones_from n k xs =
+    let own = quotients n k xs in
+    let one : List ℕ = replicate n 1 in
+    sel_l (map (top 15) (lanes_below own one)) own one
 
 abbrev lanes_and : List ℕ → List ℕ → List ℕ
 lanes_and = zip2 bit_and
@@ -68,7 +78,8 @@ more_bytes_lanes n xs ys = sel_l (map (top 15) (lanes_and (lanes_of_kind n 54 xs
     (lanes_add (ones_from n 0x80 xs) (ones_from n 0x800 xs))
 
 more_bytes_lane : (x y : ℕ) → cond (top 15 (bit_and (cond (eqb (x / 1024) 54) 0xFFFF 0) (cond (eqb (y / 1024) 55) 0xFFFF 0))) 0
-    ((cond (top 15 (cond (leb 0x80 x) 0xFFFF 0)) 1 0 + cond (top 15 (cond (leb 0x800 x) 0xFFFF 0)) 1 0) % 65536) ≡ more_bytes x y
+    ((cond (top 15 (cond (ltb (x / 0x80) 1) 0xFFFF 0)) (x / 0x80) 1 + cond (top 15 (cond (ltb (x / 0x800) 1) 0xFFFF 0)) (x / 0x800) 1) % 65536)
+    ≡ more_bytes x y
 more_bytes_lane x y = rw (and_lanes (eqb (x / 1024) 54) (eqb (y / 1024) 55)) (grind (arith, nat_tests))
 
 pub more_bytes_lanes-zip2 : (n : ℕ) (xs ys : List ℕ) → length xs ≡ n → length ys ≡ n → more_bytes_lanes n xs ys ≡ zip2 more_bytes xs ys
@@ -225,8 +236,13 @@ length-clean (p ∷ c) x =
     let rest = length-clean c (clean-rest p c x) in
     elim (cases_lt p 0x10000) [
       | inl l ↦ rw (units_one p l) (omega (arith, length-append (encoding p) (bytes c), rest, more_bytes-point p c l x))
-      | inr g ↦ rw (units_two p g) (omega (arith, length-append (encoding p) (bytes c), rest, four p g,
-          more_bytes-pair p (get_or (units c) 0 0) g (clean-first p c x)))
+      | inr g ↦ rw (units_two p g) (omega (
+        arith,
+        length-append (encoding p) (bytes c),
+        rest,
+        four p g,
+        more_bytes-pair p (get_or (units c) 0 0) g (clean-first p c x),
+      ))
     ]
   where
     four : (p : ℕ) → 0x10000 ≤ p → length (encoding p) ≡ 4

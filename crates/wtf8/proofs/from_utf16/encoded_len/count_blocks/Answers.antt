@@ -59,8 +59,16 @@ loop-at-preserved g c =
     })
 
 pub overflow_add-result : goal.overflow_add-result
-overflow_add-result g c = record { fits = omega (arith, c.requires.counted.bytes, sum-most c.args.from.at 0 c.args.units.now,
-    c.requires.counted.within, c.loop-at.invariant.within, c.min-end.ensures) }
+overflow_add-result g c = record {
+  fits = omega (
+    arith,
+    c.requires.counted.bytes,
+    sum-most c.args.from.at 0 c.args.units.now,
+    c.requires.counted.within,
+    c.loop-at.invariant.within,
+    c.min-end.ensures,
+  );
+}
 
 pub overflow_add-lanes-2 : goal.overflow_add-lanes-2
 overflow_add-lanes-2 g c = sum_fits w16 0 c.loop-at.lanes (omega (
@@ -72,18 +80,20 @@ overflow_add-lanes-2 g c = sum_fits w16 0 c.loop-at.lanes (omega (
 ))
 
 pub overflow_add-result-2 : goal.overflow_add-result-2
-overflow_add-result-2 g c = record { fits = omega (
-  arith,
-  c.requires.counted.bytes,
-  sum-most c.args.from.at 0 c.args.units.now,
-  c.requires.counted.within,
-  c.loop-at.invariant.within,
-  c.min-end.ensures,
-  c.from.ensures,
-  fold-sum 0 c.loop-at.lanes,
-  c.loop-at.invariant.sum,
-  sum-most (c.loop-at.at - c.args.from.at) c.args.from.at c.args.units.now,
-) }
+overflow_add-result-2 g c = record {
+  fits = omega (
+    arith,
+    c.requires.counted.bytes,
+    sum-most c.args.from.at 0 c.args.units.now,
+    c.requires.counted.within,
+    c.loop-at.invariant.within,
+    c.min-end.ensures,
+    c.from.ensures,
+    fold-sum 0 c.loop-at.lanes,
+    c.loop-at.invariant.sum,
+    sum-most (c.loop-at.at - c.args.from.at) c.args.from.at c.args.units.now,
+  );
+}
 
 pub returns-clause-counted : goal.returns-clause-counted
 returns-clause-counted g c = IsCounted-on c.requires.counted c.loop-at.invariant.order
