@@ -20,6 +20,7 @@ ghost use Rattle.wtf8.specs.View.{view_points, view_units};
 
 use crate::codec::code_point::CodePoint;
 use crate::codec::encoding;
+use crate::from_utf16::transcode;
 use crate::lanes::search;
 use crate::strings::appending;
 use crate::strings::lossy::replace_surrogates;
@@ -145,9 +146,9 @@ impl<A: Allocator> Wtf8Buf<A> {
         ensures form { IfOk result (λ b. (w : List ℕ) → IsForm w v.now → b.bytes ≡ w) }
         ensures empty { v.now ≡ [] → IsOk result }
     {
-        let mut string = Wtf8Buf::new(alloc);
-        string.push_ill_formed_utf16(v)?;
-        Ok(string)
+        let mut bytes = Vec::new(alloc);
+        let is_utf8 = transcode::append_all(&mut bytes, v)?;
+        Ok(from_well_formed(bytes, Utf8Prefix::new(is_utf8)))
     }
 
     /// Copies the string, with a clone of its allocator. Linear in the length.

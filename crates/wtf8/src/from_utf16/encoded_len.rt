@@ -1,9 +1,9 @@
 // Counts the bytes of code units before they are encoded: one for each unit, and those that units from 0x80 on add.
-ghost use Rattle.std.specs.Prelude.{◌≡◌, ◌+◌, ◌<◌, ◌≤◌, ℕ, Bool, List, length, slice_index, slice_index_or, vec_len, vec_capacity, IsOk, OnOk};
+ghost use Rattle.std.specs.Prelude.{◌≡◌, ◌+◌, ◌<◌, ◌≤◌, ◌^◌, ℕ, List, length, slice_index, slice_index_or, vec_len, vec_capacity, IsOk, OnOk};
 ghost use lib.Lanes.{zip2};
 ghost use Rattle.wtf8.specs.Form.{IsForm};
 ghost use Rattle.wtf8.specs.private.EncodedLengths.{more_bytes, IsCounted};
-ghost use Rattle.wtf8.specs.private.Prefixes.{HasRoomFrom};
+ghost use Rattle.wtf8.specs.private.Prefixes.{HasRoomAfter};
 
 use crate::codec::code_point::{LEAD_KIND, SURROGATES_PER_HALF, TRAIL_KIND};
 use crate::vec::spare_capacity;
@@ -126,37 +126,41 @@ pub(crate) fn reserve<A: Allocator>(
     bytes.reserve(count)
 }
 
-/// Reserves the bytes of the units from index `at` on. They are counted, so that one request is enough. Not inlined,
-/// since few calls need it.
+/// Reserves `encoded` bytes, and those of the units from index `at` on. These are counted, so that one request is
+/// enough. Not inlined, since few calls need it.
 #[inline(never)]
 fn reserve_rest<A: Allocator>(
     bytes: &mut Vec<u8, A>,
     v: &[u16],
     at: usize,
+    encoded: usize,
 ) -> Result<(), AllocError>
     requires within { at ≤ length v.now }
+    requires encoded { encoded < 2 ^ 16 }
     ensures items { bytes.new.items ≡ bytes.old.items }
-    ensures room { (is_utf8 : Bool) → HasRoomFrom bytes.old v.now at is_utf8 → IsOk result }
+    ensures room { (w : List ℕ) → length w ≡ encoded → HasRoomAfter bytes.old w v.now at → IsOk result }
     ensures capacity { vec_capacity bytes.old ≤ vec_capacity bytes.new }
 {
-    reserve(bytes, encoded_len(&v[at..]), v.len())
+    reserve(bytes, encoded + encoded_len(&v[at..]), v.len())
 }
 
-/// Reserves the bytes of the units from index `at` on if there is no room for the next `count` bytes.
+/// If there is no room for the next `least` bytes, reserves `encoded` bytes, and those of the units from index `at` on.
 #[inline(always)]
 pub(crate) fn make_room<A: Allocator>(
     bytes: &mut Vec<u8, A>,
     v: &[u16],
     at: usize,
-    count: usize,
+    encoded: usize,
+    least: usize,
 ) -> Result<(), AllocError>
     requires within { at ≤ length v.now }
+    requires encoded { encoded < 2 ^ 16 }
     ensures items { bytes.new.items ≡ bytes.old.items }
-    ensures room { (is_utf8 : Bool) → HasRoomFrom bytes.old v.now at is_utf8 → IsOk result }
+    ensures room { (w : List ℕ) → length w ≡ encoded → HasRoomAfter bytes.old w v.now at → IsOk result }
     ensures capacity { vec_capacity bytes.old ≤ vec_capacity bytes.new }
 {
-    if count <= spare_capacity(bytes) {
+    if least <= spare_capacity(bytes) {
         return Ok(());
     }
-    reserve_rest(bytes, v, at)
+    reserve_rest(bytes, v, at, encoded)
 }

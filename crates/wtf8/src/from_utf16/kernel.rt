@@ -336,7 +336,7 @@ pub(crate) fn append_blocks<const SCRATCH: usize, A: Allocator>(
     let mut read = from;
     loop {
         let (len, to) = write_blocks(v, read.at, scratch);
-        make_room(bytes, v, read.at, len)?;
+        make_room(bytes, v, to.at, len, len)?;
         bytes.extend_from_slice(&scratch[..len])?;
         read.at = to.at;
         read.is_utf8 &= to.is_utf8;

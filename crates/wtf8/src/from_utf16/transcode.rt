@@ -1,12 +1,13 @@
 // Encodes code units in steps, by what the next units are: an ASCII run of up to 32, 16, 8 or 4 units and the code
 // point after it, blocks of `kernel`, or one code point. `decode_utf16` decodes the last ones, fewer than `LAST_UNITS`.
-ghost use Rattle.std.specs.Prelude.{◌≡◌, ℕ, Bool, List, ◌++◌, ◌+◌, ◌^◌, ◌<◌, ◌≤◌, length, take, map, min, vec_capacity, IfOk, IsOk};
+ghost use Rattle.std.specs.Prelude.{◌≡◌, ℕ, Bool, true, List, ◌++◌, ◌+◌, ◌^◌, ◌<◌, ◌≤◌, length, take, map, min, vec_capacity, IfOk, IsOk};
 ghost use Rattle.wtf8.specs.private.Prefixes.{IsKnownForm, IsReadTo, ReadsOn, HasRoomFrom};
 
 use crate::codec::code_point::CodePoint;
 use crate::codec::encoding;
 use crate::from_utf16::decode;
 use crate::from_utf16::encoded_len::{make_room, reserve};
+use crate::from_utf16::few::{self, FEW_UNITS};
 use crate::from_utf16::kernel::{self, LAST_UNITS, MIN_SPARE, Progress};
 use crate::lanes::ascii::first_not_ascii;
 use crate::vec::spare_capacity;
@@ -59,7 +60,7 @@ fn append_point<A: Allocator>(
     ensures room { HasRoomFrom bytes.old v.now from.at from.is_utf8 → IsOk result }
     ensures capacity { vec_capacity bytes.old ≤ vec_capacity bytes.new }
 {
-    make_room(bytes, v, from.at, MOST_POINT_BYTES)?;
+    make_room(bytes, v, from.at, 0, MOST_POINT_BYTES)?;
     let unit = v[from.at];
     if unit < 0x800 {
         // Letters of most alphabets: never a surrogate, and at most two bytes.
@@ -252,7 +253,29 @@ fn append_rest<A: Allocator>(
     Ok(is_utf8)
 }
 
-/// Reserves a byte for each unit from index `at` on if the first is ASCII, as most often all are.
+/// Whether the first and the last `N` units, which may overlap, are ASCII.
+#[inline(always)]
+fn are_ends_ascii<const N: usize>(units: &[u16]) -> bool
+    requires { (N ≤ u64.BITS) × (N ≤ length units.now) }
+{
+    let front = Simd::<u16, N>::from_slice(units);
+    let back = Simd::<u16, N>::from_slice(&units[units.len() - N..]);
+    front.simd_max(back).simd_ge(Simd::splat(0x80)).to_bitmask() == 0
+}
+
+/// Whether a byte for each unit may be enough: the units are ASCII, or many and the first is.
+#[inline(always)]
+fn may_be_ascii(units: &[u16]) -> bool {
+    match units.len() {
+        0..LAST_UNITS => false,
+        LAST_UNITS..SMALL_RUN => are_ends_ascii::<SHORT_RUN>(units),
+        SMALL_RUN..MEDIUM_RUN => are_ends_ascii::<SMALL_RUN>(units),
+        MEDIUM_RUN..LONG_RUN => are_ends_ascii::<MEDIUM_RUN>(units),
+        _ => units[0] < 0x80,
+    }
+}
+
+/// Reserves a byte for each unit from index `at` on, if that may be enough.
 #[inline(always)]
 fn reserve_ascii<A: Allocator>(
     bytes: &mut Vec<u8, A>,
@@ -264,10 +287,10 @@ fn reserve_ascii<A: Allocator>(
     ensures room { (is_utf8 : Bool) → HasRoomFrom bytes.old v.now at is_utf8 → IsOk result }
     ensures capacity { vec_capacity bytes.old ≤ vec_capacity bytes.new }
 {
-    if at == v.len() || 0x80 <= v[at] {
-        return Ok(());
+    if may_be_ascii(&v[at..]) {
+        return reserve(bytes, v.len() - at, v.len());
     }
-    reserve(bytes, v.len() - at, v.len())
+    Ok(())
 }
 
 /// Appends the bytes of all units from index `from.at` on, after bytes with which they form no pair. Returns whether
@@ -285,6 +308,25 @@ pub(crate) fn append_utf16<A: Allocator>(
 {
     reserve_ascii(bytes, v, from.at)?;
     let read = append_steps(bytes, v, from)?;
-    make_room(bytes, v, read.at, MOST_BYTES * (v.len() - read.at))?;
+    make_room(bytes, v, read.at, 0, MOST_BYTES * (v.len() - read.at))?;
     append_rest(bytes, v, read)
+}
+
+/// Appends the bytes of all units to a new string, as `append_utf16` does.
+#[inline(always)]
+pub(crate) fn append_all<A: Allocator>(
+    bytes: &mut Vec<u8, A>,
+    v: &[u16],
+) -> Result<bool, AllocError>
+    ensures ok { IfOk result (λ known. (front : List ℕ) → IsReadTo bytes.old.items front v.now 0 true → IsKnownForm bytes.new.items (front ++ v.now) known) }
+    ensures room { HasRoomFrom bytes.old v.now 0 true → IsOk result }
+{
+    if v.len() <= FEW_UNITS {
+        return few::append(bytes, v, true);
+    }
+    let start = Progress {
+        at: 0,
+        is_utf8: true,
+    };
+    append_utf16(bytes, v, start)
 }

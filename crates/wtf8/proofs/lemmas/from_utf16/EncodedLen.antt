@@ -1,7 +1,7 @@
 -- The length of the form of units: one byte for each unit, and what each adds beyond that.
 use Rattle.wtf8.proofs.Common.{◌≡◌, ℕ, ◌+◌, ◌-◌, ◌≤◌, List, [], ◌∷◌, ◌++◌, length, take, drop, get_or, arith, ap, ◌∙◌, sym}
 use Rattle.wtf8.proofs.Common.{length-append, length-drop, take_all, drop_all, subst, Bool, false, true, false≢true, Fits, w16, Each1}
-use Rattle.wtf8.proofs.Common.{IsKnownForm, HasRoomFrom, vec_capacity, IsForm, cases_lt, inl, inr, refl, zero, suc, ◌*◌, ◌/◌, ◌%◌, ◌<◌}
+use Rattle.wtf8.proofs.Common.{IsKnownForm, IsReadTo, HasRoomFrom, HasRoomAfter, append-nil, vec_capacity, IsForm, cases_lt, inl, inr, refl, zero, suc, ◌*◌, ◌/◌, ◌%◌, ◌<◌}
 use Rattle.wtf8.proofs.Common.{zip2, map, replicate, top, cond, eqb, ltb, sel_l, bit_and, nat_tests, sum_l, Each1, Each2, Each2-of, Each1-weaker}
 use Rattle.wtf8.proofs.Common.{IsClean, units, units_of, bytes, encoding, IsLead, IsTrail, length-take, length-zip2, take-add, drop-drop, sum_bound}
 use Rattle.wtf8.proofs.Common.{get_or-drop}
@@ -33,21 +33,34 @@ rest_form-longer u at fits =
     let form = (rest_form-is u at fits).form in
     omega (arith, lists_have_lengths form.points, ap length form.reads.same_units, ap length form.encoded, length-drop at u)
 
+pub rest_form-most : (u : List ℕ) (at : ℕ) → ((i : ℕ) → Fits w16 (get_or u i 0)) → length (rest_form u at) ≤ 3 * length u
+rest_form-most u at fits =
+    let form = (rest_form-is u at fits).form in
+    omega (arith, lists_have_lengths form.points, ap length form.reads.same_units, ap length form.encoded, length-drop at u)
+
 -- if there is room for the units from index `at` on, their form fits
-pub rest_form-fits : {Z : Type 0} (old : Vec ℕ Z) {u : List ℕ} {at : ℕ} {known : Bool} → ((i : ℕ) → Fits w16 (get_or u i 0))
-    → at ≤ length u → HasRoomFrom old u at known → length old.items + length (rest_form u at) ≤ vec_capacity old
-rest_form-fits old {u} {at} {known} fits within room = elim (cases_lt at (length u)) [
+pub rest_form-fits : {Z : Type 0} (old : Vec ℕ Z) (w : List ℕ) {u : List ℕ} {at : ℕ} → ((i : ℕ) → Fits w16 (get_or u i 0))
+    → at ≤ length u → HasRoomAfter old w u at → length old.items + length w + length (rest_form u at) ≤ vec_capacity old
+rest_form-fits old w {u} {at} fits within room = elim (cases_lt at (length u)) [
   | inl some ↦
       let rest = drop at u in
+      let part = rest_form u at in
       let own = rest_form-is u at fits in
       let all : take (length u - at) rest ≡ rest = take_all (length u - at) rest (omega (arith, length-drop at u)) in
-      let read = last_units-read room.1 some (subst (λ v. IsKnownForm (rest_form u at) v false) (sym all) own) in
-      omega (arith, room.2 (length u) (old.items ++ rest_form u at) read.form.form, length-append old.items (rest_form u at))
+      let read = last_units-read room.2 some (subst (λ v. IsKnownForm part v false) (sym all) own) in
+      let fit = room.3 (length u) ((old.items ++ w) ++ part) read.form.form in
+      omega (arith, fit, length-append (old.items ++ w) part, length-append old.items w)
   | inr none ↦
       let empty : rest_form u at ≡ [] = same_form (rest_form u at) [] [] (subst (IsForm (rest_form u at)) (drop_all at u none)
       (rest_form-is u at fits).form) (IsKnownForm-nil {w = []} true refl).form in
-      omega (arith, ap length empty, old.ok)
+      omega (arith, ap length empty, room.3 at (old.items ++ w) room.2.form.form, length-append old.items w)
 ]
+
+-- the same if nothing is encoded yet
+pub HasRoomAfter-nothing : {Z : Type 0} (old : Vec ℕ Z) {u : List ℕ} {at : ℕ} {known : Bool} → HasRoomFrom old u at known
+    → HasRoomAfter old [] u at
+HasRoomAfter-nothing old {u} {at} {known} room =
+    (room.0, known, subst (λ w. IsReadTo w room.0 u at known) (sym (append-nil old.items)) room.1, room.2)
 
 -- The bytes beyond one that units add, in lanes.
 

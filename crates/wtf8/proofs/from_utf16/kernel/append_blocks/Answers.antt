@@ -1,10 +1,13 @@
-use Rattle.wtf8.proofs.Common.{ap, false≢true, arith, length, length-append, take, common_steps}
-use Rattle.wtf8.proofs.lemmas.from_utf16.Transcode.{HasRoomFrom-after}
+use Rattle.wtf8.proofs.Common.{ap, false≢true, arith, length, length-append, length-take-le, take, common_steps}
 use Rattle.wtf8.proofs.from_utf16.kernel.append_blocks.Goals as goal
 
 pub returns-in_err-make_room-clause-room : goal.returns-in_err-make_room-clause-room
-returns-in_err-make_room-clause-room g c room = absurd (false≢true (c.in_err-make_room.ensures.room c.loop-bytes.read.is_utf8
-    (HasRoomFrom-after c.args.bytes.now c.loop-bytes.bytes c.loop-bytes.invariant.read c.loop-bytes.invariant.capacity room)))
+returns-in_err-make_room-clause-room g c room =
+    let end = c.write_blocks-len in
+    let written = take end.result.0 end.new.scratch in
+    let read = end.ensures.read c.loop-bytes.bytes.items c.loop-bytes.read.is_utf8 room.0 (c.loop-bytes.invariant.read room.0 room.1) in
+    absurd (false≢true (c.in_err-make_room.ensures.room written (length-take-le end.result.0 end.new.scratch end.ensures.within)
+    (room.0, _, read, λ n w form. omega (arith, room.2 n w form, c.loop-bytes.invariant.capacity))))
 
 pub returns-in_err-extend_from_slice-clause-room : goal.returns-in_err-extend_from_slice-clause-room
 returns-in_err-extend_from_slice-clause-room g c room =

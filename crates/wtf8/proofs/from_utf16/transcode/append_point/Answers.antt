@@ -1,5 +1,6 @@
-use Rattle.wtf8.proofs.Common.{◌+◌, ap, arith, length, ◌&&◌, ◌++◌, encoding, number, subst, true, false≢true, IsReadTo, List, ℕ}
+use Rattle.wtf8.proofs.Common.{◌+◌, ap, arith, length, ◌&&◌, ◌++◌, encoding, number, subst, true, false≢true, IsReadTo, List, [], ℕ, refl}
 use Rattle.std.proofs.Math.Bool.{and-true}
+use Rattle.wtf8.proofs.lemmas.from_utf16.EncodedLen.{HasRoomAfter-nothing}
 use Rattle.wtf8.proofs.lemmas.from_utf16.Decoding.{IsFirstRead-unit, IsReadTo-point}
 use Rattle.wtf8.proofs.from_utf16.transcode.append_point.Goals.{After-append, After-append-2}
 use Rattle.wtf8.proofs.from_utf16.transcode.append_point.Goals as goal
@@ -16,7 +17,7 @@ unit_read g c w front read =
     (IsReadTo-point {scalar = true} read (omega arith) first (λ _ s. omega (arith, s.0, low))))
 
 pub returns-in_err-make_room-clause-room : goal.returns-in_err-make_room-clause-room
-returns-in_err-make_room-clause-room g c room = absurd (false≢true (c.in_err-make_room.ensures.room c.args.from.is_utf8 room))
+returns-in_err-make_room-clause-room g c room = absurd (false≢true (c.in_err-make_room.ensures.room [] refl (HasRoomAfter-nothing c.args.bytes.now room)))
 
 pub returns-in_err-append-clause-room : goal.returns-in_err-append-clause-room
 returns-in_err-append-clause-room g c room =
