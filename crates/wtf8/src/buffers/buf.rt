@@ -146,8 +146,7 @@ impl<A: Allocator> Wtf8Buf<A> {
         ensures form { IfOk result (λ b. (w : List ℕ) → IsForm w v.now → b.bytes ≡ w) }
         ensures empty { v.now ≡ [] → IsOk result }
     {
-        let mut bytes = Vec::new(alloc);
-        let is_utf8 = transcode::append_all(&mut bytes, v)?;
+        let (bytes, is_utf8) = transcode::encode(alloc, v)?;
         Ok(from_well_formed(bytes, Utf8Prefix::new(is_utf8)))
     }
 

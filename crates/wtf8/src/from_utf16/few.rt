@@ -1,5 +1,5 @@
 // Encodes a few code units on the stack, and appends their bytes at once.
-ghost use Rattle.std.specs.Prelude.{◌≡◌, ℕ, List, ◌++◌, ◌+◌, ◌-◌, ◌*◌, ◌<◌, ◌≤◌, length, take, slice_index, vec_capacity, IfOk, IsOk, OnErr};
+ghost use Rattle.std.specs.Prelude.{◌≡◌, ℕ, List, [], ◌++◌, ◌+◌, ◌-◌, ◌*◌, ◌<◌, ◌≤◌, length, take, slice_index, vec_capacity, IfOk, IsOk, OnErr};
 ghost use Rattle.wtf8.specs.CodePoint.{number};
 ghost use Rattle.wtf8.specs.Form.{encoding};
 ghost use Rattle.wtf8.specs.private.Prefixes.{HasRoomFrom, IsKnownForm, IsReadTo, ReadsOn};
@@ -9,6 +9,7 @@ use crate::codec::encoding::{four_bytes, three_bytes, two_bytes};
 use crate::from_utf16::decode;
 use crate::from_utf16::encoded_len::reserve;
 use crate::from_utf16::kernel::{self, HALF_BLOCK, Progress};
+use crate::vec::to_vec_in;
 use std::alloc::{AllocError, Allocator};
 
 /// The most units that are encoded one by one: 12 of three bytes take 279 instructions, as a block with zeros 298.
@@ -115,6 +116,19 @@ fn write_few(v: &[u16], is_utf8: bool, out: &mut [u8]) -> (usize, bool)
         (len, read) = write_point(v, read, out, len);
     }
     (len, read.is_utf8)
+}
+
+/// Makes a vector of the bytes of at most `FEW_UNITS` units. Returns whether none of them is a lone surrogate.
+#[inline(always)]
+pub(crate) fn encode<A: Allocator>(alloc: A, v: &[u16]) -> Result<(Vec<u8, A>, bool), AllocError>
+    requires few { length v.now ≤ FEW_UNITS }
+    ensures form { IfOk result (λ r. IsKnownForm r.0.items v.now r.1) }
+    ensures empty { v.now ≡ [] → IsOk result }
+{
+    let mut block = [0; FEW_BYTES];
+    let (len, is_utf8) = write_few(v, true, &mut block);
+    let bytes = to_vec_in(alloc, &block[..len])?;
+    Ok((bytes, is_utf8))
 }
 
 /// Appends the bytes of at most `FEW_UNITS` units, after bytes with which they form no pair. Returns whether `is_utf8`

@@ -1,6 +1,6 @@
 // Encodes code units in steps, by what the next units are: an ASCII run of up to 32, 16, 8 or 4 units and the code
 // point after it, blocks of `kernel`, or one code point. `decode_utf16` decodes the last ones, fewer than `LAST_UNITS`.
-ghost use Rattle.std.specs.Prelude.{◌≡◌, ℕ, Bool, true, List, ◌++◌, ◌+◌, ◌^◌, ◌<◌, ◌≤◌, length, take, map, min, vec_capacity, IfOk, IsOk};
+ghost use Rattle.std.specs.Prelude.{◌≡◌, ℕ, Bool, List, [], ◌++◌, ◌+◌, ◌^◌, ◌<◌, ◌≤◌, length, take, map, min, vec_capacity, IfOk, IsOk};
 ghost use Rattle.wtf8.specs.private.Prefixes.{IsKnownForm, IsReadTo, ReadsOn, HasRoomFrom};
 
 use crate::codec::code_point::CodePoint;
@@ -287,10 +287,11 @@ fn reserve_ascii<A: Allocator>(
     ensures room { (is_utf8 : Bool) → HasRoomFrom bytes.old v.now at is_utf8 → IsOk result }
     ensures capacity { vec_capacity bytes.old ≤ vec_capacity bytes.new }
 {
-    if may_be_ascii(&v[at..]) {
-        return reserve(bytes, v.len() - at, v.len());
+    let left = v.len() - at;
+    if left <= spare_capacity(bytes) || !may_be_ascii(&v[at..]) {
+        return Ok(());
     }
-    Ok(())
+    reserve(bytes, left, v.len())
 }
 
 /// Appends the bytes of all units from index `from.at` on, after bytes with which they form no pair. Returns whether
@@ -312,21 +313,21 @@ pub(crate) fn append_utf16<A: Allocator>(
     append_rest(bytes, v, read)
 }
 
-/// Appends the bytes of all units to a new string, as `append_utf16` does.
+/// Makes a vector of the bytes of all units. Returns whether none of them is a lone surrogate.
 #[inline(always)]
-pub(crate) fn append_all<A: Allocator>(
-    bytes: &mut Vec<u8, A>,
-    v: &[u16],
-) -> Result<bool, AllocError>
-    ensures ok { IfOk result (λ known. (front : List ℕ) → IsReadTo bytes.old.items front v.now 0 true → IsKnownForm bytes.new.items (front ++ v.now) known) }
-    ensures room { HasRoomFrom bytes.old v.now 0 true → IsOk result }
+pub(crate) fn encode<A: Allocator>(alloc: A, v: &[u16]) -> Result<(Vec<u8, A>, bool), AllocError>
+    ensures form { IfOk result (λ r. IsKnownForm r.0.items v.now r.1) }
+    ensures empty { v.now ≡ [] → IsOk result }
 {
     if v.len() <= FEW_UNITS {
-        return few::append(bytes, v, true);
+        return few::encode(alloc, v);
     }
+    let room = if may_be_ascii(v) { v.len() } else { 0 };
+    let mut bytes = Vec::with_capacity(alloc, room)?;
     let start = Progress {
         at: 0,
         is_utf8: true,
     };
-    append_utf16(bytes, v, start)
+    let is_utf8 = append_utf16(&mut bytes, v, start)?;
+    Ok((bytes, is_utf8))
 }
