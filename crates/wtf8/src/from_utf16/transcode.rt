@@ -23,9 +23,9 @@ const SMALL_RUN: usize = MEDIUM_RUN / 2;
 
 const SHORT_RUN: usize = SMALL_RUN / 2;
 
-/// With at least this number of `LONG_RUN` units not ASCII, blocks are cheaper than runs: text with an accent in six
-/// letters takes half the time. With 2 in place of 5, one with an accent in 25 takes 1.24 of it.
-const MANY_LETTERS: u32 = 5;
+/// With at least this number of `LONG_RUN` units not ASCII, blocks are cheaper than runs. With 5 in place of 4, text with
+/// an accent in seven letters takes three times as long and French 1.1 to 1.3, emoji in ASCII 0.93 to 0.97.
+const MANY_LETTERS: u32 = 4;
 
 /// The size in bytes of the kernel's scratch buffer while `LONG_RUN` or more units are left: room for ten blocks.
 const SCRATCH_BYTES: usize = 512;
