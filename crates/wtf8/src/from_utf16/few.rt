@@ -8,15 +8,16 @@ use crate::codec::code_point::{CodePoint, FIRST_LEAD};
 use crate::codec::encoding::{four_bytes, three_bytes, two_bytes};
 use crate::from_utf16::decode;
 use crate::from_utf16::encoded_len::reserve;
-use crate::from_utf16::kernel::{self, HALF_BLOCK, Progress};
+use crate::from_utf16::kernel::Progress;
 use crate::vec::to_vec_in;
 use std::alloc::{AllocError, Allocator};
 
-/// The most units that are encoded one by one: 12 of three bytes take 279 instructions, as a block with zeros 298.
+/// The most units that are encoded one by one. As a block with zeros 12 of three bytes take 321 instructions for 447, but
+/// 32 ns for 21, since the block is loaded before the stores to it are done.
 pub(crate) const FEW_UNITS: usize = 12;
 
 /// At least three bytes for each unit, and four for the last code point. A multiple of 16, so that few stores zero them.
-const FEW_BYTES: usize = 64;
+const FEW_BYTES: usize = 48;
 
 /// Writes an array at index `at`. Returns the index after it.
 #[inline(always)]
@@ -106,10 +107,6 @@ fn write_few(v: &[u16], is_utf8: bool, out: &mut [u8]) -> (usize, bool)
     ensures short { result.0 ≤ FEW_BYTES }
     ensures read { (w : List ℕ) → ReadsOn w (w ++ take result.0 out.new) v.now 0 is_utf8 (length v.now) result.1 }
 {
-    if HALF_BLOCK <= v.len() {
-        let (len, are_utf8) = kernel::write_last_block(v, out, 0);
-        return (len, is_utf8 & are_utf8);
-    }
     let mut len = 0;
     let mut read = Progress { at: 0, is_utf8 };
     while read.at < v.len() {

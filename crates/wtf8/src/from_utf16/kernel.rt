@@ -30,7 +30,7 @@ use std::simd::prelude::*;
 /// The number of units that are encoded together: the 16-bit lanes of a vector of 32 bytes, or of two of 16.
 pub(crate) const BLOCK_UNITS: usize = 16;
 
-pub(crate) const HALF_BLOCK: usize = BLOCK_UNITS / 2;
+const HALF_BLOCK: usize = BLOCK_UNITS / 2;
 
 const QUARTER_BLOCK: usize = BLOCK_UNITS / 4;
 
@@ -270,7 +270,7 @@ fn padded(units: &[u16]) -> u16x16
 /// Encodes units as a block with zeros after them. A lead before these is lone, and each of them takes one byte, a
 /// zero, which is left out. Returns the index after the other bytes, and whether no unit is a lone surrogate.
 #[inline(always)]
-pub(crate) fn write_last_block(units: &[u16], scratch: &mut [u8], len: usize) -> (usize, bool)
+fn write_last_block(units: &[u16], scratch: &mut [u8], len: usize) -> (usize, bool)
     requires least { LAST_UNITS ≤ length units.now }
     requires most { length units.now < BLOCK_UNITS }
     requires room { len + MIN_SPARE ≤ length scratch.old }
