@@ -12,8 +12,8 @@ use crate::from_utf16::kernel::Progress;
 use crate::vec::to_vec_in;
 use std::alloc::{AllocError, Allocator};
 
-/// The most units that are encoded one by one. As a block with zeros 12 of three bytes take 321 instructions for 447, but
-/// 32 ns for 21, since the block is loaded before the stores to it are done.
+/// The most units that are encoded one by one. As a block with zeros 12 of three bytes take 321 instructions for 474, but
+/// 32 ns for 20, since the block is loaded before the stores to it are done.
 pub(crate) const FEW_UNITS: usize = 12;
 
 /// At least three bytes for each unit, and four for the last code point. A multiple of 16, so that few stores zero them.
