@@ -61,7 +61,7 @@ pub use Rattle.wtf8.specs.declared.strings.view.Wtf8.{Wtf8}
 pub use Rattle.wtf8.specs.private.Decoding.{point_of_item, decode_steps, ReadsAll}
 pub use Rattle.wtf8.specs.private.EncodedBytes.{ExtendsForm, ExtendsFormOrKeeps, BeginsWithPoint, FirstPointByLead, FirstPointIs}
 pub use Rattle.wtf8.specs.private.EncodedBytes.{BeginsWithUnits, Writes, unit_of_three, unit_of_two}
-pub use Rattle.wtf8.specs.private.Prefixes.{IsKnownForm, AreAscii, AreScalarTo, IsReadTo, AreScalarUnits, ReadsOn, FrontsFit, HasRoomFrom}
+pub use Rattle.wtf8.specs.private.Prefixes.{IsKnownForm, AreAscii, AreScalarTo, IsReadTo, AreScalarUnits, ReadsOn, FrontsFit, HasRoomFrom, HasRoomAfter}
 pub use Rattle.wtf8.specs.private.Search.{IsFirst, IsLeast, NoneIn, IsFirstIn, IsFirstSet, IsSet, IsMismatch, DifferAt, DecidesNone}
 pub use Rattle.wtf8.specs.private.Search.{SupplementaryBegins, SurrogateAt, SurrogateInLane}
 pub use Rattle.wtf8.specs.private.UnitsInBytes.{IsCursor, IsCursorOfUnit, utf16_len, sum_utf16_len, held_trail, after_held_trail}

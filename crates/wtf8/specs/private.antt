@@ -1,3 +1,4 @@
+pub mod EncodedLengths
 pub mod Decoding
 pub mod EncodedBytes
 pub mod PackedUnits

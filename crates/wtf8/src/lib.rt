@@ -15,6 +15,7 @@ mod vec;
 pub use buffers::buf::Wtf8Buf;
 pub use buffers::build::{Build, Stopped};
 pub use codec::code_point::CodePoint;
+pub use from_utf16::encoded_len::encoded_len;
 pub use strings::iters::{IllFormedUtf16CodeUnits, Wtf8CodePoints};
 pub use strings::view::Wtf8;
 pub use units::marks::UnitMark;

@@ -233,25 +233,20 @@ fn room_after(call: Call, sample: &Sample<Lent<'_>>) -> Room {
     }
 }
 
-/// Whether a string made of units requested no more than it may: one byte for each unit at first, then at most two
-/// growths, the first to at most three bytes for each unit, or eight.
-fn is_within(sample: &Sample<Lent<'_>>, requests: u64, bytes: usize) -> bool {
-    let count = sample.units.len();
-    let first = count.saturating_mul(3).max(8);
-    requests <= 3
-        && bytes
-            <= count
-                .saturating_add(first)
-                .saturating_add(first.saturating_mul(2))
+/// Whether a string made of units requested its bytes alone, or first one byte for each unit: it has no spare capacity.
+fn is_exact(sample: &Sample<Lent<'_>>, requests: u64, bytes: usize) -> bool {
+    let len = sample.text.as_wtf8().len();
+    let both = len.saturating_add(sample.units.len());
+    (requests == 1 && bytes == len) || (requests == 2 && bytes == both)
 }
 
-/// Whether a call requested the memory that it must, or, if that depends on the blocks in which units are encoded, no
-/// more than it may.
+/// Whether a call requested the memory that it must. One that makes a string of units may request a byte for each first,
+/// which depends on the blocks in which they are encoded.
 fn is_as_needed(call: Call, sample: &Sample<Lent<'_>>, requests: u64, bytes: usize) -> bool {
     let is_in_blocks = matches!(call, Call::FromUnits)
         && sample.text.as_wtf8().len() != sample.units.len();
     if is_in_blocks {
-        return is_within(sample, requests, bytes);
+        return is_exact(sample, requests, bytes);
     }
     let room = room_after(call, sample);
     bytes == room.bytes && requests == room.requests

@@ -19,7 +19,7 @@ struct Row {
 }
 
 /// A growing string requests the greatest of eight bytes, twice its capacity and what is needed. A string made of units
-/// first reserves one byte for each unit.
+/// requests just its bytes, or, if there are 32 units or more and the first is ASCII, one for each unit first.
 fn rows() -> [Row; 18] {
     [
         Row {
@@ -49,50 +49,50 @@ fn rows() -> [Row; 18] {
         Row {
             call: Call::FromUnits,
             units: &[0xE000, 0xE000],
-            requests: 2,
-            bytes: 2 + 8,
+            requests: 1,
+            bytes: 6,
         },
         Row {
             call: Call::FromUnits,
             units: &[0xD83D, 0xDCA9, 0x0061],
-            requests: 2,
-            bytes: 3 + 8,
+            requests: 1,
+            bytes: 5,
         },
         Row {
             call: Call::FromUnits,
             units: &[0xE000; 8],
-            requests: 2,
-            bytes: 8 + 24,
+            requests: 1,
+            bytes: 24,
         },
         Row {
             call: Call::FromUnits,
             units: &[0xE000; 9],
-            requests: 2,
-            bytes: 9 + 27,
+            requests: 1,
+            bytes: 27,
         },
         Row {
             call: Call::FromUnits,
             units: &[0xE000; 16],
-            requests: 2,
-            bytes: 16 + 48,
+            requests: 1,
+            bytes: 48,
         },
         Row {
             call: Call::FromUnits,
             units: &[0xE000; 17],
-            requests: 3,
-            bytes: 17 + 48 + 96,
+            requests: 1,
+            bytes: 51,
         },
         Row {
             call: Call::FromUnits,
             units: &[0x00E9; 8],
-            requests: 2,
-            bytes: 8 + 16,
+            requests: 1,
+            bytes: 16,
         },
         Row {
             call: Call::FromUnits,
             units: &[0x00E9; 16],
-            requests: 2,
-            bytes: 16 + 32,
+            requests: 1,
+            bytes: 32,
         },
         Row {
             call: Call::FromUnits,
@@ -100,8 +100,8 @@ fn rows() -> [Row; 18] {
                 0x0061, 0xE000, 0x0061, 0xE000, 0x0061, 0xE000, 0x0061, 0xE000, 0x0061, 0xE000,
                 0x0061, 0xE000, 0x0061, 0xE000, 0x0061, 0xE000,
             ],
-            requests: 2,
-            bytes: 16 + 32,
+            requests: 1,
+            bytes: 32,
         },
         Row {
             call: Call::FromIter,

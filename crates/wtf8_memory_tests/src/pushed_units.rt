@@ -17,8 +17,7 @@ const WIDE: [u16; 22] = [
     0x00E9, 0x00E9, 0x00E9, 0x00E9, 0x00E9, 0x00E9, 0x00E9, 0x00E9, 0x00E9, 0xDC00,
 ];
 
-/// "a" and 17 units of three bytes. At most 12 units take a path of their own if 48 bytes are spare, and 16 of these take
-/// 48 bytes.
+/// "a" and 17 units of three bytes. At most 12 units take a path of their own.
 const FEW: [u16; 18] = [
     0x0061, 0x3042, 0x3042, 0x3042, 0x3042, 0x3042, 0x3042, 0x3042, 0x3042, 0x3042, 0x3042, 0x3042,
     0x3042, 0x3042, 0x3042, 0x3042, 0x3042, 0x3042,
@@ -204,8 +203,8 @@ struct Row {
     bytes: usize,
 }
 
-/// First a byte for each unit is reserved, then what a block of up to sixteen or one code point needs; each request is
-/// for the greatest of eight bytes, twice the capacity and what is needed.
+/// A trail that joins requests a byte. The bytes of other units are requested at once: just these if the string has no
+/// more bytes than units are pushed, else the greatest of eight bytes, twice the capacity and what is needed.
 fn rows() -> [Row; 8] {
     [
         Row {
@@ -249,14 +248,14 @@ fn rows() -> [Row; 8] {
                 0xE000, 0xE000, 0xE000, 0xE000, 0xE000, 0xE000, 0xE000, 0xE000, 0xE000,
             ],
             dump: "61 ED A0 BD EE 80 80 EE 80 80 EE 80 80 EE 80 80 EE 80 80 EE 80 80 EE 80 80 EE 80 80 EE 80 80",
-            requests: 2,
-            bytes: 13 + 31,
+            requests: 1,
+            bytes: 31,
         },
         Row {
             units: &[0xE000; 17],
             dump: "61 ED A0 BD EE 80 80 EE 80 80 EE 80 80 EE 80 80 EE 80 80 EE 80 80 EE 80 80 EE 80 80 EE 80 80 EE 80 80 EE 80 80 EE 80 80 EE 80 80 EE 80 80 EE 80 80 EE 80 80 EE 80 80",
-            requests: 3,
-            bytes: 21 + 52 + 104,
+            requests: 1,
+            bytes: 55,
         },
     ]
 }

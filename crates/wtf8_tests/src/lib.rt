@@ -11,6 +11,8 @@ mod collecting;
 mod debugging;
 #[cfg(test)]
 mod displaying;
+#[cfg(test)]
+mod encoded_lens;
 pub mod examples;
 #[cfg(test)]
 mod hexadecimal;

@@ -3,3 +3,4 @@ pub mod Decoding
 pub mod PackedUnits
 pub mod ShuffleTable
 pub mod Kernel
+pub mod EncodedLen

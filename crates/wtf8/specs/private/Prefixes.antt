@@ -36,6 +36,10 @@ FrontsFit front u capacity = (n : ℕ) (w : List ℕ) → IsForm w (front ++ tak
 abbrev pub HasRoomFrom : {Z : Type 0} → Vec ℕ Z → List ℕ → ℕ → Bool → Type 0
 HasRoomFrom old u from was = (front : List ℕ) × IsReadTo old.items front u from was × FrontsFit front u (vec_capacity old)
 
+-- The bytes of `old` and then `w` are read up to index `from` after some front, and all units fit the capacity of `old`.
+abbrev pub HasRoomAfter : {Z : Type 0} → Vec ℕ Z → List ℕ → List ℕ → ℕ → Type 0
+HasRoomAfter old w u from = (front : List ℕ) × (was : Bool) × IsReadTo (old.items ++ w) front u from was × FrontsFit front u (vec_capacity old)
+
 -- Each of the units is a scalar value below 0x10000 (Unicode 3.9, "Unicode scalar value").
 abbrev pub AreScalarUnits : List ℕ → Type 0
 AreScalarUnits u = Each1 (λ n. (n < 0x10000) × ¬ (IsSurrogate n)) u

@@ -20,7 +20,6 @@ ghost use Rattle.wtf8.specs.View.{view_points, view_units};
 
 use crate::codec::code_point::CodePoint;
 use crate::codec::encoding;
-use crate::from_utf16::kernel::Progress;
 use crate::from_utf16::transcode;
 use crate::lanes::search;
 use crate::strings::appending;
@@ -147,12 +146,7 @@ impl<A: Allocator> Wtf8Buf<A> {
         ensures form { IfOk result (λ b. (w : List ℕ) → IsForm w v.now → b.bytes ≡ w) }
         ensures empty { v.now ≡ [] → IsOk result }
     {
-        let mut bytes = Vec::with_capacity(alloc, v.len())?;
-        let start = Progress {
-            at: 0,
-            is_utf8: true,
-        };
-        let is_utf8 = transcode::append_utf16(&mut bytes, v, start)?;
+        let (bytes, is_utf8) = transcode::encode(alloc, v)?;
         Ok(from_well_formed(bytes, Utf8Prefix::new(is_utf8)))
     }
 

@@ -123,6 +123,11 @@ pub(crate) const LAST_TRAIL: u16 = 0xDFFF;
 /// The number of lead surrogates, and of trail surrogates.
 pub(crate) const SURROGATES_PER_HALF: u16 = 0x400;
 
+/// The high six bits of leads, and of leads alone; below, of trails.
+pub(crate) const LEAD_KIND: u16 = FIRST_LEAD / SURROGATES_PER_HALF;
+
+pub(crate) const TRAIL_KIND: u16 = FIRST_TRAIL / SURROGATES_PER_HALF;
+
 pub(crate) const FIRST_SUPPLEMENTARY: u32 = 0x10000;
 
 #[inline(always)]

@@ -1,22 +1,23 @@
-// Encodes a few code units straight into the string. It has room for them whatever they are, so that no unit asks for
-// it: zeros are appended first and overwritten, and those after the last unit's bytes cut off.
-ghost use Rattle.std.specs.Prelude.{◌≡◌, ℕ, List, ◌++◌, ◌+◌, ◌-◌, ◌*◌, ◌<◌, ◌≤◌, length, take, slice_index, vec_capacity, IfOk, IsOk};
+// Encodes a few code units on the stack, and appends their bytes at once.
+ghost use Rattle.std.specs.Prelude.{◌≡◌, ℕ, List, [], ◌++◌, ◌+◌, ◌-◌, ◌*◌, ◌<◌, ◌≤◌, length, take, slice_index, vec_capacity, IfOk, IsOk, OnErr};
 ghost use Rattle.wtf8.specs.CodePoint.{number};
 ghost use Rattle.wtf8.specs.Form.{encoding};
-ghost use Rattle.wtf8.specs.private.Prefixes.{IsKnownForm, IsReadTo, ReadsOn};
+ghost use Rattle.wtf8.specs.private.Prefixes.{HasRoomFrom, IsKnownForm, IsReadTo, ReadsOn};
 
 use crate::codec::code_point::{CodePoint, FIRST_LEAD};
 use crate::codec::encoding::{four_bytes, three_bytes, two_bytes};
 use crate::from_utf16::decode;
+use crate::from_utf16::encoded_len::reserve;
 use crate::from_utf16::kernel::Progress;
+use crate::vec::to_vec_in;
 use std::alloc::{AllocError, Allocator};
 
-/// The most units that are encoded one by one: 12 of three bytes take 279 instructions, as a block with zeros 298.
+/// The most units that are encoded one by one. As a block with zeros 12 of three bytes take 321 instructions for 474, but
+/// 32 ns for 20, since the block is loaded before the stores to it are done.
 pub(crate) const FEW_UNITS: usize = 12;
 
-/// The bytes that a string must have room for: at least three for each unit, and four for the last code point. A
-/// multiple of 16, so that few stores zero them.
-pub(crate) const FEW_BYTES: usize = 48;
+/// At least three bytes for each unit, and four for the last code point. A multiple of 16, so that few stores zero them.
+const FEW_BYTES: usize = 48;
 
 /// Writes an array at index `at`. Returns the index after it.
 #[inline(always)]
@@ -114,8 +115,21 @@ fn write_few(v: &[u16], is_utf8: bool, out: &mut [u8]) -> (usize, bool)
     (len, read.is_utf8)
 }
 
+/// Makes a vector of the bytes of at most `FEW_UNITS` units. Returns whether none of them is a lone surrogate.
+#[inline(always)]
+pub(crate) fn encode<A: Allocator>(alloc: A, v: &[u16]) -> Result<(Vec<u8, A>, bool), AllocError>
+    requires few { length v.now ≤ FEW_UNITS }
+    ensures form { IfOk result (λ r. IsKnownForm r.0.items v.now r.1) }
+    ensures empty { v.now ≡ [] → IsOk result }
+{
+    let mut block = [0; FEW_BYTES];
+    let (len, is_utf8) = write_few(v, true, &mut block);
+    let bytes = to_vec_in(alloc, &block[..len])?;
+    Ok((bytes, is_utf8))
+}
+
 /// Appends the bytes of at most `FEW_UNITS` units, after bytes with which they form no pair. Returns whether `is_utf8`
-/// and none of them is a lone surrogate.
+/// and none of them is a lone surrogate. They are encoded on the stack, so that one request is enough.
 #[inline(always)]
 pub(crate) fn append<A: Allocator>(
     bytes: &mut Vec<u8, A>,
@@ -123,14 +137,14 @@ pub(crate) fn append<A: Allocator>(
     is_utf8: bool,
 ) -> Result<bool, AllocError>
     requires few { length v.now ≤ FEW_UNITS }
-    requires room { length bytes.old.items + FEW_BYTES ≤ vec_capacity bytes.old }
     ensures ok { IfOk result (λ known. (front : List ℕ) → IsReadTo bytes.old.items front v.now 0 is_utf8 → IsKnownForm bytes.new.items (front ++ v.now) known) }
-    ensures done { IsOk result }
+    ensures kept { OnErr result (bytes.new.items ≡ bytes.old.items) }
+    ensures room { HasRoomFrom bytes.old v.now 0 is_utf8 → IsOk result }
     ensures capacity { vec_capacity bytes.old ≤ vec_capacity bytes.new }
 {
-    let start = bytes.len();
-    bytes.extend_from_slice(&[0; FEW_BYTES])?;
-    let (len, is_utf8) = write_few(v, is_utf8, &mut bytes[start..]);
-    bytes.truncate(start + len);
+    let mut block = [0; FEW_BYTES];
+    let (len, is_utf8) = write_few(v, is_utf8, &mut block);
+    reserve(bytes, len, v.len())?;
+    bytes.extend_from_slice(&block[..len])?;
     Ok(is_utf8)
 }

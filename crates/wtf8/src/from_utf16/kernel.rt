@@ -21,7 +21,8 @@ ghost use Rattle.wtf8.specs.Unicode.{IsLead, IsUnit};
 ghost use Rattle.wtf8.specs.private.Prefixes.{AreScalarUnits, HasRoomFrom, IsKnownForm, ReadsOn};
 ghost use Rattle.wtf8.specs.private.PackedUnits.{tagged_units, tagged_block, scalar_head, scalar_last_byte, three_byte_flag, byte_lanes, units_table_index, AreUnitBytes, packed_units};
 
-use crate::codec::code_point::{FIRST_LEAD, FIRST_TRAIL, SURROGATES_PER_HALF};
+use crate::codec::code_point::{FIRST_LEAD, LEAD_KIND, SURROGATES_PER_HALF, TRAIL_KIND};
+use crate::from_utf16::encoded_len::make_room;
 use crate::from_utf16::shuffle_table;
 use std::alloc::{AllocError, Allocator};
 use std::simd::prelude::*;
@@ -40,11 +41,6 @@ pub(crate) const LAST_UNITS: usize = QUARTER_BLOCK;
 pub(crate) const MIN_SPARE: usize = 52;
 
 const MAX_BLOCK_BYTES: usize = 3 * BLOCK_UNITS;
-
-/// The high six bits of leads, and of leads alone; below, of trails.
-const LEAD_KIND: u16 = FIRST_LEAD / SURROGATES_PER_HALF;
-
-const TRAIL_KIND: u16 = FIRST_TRAIL / SURROGATES_PER_HALF;
 
 /// Shuffle indices: lanes 0 to 3 of two vectors, interleaved; below, lanes 4 to 7, 8 to 11 and 12 to 15.
 const FIRST_QUARTER: [usize; 8] = [0, 16, 1, 17, 2, 18, 3, 19];
@@ -340,6 +336,7 @@ pub(crate) fn append_blocks<const SCRATCH: usize, A: Allocator>(
     let mut read = from;
     loop {
         let (len, to) = write_blocks(v, read.at, scratch);
+        make_room(bytes, v, to.at, len, len)?;
         bytes.extend_from_slice(&scratch[..len])?;
         read.at = to.at;
         read.is_utf8 &= to.is_utf8;

@@ -1,11 +1,13 @@
 // Encodes code units in steps, by what the next units are: an ASCII run of up to 32, 16, 8 or 4 units and the code
 // point after it, blocks of `kernel`, or one code point. `decode_utf16` decodes the last ones, fewer than `LAST_UNITS`.
-ghost use Rattle.std.specs.Prelude.{◌≡◌, ℕ, List, ◌++◌, ◌+◌, ◌^◌, ◌<◌, ◌≤◌, length, take, map, min, vec_capacity, IfOk, IsOk};
+ghost use Rattle.std.specs.Prelude.{◌≡◌, ℕ, Bool, List, [], ◌++◌, ◌+◌, ◌^◌, ◌<◌, ◌≤◌, length, take, map, min, vec_capacity, IfOk, IsOk};
 ghost use Rattle.wtf8.specs.private.Prefixes.{IsKnownForm, IsReadTo, ReadsOn, HasRoomFrom};
 
 use crate::codec::code_point::CodePoint;
 use crate::codec::encoding;
 use crate::from_utf16::decode;
+use crate::from_utf16::encoded_len::{make_room, reserve};
+use crate::from_utf16::few::{self, FEW_UNITS};
 use crate::from_utf16::kernel::{self, LAST_UNITS, MIN_SPARE, Progress};
 use crate::lanes::ascii::first_not_ascii;
 use crate::vec::spare_capacity;
@@ -17,28 +19,25 @@ const LONG_RUN: usize = 32;
 
 const MEDIUM_RUN: usize = LONG_RUN / 2;
 
-/// Also the least number of units that a caller with few units appends by blocks.
 const SMALL_RUN: usize = MEDIUM_RUN / 2;
 
 const SHORT_RUN: usize = SMALL_RUN / 2;
 
-/// With at least this number of `LONG_RUN` units not ASCII, blocks are cheaper than runs: text with an accent in six
-/// letters takes half the time. With 2 in place of 5, one with an accent in 25 takes 1.24 of it.
-const MANY_LETTERS: u32 = 5;
+/// With at least this number of `LONG_RUN` units not ASCII, blocks are cheaper than runs. With 5 in place of 4, text with
+/// an accent in seven letters takes three times as long and French 1.1 to 1.3, emoji in ASCII 0.93 to 0.97.
+const MANY_LETTERS: u32 = 4;
 
-/// The number of units from which on the kernel's scratch buffer has `LONG_SCRATCH_BYTES`. If it has them from 32 units
-/// on, lists of 40 take 3 to 5% more instructions.
-const LONG_LIST: usize = 128;
-
-/// The size in bytes of the kernel's scratch buffer while `LONG_LIST` or more units are left: room for ten blocks.
-const LONG_SCRATCH_BYTES: usize = 512;
-
-/// The size in bytes of the kernel's scratch buffer while fewer than `LONG_LIST` units are left: room for five blocks.
-/// No more are zeroed without a call of `memset`.
-const SCRATCH_BYTES: usize = 256;
+/// The size in bytes of the kernel's scratch buffer while `LONG_RUN` or more units are left: room for ten blocks.
+const SCRATCH_BYTES: usize = 512;
 
 /// The scratch buffer's size while fewer than `LONG_RUN` units are left: room for these, since it is zeroed first.
 const SHORT_SCRATCH_BYTES: usize = 112;
+
+/// The most bytes of a code point.
+const MOST_POINT_BYTES: usize = 4;
+
+/// The most bytes that a code unit adds.
+const MOST_BYTES: usize = 3;
 
 /// Units narrowed to bytes. A unit above 0xFF becomes 0xFF, so that it is not ASCII.
 #[inline(always)]
@@ -61,6 +60,7 @@ fn append_point<A: Allocator>(
     ensures room { HasRoomFrom bytes.old v.now from.at from.is_utf8 → IsOk result }
     ensures capacity { vec_capacity bytes.old ≤ vec_capacity bytes.new }
 {
+    make_room(bytes, v, from.at, 0, MOST_POINT_BYTES)?;
     let unit = v[from.at];
     if unit < 0x800 {
         // Letters of most alphabets: never a surrogate, and at most two bytes.
@@ -138,14 +138,13 @@ fn append_ascii_run<const N: usize, A: Allocator>(
     append_point(bytes, v, to)
 }
 
-/// Takes a step while `LONG_RUN` or more units are left. The kernel's scratch buffer has `SCRATCH` bytes.
+/// Takes a step while `LONG_RUN` or more units are left.
 #[inline(always)]
-fn append_next<const SCRATCH: usize, A: Allocator>(
+fn append_next<A: Allocator>(
     bytes: &mut Vec<u8, A>,
     v: &[u16],
     from: Progress,
 ) -> Result<Progress, AllocError>
-    requires room { (MIN_SPARE ≤ SCRATCH) × (SCRATCH < 2 ^ 16) }
     requires within { from.at + LONG_RUN ≤ length v.now }
     ensures order { IfOk result (λ to. (from.at < to.at) × (to.at ≤ length v.now)) }
     ensures read { IfOk result (λ to. ReadsOn bytes.old.items bytes.new.items v.now from.at from.is_utf8 to.at to.is_utf8) }
@@ -165,11 +164,6 @@ fn append_next<const SCRATCH: usize, A: Allocator>(
         if to.at == at + LONG_RUN {
             return Ok(to);
         }
-        // Pairs and punctuation among ASCII are cheaper one by one. With both tests in one condition, emoji in ASCII
-        // and an accent in 25 letters take 6% more instructions.
-        if 0x800 <= v[to.at] {
-            return append_point(bytes, v, to);
-        }
         if letters.count_ones() < MANY_LETTERS || v.len() - to.at < LAST_UNITS {
             return append_point(bytes, v, to);
         }
@@ -177,7 +171,7 @@ fn append_next<const SCRATCH: usize, A: Allocator>(
         // ASCII that follows soon is most often a run: encode one code point, and leave the run to a later step.
         return append_point(bytes, v, from);
     }
-    kernel::append_blocks::<SCRATCH, A>(bytes, v, to)
+    kernel::append_blocks::<SCRATCH_BYTES, A>(bytes, v, to)
 }
 
 /// Takes a step while `LAST_UNITS` or more units are left. The last block may have fewer units than others.
@@ -224,11 +218,8 @@ fn append_steps<A: Allocator>(
     ensures capacity { vec_capacity bytes.old ≤ vec_capacity bytes.new }
 {
     let mut read = from;
-    while LONG_LIST <= v.len() - read.at {
-        read = append_next::<LONG_SCRATCH_BYTES, A>(bytes, v, read)?;
-    }
     while LONG_RUN <= v.len() - read.at {
-        read = append_next::<SCRATCH_BYTES, A>(bytes, v, read)?;
+        read = append_next(bytes, v, read)?;
     }
     while LAST_UNITS <= v.len() - read.at {
         read = append_last(bytes, v, read)?;
@@ -262,6 +253,47 @@ fn append_rest<A: Allocator>(
     Ok(is_utf8)
 }
 
+/// Whether the first and the last `N` units, which may overlap, are ASCII.
+#[inline(always)]
+fn are_ends_ascii<const N: usize>(units: &[u16]) -> bool
+    requires { (N ≤ u64.BITS) × (N ≤ length units.now) }
+{
+    let front = Simd::<u16, N>::from_slice(units);
+    let back = Simd::<u16, N>::from_slice(&units[units.len() - N..]);
+    front.simd_max(back).simd_ge(Simd::splat(0x80)).to_bitmask() == 0
+}
+
+/// Whether a byte for each unit may be enough: the units are ASCII, or many and the first is.
+#[inline(always)]
+fn may_be_ascii(units: &[u16]) -> bool {
+    match units.len() {
+        0..LAST_UNITS => false,
+        LAST_UNITS..SMALL_RUN => are_ends_ascii::<SHORT_RUN>(units),
+        SMALL_RUN..MEDIUM_RUN => are_ends_ascii::<SMALL_RUN>(units),
+        MEDIUM_RUN..LONG_RUN => are_ends_ascii::<MEDIUM_RUN>(units),
+        _ => units[0] < 0x80,
+    }
+}
+
+/// Reserves a byte for each unit from index `at` on, if that may be enough.
+#[inline(always)]
+fn reserve_ascii<A: Allocator>(
+    bytes: &mut Vec<u8, A>,
+    v: &[u16],
+    at: usize,
+) -> Result<(), AllocError>
+    requires within { at ≤ length v.now }
+    ensures items { bytes.new.items ≡ bytes.old.items }
+    ensures room { (is_utf8 : Bool) → HasRoomFrom bytes.old v.now at is_utf8 → IsOk result }
+    ensures capacity { vec_capacity bytes.old ≤ vec_capacity bytes.new }
+{
+    let left = v.len() - at;
+    if left <= spare_capacity(bytes) || !may_be_ascii(&v[at..]) {
+        return Ok(());
+    }
+    reserve(bytes, left, v.len())
+}
+
 /// Appends the bytes of all units from index `from.at` on, after bytes with which they form no pair. Returns whether
 /// `from.is_utf8` and none of them is a lone surrogate. If memory is refused, more bytes may have been appended.
 pub(crate) fn append_utf16<A: Allocator>(
@@ -275,65 +307,27 @@ pub(crate) fn append_utf16<A: Allocator>(
     ensures room { HasRoomFrom bytes.old v.now from.at from.is_utf8 → IsOk result }
     ensures capacity { vec_capacity bytes.old ≤ vec_capacity bytes.new }
 {
+    reserve_ascii(bytes, v, from.at)?;
     let read = append_steps(bytes, v, from)?;
+    make_room(bytes, v, read.at, 0, MOST_BYTES * (v.len() - read.at))?;
     append_rest(bytes, v, read)
 }
 
-/// Appends nothing if fewer than `SHORT_RUN` units are left or the first is not ASCII.
+/// Makes a vector of the bytes of all units. Returns whether none of them is a lone surrogate.
 #[inline(always)]
-fn append_short_run<A: Allocator>(
-    bytes: &mut Vec<u8, A>,
-    v: &[u16],
-    from: Progress,
-) -> Result<Progress, AllocError>
-    requires within { from.at ≤ length v.now }
-    ensures within { IfOk result (λ to. to.at ≤ length v.now) }
-    ensures read { IfOk result (λ to. ReadsOn bytes.old.items bytes.new.items v.now from.at from.is_utf8 to.at to.is_utf8) }
-    ensures begins { take (length bytes.old.items) bytes.new.items ≡ bytes.old.items }
-    ensures room { HasRoomFrom bytes.old v.now from.at from.is_utf8 → IsOk result }
-    ensures capacity { vec_capacity bytes.old ≤ vec_capacity bytes.new }
+pub(crate) fn encode<A: Allocator>(alloc: A, v: &[u16]) -> Result<(Vec<u8, A>, bool), AllocError>
+    ensures form { IfOk result (λ r. IsKnownForm r.0.items v.now r.1) }
+    ensures empty { v.now ≡ [] → IsOk result }
 {
-    if SHORT_RUN <= v.len() - from.at && v[from.at] < 0x80 {
-        return append_ascii_run::<SHORT_RUN, A>(bytes, v, from);
+    if v.len() <= FEW_UNITS {
+        return few::encode(alloc, v);
     }
-    Ok(from)
-}
-
-/// `append_utf16` of few units: one code point at a time, after a short ASCII run.
-#[inline(always)]
-fn append_few<A: Allocator>(
-    bytes: &mut Vec<u8, A>,
-    v: &[u16],
-    from: Progress,
-) -> Result<bool, AllocError>
-    requires within { from.at ≤ length v.now }
-    ensures ok { IfOk result (λ known. (front : List ℕ) → IsReadTo bytes.old.items front v.now from.at from.is_utf8 → IsKnownForm bytes.new.items (front ++ v.now) known) }
-    ensures begins { take (length bytes.old.items) bytes.new.items ≡ bytes.old.items }
-    ensures room { HasRoomFrom bytes.old v.now from.at from.is_utf8 → IsOk result }
-    ensures capacity { vec_capacity bytes.old ≤ vec_capacity bytes.new }
-{
-    let mut read = append_short_run(bytes, v, from)?;
-    while read.at < v.len() {
-        read = append_point(bytes, v, read)?;
-    }
-    Ok(read.is_utf8)
-}
-
-/// `append_utf16` for a caller that often has few units: they do not pay for the registers and stack that blocks need.
-#[inline(always)]
-pub(crate) fn append_few_or_many<A: Allocator>(
-    bytes: &mut Vec<u8, A>,
-    v: &[u16],
-    from: Progress,
-) -> Result<bool, AllocError>
-    requires within { from.at ≤ length v.now }
-    ensures ok { IfOk result (λ known. (front : List ℕ) → IsReadTo bytes.old.items front v.now from.at from.is_utf8 → IsKnownForm bytes.new.items (front ++ v.now) known) }
-    ensures begins { take (length bytes.old.items) bytes.new.items ≡ bytes.old.items }
-    ensures room { HasRoomFrom bytes.old v.now from.at from.is_utf8 → IsOk result }
-    ensures capacity { vec_capacity bytes.old ≤ vec_capacity bytes.new }
-{
-    if v.len() - from.at < SMALL_RUN {
-        return append_few(bytes, v, from);
-    }
-    append_utf16(bytes, v, from)
+    let room = if may_be_ascii(v) { v.len() } else { 0 };
+    let mut bytes = Vec::with_capacity(alloc, room)?;
+    let start = Progress {
+        at: 0,
+        is_utf8: true,
+    };
+    let is_utf8 = append_utf16(&mut bytes, v, start)?;
+    Ok((bytes, is_utf8))
 }

@@ -12,7 +12,7 @@ ghost use Rattle.wtf8.specs.View.{view_points, view_units};
 
 use crate::codec::code_point::{CodePoint, FIRST_TRAIL, code_point_of_pair, is_trail};
 use crate::codec::encoding;
-use crate::from_utf16::few::{self, FEW_BYTES, FEW_UNITS};
+use crate::from_utf16::few::{self, FEW_UNITS};
 use crate::from_utf16::kernel::Progress;
 use crate::from_utf16::transcode;
 use crate::strings::utf8_prefix::Utf8Prefix;
@@ -265,7 +265,7 @@ fn append_utf16<A: Allocator>(
                 },
             )
         }
-        None => transcode::append_few_or_many(bytes, v, Progress { at: 0, is_utf8 }),
+        None => transcode::append_utf16(bytes, v, Progress { at: 0, is_utf8 }),
     }
 }
 
@@ -298,8 +298,6 @@ fn push_utf16<A: Allocator>(
     ensures scalar { length bytes.old.items < utf8_prefix.new.len → OnOk result ((c : List ℕ) → Reads c v.now → AreScalar c) }
 {
     let len = bytes.len();
-    // Each unit adds at least one byte.
-    bytes.reserve(v.len())?;
     let is_utf8 = len <= utf8_prefix.len;
     let lead = lead_before(bytes, is_utf8, v);
     match append_utf16(bytes, is_utf8, lead, v) {
@@ -327,7 +325,7 @@ fn begins_with_trail(v: &[u16]) -> bool
     }
 }
 
-/// `push_utf16` of few units that form no pair with the bytes before them, within the spare capacity.
+/// `push_utf16` of few units that form no pair with the bytes before them.
 #[inline(always)]
 fn push_few<A: Allocator>(
     bytes: &mut Vec<u8, A>,
@@ -338,7 +336,6 @@ fn push_few<A: Allocator>(
     requires scalar_prefix { (h : IsWellFormed bytes.old.items) → AreScalarTo utf8_prefix.old.len h.points }
     requires no_pair { (h : IsWellFormed bytes.old.items) → ¬ (MeetsAsPair h.points v.now) }
     requires few { length v.now ≤ FEW_UNITS }
-    requires room { length bytes.old.items + FEW_BYTES ≤ vec_capacity bytes.old }
     ensures extends { ExtendsFormOrKeeps bytes.old v.now bytes.new result }
     ensures order { utf8_prefix.new.len ≤ utf8_prefix.old.len }
     ensures scalar { length bytes.old.items < utf8_prefix.new.len → OnOk result ((c : List ℕ) → Reads c v.now → AreScalar c) }
@@ -351,8 +348,8 @@ fn push_few<A: Allocator>(
     Ok(())
 }
 
-/// Appends code units as `push_utf16` does. Few units that have room whatever they are take a shorter way. Inlined, so
-/// that a caller saves no registers for `push_utf16` before it chooses.
+/// Appends code units as `push_utf16` does. Few units take a shorter way. Inlined, so that a caller saves no registers
+/// for `push_utf16` before it chooses.
 #[inline(always)]
 pub(crate) fn push_units<A: Allocator>(
     bytes: &mut Vec<u8, A>,
@@ -365,8 +362,7 @@ pub(crate) fn push_units<A: Allocator>(
     ensures order { utf8_prefix.new.len ≤ utf8_prefix.old.len }
     ensures scalar { length bytes.old.items < utf8_prefix.new.len → OnOk result ((c : List ℕ) → Reads c v.now → AreScalar c) }
 {
-    // In this order, so that more units take only the first test.
-    if v.len() <= FEW_UNITS && FEW_BYTES <= spare_capacity(bytes) {
+    if v.len() <= FEW_UNITS {
         // A string without surrogates has no lead at its end.
         if bytes.len() <= utf8_prefix.len || !begins_with_trail(v) {
             return push_few(bytes, v, utf8_prefix);

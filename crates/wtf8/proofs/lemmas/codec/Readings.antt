@@ -155,7 +155,7 @@ cons-equal_parts p q r s e = (ap (λ w. get_or w 0 0) e, ap (drop 1) e)
 pub trail_first : (p : ℕ) (c : List ℕ) (t : ℕ) (r : List ℕ) → IsClean (p ∷ c) → units (p ∷ c) ≡ t ∷ r → IsTrail t → p ≡ t
 trail_first p c t r x e h = grind (arith, cases_lt, cons-equal_parts, units-cons_one, clean-first, units-cons_two)
 
-no_trail_after_lead : (p : ℕ) (c : List ℕ) (t : ℕ) (r : List ℕ) → IsClean (p ∷ c) → IsLead p → IsTrail t → ¬ (units c ≡ t ∷ r)
+pub no_trail_after_lead : (p : ℕ) (c : List ℕ) (t : ℕ) (r : List ℕ) → IsClean (p ∷ c) → IsLead p → IsTrail t → ¬ (units c ≡ t ∷ r)
 no_trail_after_lead p [] t r x l k e = omega (arith, ap length e)
 no_trail_after_lead p (q ∷ c) t r x l k e = x.1 (l, rw (trail_first q c t r x.2 e k) k)
 

@@ -102,7 +102,7 @@ trail_mask n = if nat_lt n 0xDC00 then 0 else if nat_lt n 0xE000 then 0xFFFF els
 abbrev both_kinds : ℕ → ℕ → ℕ → ℕ → ℕ
 both_kinds x j n k = bit_and (cond (eqb (x / 1024) j) 0xFFFF 0) (cond (eqb (n / 1024) k) 0xFFFF 0)
 
-and_lanes : (s t : Bool) → bit_and (cond s 0xFFFF 0) (cond t 0xFFFF 0) ≡ cond (s && t) 0xFFFF 0
+pub and_lanes : (s t : Bool) → bit_and (cond s 0xFFFF 0) (cond t 0xFFFF 0) ≡ cond (s && t) 0xFFFF 0
 and_lanes s t = grind (arith)
 
 both_kinds-lead : (b x n : ℕ) → both_kinds x 54 n 55 ≡ lead_mask (tagged b x n)

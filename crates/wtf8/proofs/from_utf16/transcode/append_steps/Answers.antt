@@ -9,7 +9,3 @@ returns-in_err-read-clause-room g c room = absurd (false≢true (c.in_err-read.e
 pub returns-in_err-read-2-clause-room : goal.returns-in_err-read-2-clause-room
 returns-in_err-read-2-clause-room g c room = absurd (false≢true (c.in_err-read-2.ensures.room
     (HasRoomFrom-after c.args.bytes.now c.loop-read-2.bytes c.loop-read-2.invariant.read c.loop-read-2.invariant.capacity room)))
-
-pub returns-in_err-read-3-clause-room : goal.returns-in_err-read-3-clause-room
-returns-in_err-read-3-clause-room g c room = absurd (false≢true (c.in_err-read-3.ensures.room
-    (HasRoomFrom-after c.args.bytes.now c.loop-read-3.bytes c.loop-read-3.invariant.read c.loop-read-3.invariant.capacity room)))

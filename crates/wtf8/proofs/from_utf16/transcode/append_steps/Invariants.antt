@@ -13,9 +13,3 @@ invariant-loop-read-2 g l = KeepsEncoding l.fn.bytes l.bytes l.v l.fn.from l.rea
 
 abbrev pub decreases-loop-read-2 : goal.decreases-loop-read-2
 decreases-loop-read-2 g l = length l.v - l.read.at
-
-abbrev pub invariant-loop-read-3 : goal.invariant-loop-read-3
-invariant-loop-read-3 g l = KeepsEncoding l.fn.bytes l.bytes l.v l.fn.from l.read
-
-abbrev pub decreases-loop-read-3 : goal.decreases-loop-read-3
-decreases-loop-read-3 g l = length l.v - l.read.at

@@ -70,9 +70,9 @@ returns-in_ok-complete_pair-in-Some-clause-room g c h fits =
     )
 
 pub returns-in-None-clause-ok : goal.returns-in-None-clause-ok
-returns-in-None-clause-ok g c h = IfOk-weaker c.append_few_or_many.result _ _ (λ known on. on (units h.points)
-    (read_start c.args.lead h c.in-None.is (c.requires.none h) (c.requires.scalar h))) c.append_few_or_many.ensures.ok
+returns-in-None-clause-ok g c h = IfOk-weaker c.append_utf16-in-None.result _ _ (λ known on. on (units h.points)
+    (read_start c.args.lead h c.in-None.is (c.requires.none h) (c.requires.scalar h))) c.append_utf16-in-None.ensures.ok
 
 pub returns-in-None-clause-room : goal.returns-in-None-clause-room
-returns-in-None-clause-room g c h fits = c.append_few_or_many.ensures.room
+returns-in-None-clause-room g c h fits = c.append_utf16-in-None.ensures.room
     (units h.points, read_start c.args.lead h c.in-None.is (c.requires.none h) (c.requires.scalar h), fits)

@@ -1,6 +1,6 @@
-use Rattle.wtf8.proofs.Common.{◌≤◌, arith, ap, leb, length, leb-true, IsReadTo, None, Ok, refl, units}
+use Rattle.wtf8.proofs.Common.{◌≤◌, arith, false≢true, ap, leb, length, leb-true, IsReadTo, None, Ok, refl, units}
 use Rattle.wtf8.proofs.lemmas.strings.ExtendedForms.{all_scalar}
-use Rattle.wtf8.proofs.lemmas.strings.PushedUnits.{are_units, read_start, scalar_units, units_extended}
+use Rattle.wtf8.proofs.lemmas.strings.PushedUnits.{are_units, fronts_fit, read_start, scalar_units, units_extended, units_refused}
 use Rattle.wtf8.proofs.strings.appending.push_few.Goals.{After-append}
 use Rattle.wtf8.proofs.strings.appending.push_few.Goals as goal
 
@@ -14,6 +14,15 @@ begun g c =
     let all : c.len-len.result ≤ prefix = leb-true c.len-len.result prefix within in
     all_scalar own.points prefix (c.requires.scalar_prefix own)
     (omega (arith, all, c.len-len.ensures, ap length own.encoded, c.args.bytes.now.ok.0)))
+
+pub returns-in_err-is_utf8-clause-extends : goal.returns-in_err-is_utf8-clause-extends
+returns-in_err-is_utf8-clause-extends g c =
+    let own = c.requires.well_formed in
+    let all = are_units c.args.v.now c.type_inv.v in
+    let read = begun g (goal.at.returns-in_err-is_utf8-clause-extends g c).After-append in
+    units_refused c.args.bytes.now c.append.new.bytes c.from_residual.result own all c.in_err-is_utf8.ensures.kept
+    (λ fits. absurd (false≢true (c.in_err-is_utf8.ensures.room (units own.points, read, fronts_fit own c.args.v.now all _ fits))))
+    (λ ok. grind (arith, c.from_residual.ensures.0)) c.append.ensures.capacity
 
 pub returns-then-not-is_utf8-clause-extends : goal.returns-then-not-is_utf8-clause-extends
 returns-then-not-is_utf8-clause-extends g c =
