@@ -80,6 +80,7 @@ DECLARE(wtf8_result, push_utf8, wtf8_string *, const uint8_t *, size_t, size_t *
 DECLARE(wtf8_result, push_string, wtf8_string *, wtf8_string *)
 DECLARE(wtf8_result, push_slice, wtf8_string *, wtf8_string *, size_t, size_t)
 DECLARE(size_t, unit_len, wtf8_string *)
+DECLARE(size_t, encoded_len, const uint16_t *, size_t)
 DECLARE(size_t, byte_len, wtf8_string *)
 DECLARE(size_t, capacity, wtf8_string *)
 DECLARE(wtf8_result, position_at, wtf8_string *, size_t, size_t *)
@@ -239,6 +240,10 @@ int32_t wtf8_compare_code_points(const wtf8_string *string, const wtf8_string *o
 uint64_t wtf8_hash(const wtf8_string *string, uint64_t seed_0, uint64_t seed_1) {
     wtf8_string copy = *string;
     return PROVED(hash)(&copy, seed_0, seed_1);
+}
+
+size_t wtf8_encoded_len(const uint16_t *units, size_t n) {
+    return PROVED(encoded_len)(n ? units : nothing, n);
 }
 
 uint64_t wtf8_hash_units(const uint16_t *units, size_t n, uint64_t seed_0, uint64_t seed_1) {

@@ -86,15 +86,19 @@ const char *wtf8_version(void);
 /* ---- Making a string ----
  *
  * A wtf8_set_ call uses the string's capacity if the new string fits it, and keeps it, and is not refused then: of a text
- * or a string the bytes have to fit, of units 3 bytes for each, since their bytes are not counted first. Else it makes a
- * new buffer, and keeps the old one until that is filled. A string without a buffer gets one, which may be refused, also
- * for an empty string.
+ * or a string the bytes have to fit, of up to 1,024 units 3 bytes for each, of more units their bytes. Else it makes a new
+ * buffer, and keeps the old one until that is filled. A string without a buffer gets one, which may be refused, also for
+ * an empty string.
  */
 
-/* Replaces the string by `n` units. Never refused if 3 bytes for each fit. If they do not, a string that has a buffer
- * gets a capacity of 3 bytes for each of up to 1,024 units, so that the next call with as many needs no memory. From 1,025
- * units on it gets what their bytes need, so units of ASCII make a new buffer each time, unless 3 bytes for each are
- * reserved. Codes: OK, NO_MEMORY. */
+/* The number of bytes of a string with these `n` units: 1 for each below 80, 2 for each other below 800, 4 for each
+ * surrogate pair, 3 for any other unit. */
+size_t wtf8_encoded_len(const uint16_t *units, size_t n);
+
+/* Replaces the string by `n` units. Never refused if 3 bytes for each fit, or, of more than 1,024 units, if their bytes do
+ * (wtf8_encoded_len). Else a string that has a buffer gets a capacity of 3 bytes for each of up to 1,024 units, so that
+ * the next call with as many needs no memory, and for more units of just their bytes, or of one for each first if the
+ * first unit is ASCII. Codes: OK, NO_MEMORY. */
 WTF8_CODE wtf8_result wtf8_set_units(wtf8_string *string, const uint16_t *units, size_t n);
 
 /* Replaces the string by a text of `n` bytes. With NOT_UTF8 the position of the first byte that is not UTF-8 is written

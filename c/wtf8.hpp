@@ -85,6 +85,7 @@ public:
     }
 
     /* Memory, and cutting. */
+    static size_t encoded_len(units_in units) noexcept { return wtf8_encoded_len(raw(units.data()), units.size()); }
     void reserve_bytes(size_t additional) { check(wtf8_reserve_bytes(get(), additional)); }
     size_t capacity() const noexcept { return wtf8_capacity(get()); }
     void shrink() noexcept { wtf8_shrink(get()); }

@@ -945,6 +945,35 @@ static void set_again(void) {
     wtf8_free(&string);
 }
 
+/* The numbers of bytes of units (Unicode 3.9, Table 3-6; 3 of a lone surrogate), and a long string that is set again in
+ * the capacity that its bytes need. */
+static void encoded_lens(void) {
+    enum { UNITS = 2000 };
+    static const struct { uint16_t units[5]; size_t n, len; } rows[] = {
+        {{0}, 0, 0}, {{0x7F}, 1, 1}, {{0x80}, 1, 2}, {{0x7FF}, 1, 2}, {{0x800}, 1, 3}, {{0xFFFF}, 1, 3}, {{0xD83D}, 1, 3},
+        {{0xDCA9}, 1, 3}, {{0xD83D, 0xDCA9}, 2, 4}, {{0xDCA9, 0xD83D}, 2, 6}, {{'a', 0xD83D, 0xDCA9, 0xDCA9, 0xE9}, 5, 10},
+    };
+    static const struct { uint16_t unit; size_t len; } kinds[] = {{'a', 1}, {0xE9, 2}, {0x4E2D, 3}, {0xD83D, 3}};
+    static uint16_t units[UNITS];
+    for (size_t i = 0; i < sizeof rows / sizeof rows[0]; i++) {
+        uint16_t *array = array_of(rows[i].units, 2 * rows[i].n);
+        must(wtf8_encoded_len(rows[i].n ? array : NULL, rows[i].n) == rows[i].len, "the bytes of units");
+    }
+    for (size_t i = 0; i < sizeof kinds / sizeof kinds[0]; i++) {
+        wtf8_string string = WTF8_EMPTY;
+        for (size_t k = 0; k < UNITS; k++) units[k] = kinds[i].unit;
+        must(wtf8_encoded_len(units, UNITS) == UNITS * kinds[i].len, "the bytes of many units");
+        must(wtf8_set_units(&string, units, UNITS) == WTF8_OK && wtf8_capacity(&string) == UNITS * kinds[i].len,
+             "the capacity of many units");
+        for (size_t n = 1025; n <= UNITS; n += 325) {
+            refuse_after = 0;
+            must(wtf8_set_units(&string, units, n) == WTF8_OK && wtf8_equal_units(&string, units, n), "many units that fit");
+            refuse_after = -1;
+        }
+        wtf8_free(&string);
+    }
+}
+
 /* A slice replaces a string in its capacity, and is refused only if it does not fit, also with halves of pairs at its ends. */
 static void sliced_in_place(void) {
     static const uint16_t units[] = {0xD83D, 0xDCA9, 'a', 0xE9, 0x4E2D, 0xD83D, 0xDCA9};
@@ -1117,6 +1146,7 @@ int main(void) {
     reserve();
     replaced_in_place();
     set_again();
+    encoded_lens();
     sliced_in_place();
     pops();
     shrinks();

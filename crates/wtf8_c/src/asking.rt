@@ -1,7 +1,7 @@
 // Calls that change nothing.
 ghost use Rattle.std.specs.Prelude.{◌≡◌, ◌⊎◌, ◌-◌, ◌<◌, ◌≤◌, ◌↔◌, List, ℕ, IsTrue, Some, length, take};
 ghost use Rattle.std.specs.List.{slice_get};
-ghost use Rattle.wtf8.specs.Form.{Reads};
+ghost use Rattle.wtf8.specs.Form.{IsForm, Reads};
 ghost use Rattle.wtf8.specs.Order.{Before};
 ghost use Rattle.wtf8.specs.Position.{IsBoundary, IsFront};
 ghost use Rattle.wtf8.specs.Surrogates.{AreScalar};
@@ -14,6 +14,7 @@ use crate::handle::Wtf8String;
 use crate::opening::{HeldBuf, unit_len, view};
 use std::alloc::Global;
 use unit_text::IndexedBuf;
+use wtf8::encoded_len;
 
 /// The number of units.
 #[unsafe(no_mangle)]
@@ -25,6 +26,14 @@ pub extern "C" fn wtf8_unit_len(alloc: Global, string: &mut Wtf8String) -> usize
     let len = unit_len(&held);
     string.put_back(held);
     len
+}
+
+/// The number of bytes of a string with these units.
+#[unsafe(no_mangle)]
+pub extern "C" fn wtf8_encoded_len(units: &[u16]) -> usize
+    ensures { (w : List ℕ) → IsForm w units.now → result ≡ length w }
+{
+    encoded_len(units)
 }
 
 /// The length in bytes.

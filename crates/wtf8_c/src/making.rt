@@ -1,19 +1,19 @@
 // Calls that make a string and let it go.
-ghost use Rattle.std.specs.Prelude.{◌≡◌, [], ◌+◌, ◌*◌, ◌≤◌, ◌⊎◌, ◌↔◌, IsTrue, IsFalse, IfOk, length};
+ghost use Rattle.std.specs.Prelude.{◌≡◌, [], ◌+◌, ◌*◌, ◌≤◌, ◌⊎◌, ◌↔◌, ◌<◌, IsTrue, IsFalse, IfOk, IfSome, IsSome, IsNone, length};
 ghost use Rattle.std.specs.Str.{chars, IsUtf8};
 ghost use Rattle.std.specs.Str.Lossy.{utf8_valid_len};
-ghost use Rattle.wtf8.specs.Appending.{KeepsContents};
+ghost use Rattle.wtf8.specs.Appending.{FitWithin, KeepsContents};
 ghost use Rattle.wtf8.specs.Unicode.{units};
 ghost use Rattle.wtf8.specs.View.{view_units};
 ghost use Rattle.wtf8_c.specs.Contents.{contents, no_string};
 
 use crate::codes::{NO_MEMORY, NOT_UTF8, OK, code_of};
 use crate::handle::Wtf8String;
-use crate::opening::view;
+use crate::opening::{HeldBuf, view};
 use std::alloc::{AllocError, Global};
 use std::str;
 use unit_text::IndexedBuf;
-use wtf8::Wtf8;
+use wtf8::{Wtf8, encoded_len};
 
 /// The most units for which a string that is set again gets the capacity for any units of that number, of which ASCII
 /// takes a third.
@@ -26,10 +26,11 @@ pub extern "C" fn wtf8_set_units(alloc: Global, string: &mut Wtf8String, units: 
     ensures ok { result ≡ OK → (contents string.new).units ≡ units.now }
     ensures kept { result ≡ NO_MEMORY → contents string.new ≡ contents string.old }
     ensures room { IsTrue string.old.full → 3 * length units.now ≤ (contents string.old).capacity → result ≡ OK }
+    ensures counted { IsTrue string.old.full → ROOMY_UNITS < length units.now → FitWithin units.now 0 (contents string.old).capacity → result ≡ OK }
     ensures again { IsTrue string.old.full → length units.now ≤ ROOMY_UNITS → result ≡ OK → 3 * length units.now ≤ (contents string.new).capacity }
 {
     let is_again = string.is_full();
-    match string.take_if_fits(alloc, 3 * units.len(), 0) {
+    match take_for_units(alloc, string, units) {
         Some(mut buf) => {
             buf.clear();
             let pushed = buf.push_units(units);
@@ -48,6 +49,29 @@ pub extern "C" fn wtf8_set_units(alloc: Global, string: &mut Wtf8String, units: 
             }
         }
     }
+}
+
+/// Takes the string's buffer out if it has room for the units: three bytes for each, or, for more than `ROOMY_UNITS`, the
+/// bytes that they take, which are counted then.
+fn take_for_units(alloc: Global, string: &mut Wtf8String, units: &[u16]) -> HeldBuf
+    ensures contents { IfSome result (λ b. b.value ≡ contents string.old) }
+    ensures fits { IfSome result (λ b. FitWithin units.now 0 b.value.capacity) }
+    ensures roomy { length units.now ≤ ROOMY_UNITS → IfSome result (λ b. 3 * length units.now ≤ b.value.capacity) }
+    ensures empty { IsSome result → IsFalse string.new.full }
+    ensures kept { IsNone result → contents string.new ≡ contents string.old }
+    ensures room { IsTrue string.old.full → 3 * length units.now ≤ (contents string.old).capacity → IsSome result }
+    ensures counted { IsTrue string.old.full → ROOMY_UNITS < length units.now → FitWithin units.now 0 (contents string.old).capacity → IsSome result }
+{
+    if !string.is_full() {
+        return None;
+    }
+    if let Some(roomy) = string.take_if_fits(alloc, 3 * units.len(), 0) {
+        return Some(roomy);
+    }
+    if units.len() <= ROOMY_UNITS {
+        return None;
+    }
+    string.take_if_fits(alloc, encoded_len(units), 0)
 }
 
 /// Makes a buffer of units that replaces another. If there are at most `ROOMY_UNITS`, any units of that number will fit

@@ -32,6 +32,7 @@ impl Wtf8String {
         ensures fits { IfSome result (λ b. n + more ≤ b.value.capacity) }
         ensures empty { IsSome result → IsFalse self.new.full }
         ensures kept { IsNone result → contents self.new ≡ contents self.old }
+        ensures full { IsNone result → IsTrue self.old.full → IsTrue self.new.full }
         ensures room { IsTrue self.old.full → n + more ≤ (contents self.old).capacity → IsSome result }
         ensures no_room { IsNone result → (contents self.old).capacity ≤ n + more }
     {
