@@ -958,6 +958,7 @@ static void encoded_lens(void) {
     for (size_t i = 0; i < sizeof rows / sizeof rows[0]; i++) {
         uint16_t *array = array_of(rows[i].units, 2 * rows[i].n);
         must(wtf8_encoded_len(rows[i].n ? array : NULL, rows[i].n) == rows[i].len, "the bytes of units");
+        must_begin(array, 2 * rows[i].n, rows[i].units, 2 * rows[i].n, "the units that are counted");
     }
     for (size_t i = 0; i < sizeof kinds / sizeof kinds[0]; i++) {
         wtf8_string string = WTF8_EMPTY;

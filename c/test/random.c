@@ -220,10 +220,11 @@ static void step(enum call call, struct pair *p, struct pair *q) {
             needs_none = is_set_in_place(p, 3 * n);
             array = array_of(units, 2 * n);
             code = wtf8_set_units(&p->string, n || below(2) ? array : NULL, n);
+            len = wtf8_encoded_len(n || below(2) ? array : NULL, n);
             must_begin(array, 2 * n, units, 2 * n, "set_units, array");
             if (code == WTF8_OK) {
                 replace(p, units, n);
-                must(wtf8_encoded_len(n || below(2) ? array : NULL, n) == byte_len(p), "encoded_len");
+                must(len == byte_len(p), "encoded_len");
             }
             break;
         case SET_UTF8:

@@ -203,8 +203,8 @@ struct Row {
     bytes: usize,
 }
 
-/// A trail that joins requests a byte. The bytes of other units are requested at once: just these if the string has no
-/// more bytes than units are pushed, else the greatest of eight bytes, twice the capacity and what is needed.
+/// A trail that joins requests a byte. The bytes of other units are requested at once. Each request is for the greatest of
+/// eight bytes, twice the capacity and what is needed.
 fn rows() -> [Row; 8] {
     [
         Row {

@@ -1,5 +1,5 @@
 // Counts the bytes of code units before they are encoded: one for each unit, and those that units from 0x80 on add.
-ghost use Rattle.std.specs.Prelude.{◌≡◌, ◌+◌, ◌<◌, ◌≤◌, ◌^◌, ℕ, List, length, slice_index, slice_index_or, vec_len, vec_capacity, IsOk, OnOk};
+ghost use Rattle.std.specs.Prelude.{◌≡◌, ◌+◌, ◌<◌, ◌≤◌, ◌^◌, ℕ, List, length, slice_index, slice_index_or, vec_capacity, IsOk};
 ghost use lib.Lanes.{zip2};
 ghost use Rattle.wtf8.specs.Form.{IsForm};
 ghost use Rattle.wtf8.specs.private.EncodedLengths.{more_bytes, IsCounted};
@@ -107,23 +107,29 @@ pub fn encoded_len(units: &[u16]) -> usize
     counted.len
 }
 
-/// Reserves `count` bytes for `units` units or for the last of them. If the string has no more bytes than these units,
-/// so that a copy of it costs no more than they do, the capacity is exact.
+/// How the capacity of a string grows.
+#[derive(Clone, Copy)]
+pub(crate) enum Growth {
+    /// To what is needed: a new string has no spare capacity.
+    Exact,
+    /// To at least twice the capacity, so that many appends are linear together.
+    Amortized,
+}
+
 #[inline(always)]
-pub(crate) fn reserve<A: Allocator>(
+fn reserve<A: Allocator>(
     bytes: &mut Vec<u8, A>,
     count: usize,
-    units: usize,
+    growth: Growth,
 ) -> Result<(), AllocError>
     ensures items { bytes.new.items ≡ bytes.old.items }
-    ensures ok { OnOk result (vec_len bytes.new + count ≤ vec_capacity bytes.new) }
     ensures room { length bytes.old.items + count ≤ vec_capacity bytes.old → IsOk result }
     ensures capacity { vec_capacity bytes.old ≤ vec_capacity bytes.new }
 {
-    if bytes.len() <= units {
-        return bytes.reserve_exact(count);
+    match growth {
+        Growth::Exact => bytes.reserve_exact(count),
+        Growth::Amortized => bytes.reserve(count),
     }
-    bytes.reserve(count)
 }
 
 /// Reserves `encoded` bytes, and those of the units from index `at` on. These are counted, so that one request is
@@ -134,6 +140,7 @@ fn reserve_rest<A: Allocator>(
     v: &[u16],
     at: usize,
     encoded: usize,
+    growth: Growth,
 ) -> Result<(), AllocError>
     requires within { at ≤ length v.now }
     requires encoded { encoded < 2 ^ 16 }
@@ -141,7 +148,7 @@ fn reserve_rest<A: Allocator>(
     ensures room { (w : List ℕ) → length w ≡ encoded → HasRoomAfter bytes.old w v.now at → IsOk result }
     ensures capacity { vec_capacity bytes.old ≤ vec_capacity bytes.new }
 {
-    reserve(bytes, encoded + encoded_len(&v[at..]), v.len())
+    reserve(bytes, encoded + encoded_len(&v[at..]), growth)
 }
 
 /// If there is no room for the next `least` bytes, reserves `encoded` bytes, and those of the units from index `at` on.
@@ -152,6 +159,7 @@ pub(crate) fn make_room<A: Allocator>(
     at: usize,
     encoded: usize,
     least: usize,
+    growth: Growth,
 ) -> Result<(), AllocError>
     requires within { at ≤ length v.now }
     requires encoded { encoded < 2 ^ 16 }
@@ -162,5 +170,5 @@ pub(crate) fn make_room<A: Allocator>(
     if least <= spare_capacity(bytes) {
         return Ok(());
     }
-    reserve_rest(bytes, v, at, encoded)
+    reserve_rest(bytes, v, at, encoded, growth)
 }

@@ -7,7 +7,6 @@ ghost use Rattle.wtf8.specs.private.Prefixes.{HasRoomFrom, IsKnownForm, IsReadTo
 use crate::codec::code_point::{CodePoint, FIRST_LEAD};
 use crate::codec::encoding::{four_bytes, three_bytes, two_bytes};
 use crate::from_utf16::decode;
-use crate::from_utf16::encoded_len::reserve;
 use crate::from_utf16::kernel::Progress;
 use crate::vec::to_vec_in;
 use std::alloc::{AllocError, Allocator};
@@ -144,7 +143,6 @@ pub(crate) fn append<A: Allocator>(
 {
     let mut block = [0; FEW_BYTES];
     let (len, is_utf8) = write_few(v, is_utf8, &mut block);
-    reserve(bytes, len, v.len())?;
     bytes.extend_from_slice(&block[..len])?;
     Ok(is_utf8)
 }

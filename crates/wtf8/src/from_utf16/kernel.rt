@@ -22,7 +22,7 @@ ghost use Rattle.wtf8.specs.private.Prefixes.{AreScalarUnits, HasRoomFrom, IsKno
 ghost use Rattle.wtf8.specs.private.PackedUnits.{tagged_units, tagged_block, scalar_head, scalar_last_byte, three_byte_flag, byte_lanes, units_table_index, AreUnitBytes, packed_units};
 
 use crate::codec::code_point::{FIRST_LEAD, LEAD_KIND, SURROGATES_PER_HALF, TRAIL_KIND};
-use crate::from_utf16::encoded_len::make_room;
+use crate::from_utf16::encoded_len::{Growth, make_room};
 use crate::from_utf16::shuffle_table;
 use std::alloc::{AllocError, Allocator};
 use std::simd::prelude::*;
@@ -322,6 +322,7 @@ pub(crate) fn append_blocks<const SCRATCH: usize, A: Allocator>(
     bytes: &mut Vec<u8, A>,
     v: &[u16],
     from: Progress,
+    growth: Growth,
 ) -> Result<Progress, AllocError>
     requires room { (MIN_SPARE ≤ SCRATCH) × (SCRATCH < 2 ^ 16) }
     requires within { from.at + LAST_UNITS ≤ length v.now }
@@ -336,7 +337,7 @@ pub(crate) fn append_blocks<const SCRATCH: usize, A: Allocator>(
     let mut read = from;
     loop {
         let (len, to) = write_blocks(v, read.at, scratch);
-        make_room(bytes, v, to.at, len, len)?;
+        make_room(bytes, v, to.at, len, len, growth)?;
         bytes.extend_from_slice(&scratch[..len])?;
         read.at = to.at;
         read.is_utf8 &= to.is_utf8;

@@ -6,7 +6,7 @@ ghost use Rattle.wtf8.specs.private.Prefixes.{IsKnownForm, IsReadTo, ReadsOn, Ha
 use crate::codec::code_point::CodePoint;
 use crate::codec::encoding;
 use crate::from_utf16::decode;
-use crate::from_utf16::encoded_len::{make_room, reserve};
+use crate::from_utf16::encoded_len::{Growth, make_room};
 use crate::from_utf16::few::{self, FEW_UNITS};
 use crate::from_utf16::kernel::{self, LAST_UNITS, MIN_SPARE, Progress};
 use crate::lanes::ascii::first_not_ascii;
@@ -52,6 +52,7 @@ fn append_point<A: Allocator>(
     bytes: &mut Vec<u8, A>,
     v: &[u16],
     from: Progress,
+    growth: Growth,
 ) -> Result<Progress, AllocError>
     requires within { from.at < length v.now }
     ensures order { IfOk result (λ to. (from.at < to.at) × (to.at ≤ length v.now)) }
@@ -60,7 +61,7 @@ fn append_point<A: Allocator>(
     ensures room { HasRoomFrom bytes.old v.now from.at from.is_utf8 → IsOk result }
     ensures capacity { vec_capacity bytes.old ≤ vec_capacity bytes.new }
 {
-    make_room(bytes, v, from.at, 0, MOST_POINT_BYTES)?;
+    make_room(bytes, v, from.at, 0, MOST_POINT_BYTES, growth)?;
     let unit = v[from.at];
     if unit < 0x800 {
         // Letters of most alphabets: never a surrogate, and at most two bytes.
@@ -122,6 +123,7 @@ fn append_ascii_run<const N: usize, A: Allocator>(
     bytes: &mut Vec<u8, A>,
     v: &[u16],
     from: Progress,
+    growth: Growth,
 ) -> Result<Progress, AllocError>
     requires lanes { (0 < N) × (N ≤ u64.BITS) }
     requires within { from.at + N ≤ length v.now }
@@ -135,7 +137,7 @@ fn append_ascii_run<const N: usize, A: Allocator>(
     if to.at == from.at + N {
         return Ok(to);
     }
-    append_point(bytes, v, to)
+    append_point(bytes, v, to, growth)
 }
 
 /// Takes a step while `LONG_RUN` or more units are left.
@@ -144,6 +146,7 @@ fn append_next<A: Allocator>(
     bytes: &mut Vec<u8, A>,
     v: &[u16],
     from: Progress,
+    growth: Growth,
 ) -> Result<Progress, AllocError>
     requires within { from.at + LONG_RUN ≤ length v.now }
     ensures order { IfOk result (λ to. (from.at < to.at) × (to.at ≤ length v.now)) }
@@ -157,7 +160,7 @@ fn append_next<A: Allocator>(
     if v[at] < 0x80 {
         // With this test in `append_front` alone, emoji in ASCII take 5% more instructions.
         if spare_capacity(bytes) < LONG_RUN {
-            return append_point(bytes, v, from);
+            return append_point(bytes, v, from, growth);
         }
         let (front, letters) = append_front::<LONG_RUN, A>(bytes, v, from)?;
         to = front;
@@ -165,13 +168,13 @@ fn append_next<A: Allocator>(
             return Ok(to);
         }
         if letters.count_ones() < MANY_LETTERS || v.len() - to.at < LAST_UNITS {
-            return append_point(bytes, v, to);
+            return append_point(bytes, v, to, growth);
         }
     } else if v[at + 1] < 0x80 || v[at + 2] < 0x80 {
         // ASCII that follows soon is most often a run: encode one code point, and leave the run to a later step.
-        return append_point(bytes, v, from);
+        return append_point(bytes, v, from, growth);
     }
-    kernel::append_blocks::<SCRATCH_BYTES, A>(bytes, v, to)
+    kernel::append_blocks::<SCRATCH_BYTES, A>(bytes, v, to, growth)
 }
 
 /// Takes a step while `LAST_UNITS` or more units are left. The last block may have fewer units than others.
@@ -180,6 +183,7 @@ fn append_last<A: Allocator>(
     bytes: &mut Vec<u8, A>,
     v: &[u16],
     from: Progress,
+    growth: Growth,
 ) -> Result<Progress, AllocError>
     requires within { from.at + LAST_UNITS ≤ length v.now }
     ensures order { IfOk result (λ to. (from.at < to.at) × (to.at ≤ length v.now)) }
@@ -191,16 +195,16 @@ fn append_last<A: Allocator>(
     let left = v.len() - from.at;
     let is_ascii = v[from.at] < 0x80;
     if is_ascii && left < SMALL_RUN {
-        return append_ascii_run::<SHORT_RUN, A>(bytes, v, from);
+        return append_ascii_run::<SHORT_RUN, A>(bytes, v, from, growth);
     }
     // One ASCII unit is no run: a block that takes it too costs no more than one without it.
     if !is_ascii || 0x80 <= v[from.at + 1] {
-        return kernel::append_blocks::<SHORT_SCRATCH_BYTES, A>(bytes, v, from);
+        return kernel::append_blocks::<SHORT_SCRATCH_BYTES, A>(bytes, v, from, growth);
     }
     if left < MEDIUM_RUN {
-        return append_ascii_run::<SMALL_RUN, A>(bytes, v, from);
+        return append_ascii_run::<SMALL_RUN, A>(bytes, v, from, growth);
     }
-    append_ascii_run::<MEDIUM_RUN, A>(bytes, v, from)
+    append_ascii_run::<MEDIUM_RUN, A>(bytes, v, from, growth)
 }
 
 /// With these loops in `append_utf16` itself, 40 units whose ends join take 1.4% more instructions.
@@ -209,6 +213,7 @@ fn append_steps<A: Allocator>(
     bytes: &mut Vec<u8, A>,
     v: &[u16],
     from: Progress,
+    growth: Growth,
 ) -> Result<Progress, AllocError>
     requires within { from.at ≤ length v.now }
     ensures order { IfOk result (λ to. to.at ≤ length v.now) }
@@ -219,10 +224,10 @@ fn append_steps<A: Allocator>(
 {
     let mut read = from;
     while LONG_RUN <= v.len() - read.at {
-        read = append_next(bytes, v, read)?;
+        read = append_next(bytes, v, read, growth)?;
     }
     while LAST_UNITS <= v.len() - read.at {
-        read = append_last(bytes, v, read)?;
+        read = append_last(bytes, v, read, growth)?;
     }
     Ok(read)
 }
@@ -291,7 +296,7 @@ fn reserve_ascii<A: Allocator>(
     if left <= spare_capacity(bytes) || !may_be_ascii(&v[at..]) {
         return Ok(());
     }
-    reserve(bytes, left, v.len())
+    bytes.reserve(left)
 }
 
 /// Appends the bytes of all units from index `from.at` on, after bytes with which they form no pair. Returns whether
@@ -300,6 +305,7 @@ pub(crate) fn append_utf16<A: Allocator>(
     bytes: &mut Vec<u8, A>,
     v: &[u16],
     from: Progress,
+    growth: Growth,
 ) -> Result<bool, AllocError>
     requires within { from.at ≤ length v.now }
     ensures ok { IfOk result (λ known. (front : List ℕ) → IsReadTo bytes.old.items front v.now from.at from.is_utf8 → IsKnownForm bytes.new.items (front ++ v.now) known) }
@@ -308,8 +314,15 @@ pub(crate) fn append_utf16<A: Allocator>(
     ensures capacity { vec_capacity bytes.old ≤ vec_capacity bytes.new }
 {
     reserve_ascii(bytes, v, from.at)?;
-    let read = append_steps(bytes, v, from)?;
-    make_room(bytes, v, read.at, 0, MOST_BYTES * (v.len() - read.at))?;
+    let read = append_steps(bytes, v, from, growth)?;
+    make_room(
+        bytes,
+        v,
+        read.at,
+        0,
+        MOST_BYTES * (v.len() - read.at),
+        growth,
+    )?;
     append_rest(bytes, v, read)
 }
 
@@ -328,6 +341,6 @@ pub(crate) fn encode<A: Allocator>(alloc: A, v: &[u16]) -> Result<(Vec<u8, A>, b
         at: 0,
         is_utf8: true,
     };
-    let is_utf8 = append_utf16(&mut bytes, v, start)?;
+    let is_utf8 = append_utf16(&mut bytes, v, start, Growth::Exact)?;
     Ok((bytes, is_utf8))
 }

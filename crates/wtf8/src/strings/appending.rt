@@ -12,6 +12,7 @@ ghost use Rattle.wtf8.specs.View.{view_points, view_units};
 
 use crate::codec::code_point::{CodePoint, FIRST_TRAIL, code_point_of_pair, is_trail};
 use crate::codec::encoding;
+use crate::from_utf16::encoded_len::Growth;
 use crate::from_utf16::few::{self, FEW_UNITS};
 use crate::from_utf16::kernel::Progress;
 use crate::from_utf16::transcode;
@@ -263,9 +264,10 @@ fn append_utf16<A: Allocator>(
                     at: 1,
                     is_utf8: false,
                 },
+                Growth::Amortized,
             )
         }
-        None => transcode::append_utf16(bytes, v, Progress { at: 0, is_utf8 }),
+        None => transcode::append_utf16(bytes, v, Progress { at: 0, is_utf8 }, Growth::Amortized),
     }
 }
 

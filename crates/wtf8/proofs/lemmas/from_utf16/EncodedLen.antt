@@ -2,8 +2,8 @@
 use Rattle.wtf8.proofs.Common.{◌≡◌, ℕ, ◌+◌, ◌-◌, ◌≤◌, List, [], ◌∷◌, ◌++◌, length, take, drop, get_or, arith, ap, ◌∙◌, sym}
 use Rattle.wtf8.proofs.Common.{length-append, length-drop, take_all, drop_all, subst, Bool, false, true, false≢true, Fits, w16, Each1}
 use Rattle.wtf8.proofs.Common.{IsKnownForm, IsReadTo, HasRoomFrom, HasRoomAfter, append-nil, vec_capacity, IsForm, cases_lt, inl, inr, refl, zero, suc, ◌*◌, ◌/◌, ◌%◌, ◌<◌}
-use Rattle.wtf8.proofs.Common.{zip2, map, replicate, top, cond, eqb, ltb, sel_l, bit_and, nat_tests, sum_l, Each1, Each2, Each2-of, Each1-weaker}
-use Rattle.wtf8.proofs.Common.{IsClean, units, units_of, bytes, encoding, IsLead, IsTrail, length-take, length-zip2, take-add, drop-drop, sum_bound}
+use Rattle.wtf8.proofs.Common.{zip2, map, replicate, top, cond, eqb, ltb, sel_l, bit_and, nat_tests, sum_l, Each1, Each2, Each2-of}
+use Rattle.wtf8.proofs.Common.{IsClean, units, bytes, encoding, IsLead, IsTrail, length-take, take-add, sum_bound}
 use Rattle.wtf8.proofs.Common.{get_or-drop}
 use Rattle.wtf8.specs.private.EncodedLengths.{each_more, more_bytes, IsCounted}
 use Rattle.wtf8.specs.declared.from_utf16.encoded_len.Counted.{Counted}

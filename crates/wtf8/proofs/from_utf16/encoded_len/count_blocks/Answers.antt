@@ -1,4 +1,4 @@
-use Rattle.wtf8.proofs.Common.{◌≡◌, ◌+◌, ◌-◌, ◌*◌, ◌≤◌, ◌∙◌, ◌++◌, ap, arith, drop, drop-drop, fold-sum, length, length-chunk, length-replicate, length-zip2}
+use Rattle.wtf8.proofs.Common.{◌≡◌, ◌+◌, ◌-◌, ◌≤◌, ◌∙◌, ap, arith, drop, drop-drop, fold-sum, length, length-chunk, length-replicate, length-zip2}
 use Rattle.wtf8.proofs.Common.{sum-zip2, sum_fits, sum_l, sym, take, w16, zip2}
 use Rattle.wtf8.specs.private.EncodedLengths.{each_more, more_bytes}
 use Rattle.wtf8.proofs.lemmas.from_utf16.EncodedLen.{each_more-block, IsCounted-on, lanes_take_more, sum-most, sum-none, sum-take_add, sum-zeros}

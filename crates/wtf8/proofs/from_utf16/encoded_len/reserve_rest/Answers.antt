@@ -1,4 +1,4 @@
-use Rattle.wtf8.proofs.Common.{◌≡◌, ◌+◌, ◌-◌, IsForm, arith, drop, length, length-drop, subst, sym, take, take_all}
+use Rattle.wtf8.proofs.Common.{◌≡◌, ◌-◌, IsForm, arith, drop, length, length-drop, subst, sym, take, take_all}
 use Rattle.wtf8.proofs.lemmas.from_utf16.EncodedLen.{rest_form, rest_form-fits, rest_form-is, rest_form-most}
 use Rattle.wtf8.proofs.from_utf16.encoded_len.reserve_rest.Goals.{After-encoded_len}
 use Rattle.wtf8.proofs.from_utf16.encoded_len.reserve_rest.Goals as goal

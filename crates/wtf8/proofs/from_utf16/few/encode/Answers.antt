@@ -1,4 +1,4 @@
-use Rattle.wtf8.proofs.Common.{[], ◌∙◌, IsForm, IsKnownForm, ap, arith, false≢true, length, refl, subst, take, take_all, true}
+use Rattle.wtf8.proofs.Common.{[], IsForm, IsKnownForm, arith, false≢true, length, refl, subst, take, take_all, true}
 use Rattle.wtf8.proofs.lemmas.codec.Readings.{same_form}
 use Rattle.wtf8.proofs.lemmas.from_utf16.Transcode.{IsKnownForm-nil, read_none}
 use Rattle.wtf8.proofs.from_utf16.few.encode.Goals.{After-write_few-len}

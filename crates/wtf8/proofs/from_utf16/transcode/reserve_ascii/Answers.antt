@@ -3,9 +3,10 @@ use Rattle.wtf8.proofs.lemmas.from_utf16.EncodedLen.{HasRoomAfter-nothing, rest_
 use Rattle.wtf8.proofs.from_utf16.transcode.reserve_ascii.Goals as goal
 
 pub returns-clause-room : goal.returns-clause-room
-returns-clause-room g c is_utf8 room = c.reserve.ensures.room (omega (
+returns-clause-room g c is_utf8 room = c.reserve.ensures.succeeds (omega (
   arith,
   rest_form-fits c.args.bytes.now [] c.type_inv.v c.requires.within (HasRoomAfter-nothing c.args.bytes.now room),
   rest_form-longer c.args.v.now c.args.at c.type_inv.v,
   c.requires.within,
+  c.args.bytes.now.ok.0,
 ))

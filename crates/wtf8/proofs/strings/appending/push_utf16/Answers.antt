@@ -1,9 +1,7 @@
-use Rattle.wtf8.proofs.Common.{◌≤◌, ◌∙◌, arith, ap, length, false≢true, leb-true, IsWellFormed, refl, sym, Ok, Err}
-use Rattle.wtf8.proofs.lemmas.codec.Readings.{IsWellFormed-equal_bytes}
+use Rattle.wtf8.proofs.Common.{◌≤◌, ◌∙◌, arith, ap, length, false≢true, leb-true, refl, Ok, Err}
 use Rattle.wtf8.proofs.lemmas.strings.ExtendedForms.{all_scalar, scalar-equal_bytes}
 use Rattle.wtf8.proofs.lemmas.strings.PushedUnits.{are_units, fronts_fit, lead_length, scalar_units, taken_back, units_extended}
 use Rattle.wtf8.proofs.lemmas.strings.PushedUnits.{units_refused}
-use Rattle.wtf8.proofs.lemmas.strings.PushedUnits.{whole_form-longer}
 use Rattle.wtf8.proofs.strings.appending.push_utf16.Goals as goal
 
 pub lead_before-lead-requires-clause-scalar : goal.lead_before-lead-requires-clause-scalar
