@@ -302,25 +302,38 @@ fn is_counted(heap: Lent<'_>, row: Appended, granted: u64, is_granted: bool) -> 
     heap.requests() == granted.wrapping_add(1) && (row.requests > 1 || heap.bytes() == row.bytes)
 }
 
-/// Makes the row's call with `granted` requests granted, and the following ones, or the next one alone, refused. Whether
-/// it appends its units if its requests are all granted, and else changes nothing, makes no more requests, and appends
-/// its units if it is then made again.
+/// Makes the row's call. Whether it appends its units if its requests are all granted, and else changes nothing, makes no
+/// more requests, and appends its units if it is then made again.
+fn is_right_call<'a>(
+    alloc: Global,
+    heap: Lent<'a>,
+    text: &mut UnitText<Lent<'a>>,
+    (row, granted): (Appended, u64),
+    piece: &UnitText<Lent<'a>>,
+) -> bool {
+    let is_granted = row.requests <= granted;
+    if append_to(text, row.append, piece).is_ok() != is_granted
+        || !is_counted(heap, row, granted, is_granted)
+    {
+        return false;
+    }
+    if !is_granted {
+        let is_kept = has_text(alloc, text, row.units, row.dump);
+        heap.grant(9);
+        if !is_kept || append_to(text, row.append, piece).is_err() {
+            return false;
+        }
+    }
+    piece.unit_len() == piece_of(row.append).len() && is_end(alloc, heap, text, row)
+}
+
+/// Whether `is_right_call` holds with `granted` requests granted, and the following ones, or the next one alone, refused.
 fn is_right_append(alloc: Global, row: Appended, granted: u64, refusal: Refusal) -> bool {
     let heap = Refusing::new(alloc, 9);
     let mut text = text_of(&heap, row.units);
     let piece = text_of(&heap, piece_of(row.append));
     heap.refuse_after(granted, refusal);
-    let is_appended = append_to(&mut text, row.append, &piece).is_ok();
-    let is_granted = row.requests <= granted;
-    let is_right = is_appended == is_granted
-        && is_counted(&heap, row, granted, is_granted)
-        && piece.unit_len() == piece_of(row.append).len();
-    if is_granted {
-        return is_right && is_end(alloc, &heap, &text, row);
-    }
-    let is_kept = is_right && has_text(alloc, &text, row.units, row.dump);
-    heap.grant(9);
-    is_kept && append_to(&mut text, row.append, &piece).is_ok() && is_end(alloc, &heap, &text, row)
+    is_right_call(alloc, &heap, &mut text, (row, granted), &piece)
 }
 
 /// Whether each row's call appends its units with just its requests granted, and with more, and changes nothing if one of
