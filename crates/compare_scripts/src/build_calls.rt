@@ -2,11 +2,10 @@
 use crate::building::with_view;
 use crate::machine::Machine;
 use crate::reader::{Reader, Register};
-use crate::stop::{Stop, push};
+use crate::stop::Stop;
 use crate::tape::{Shown, Tape};
 use refusing::Refusing;
 use std::alloc::{Allocator, Global};
-use std::mem;
 use wtf8::{Build, CodePoint, Stopped, Wtf8, Wtf8Buf};
 
 /// The number of grants that means no limit.
@@ -15,26 +14,18 @@ const UNBOUNDED: usize = 0xFFFF;
 impl Machine {
     /// `apply` of each call of a list: writes what it returns, and the string after it. The calls refer to the strings
     /// as they were before the list.
-    pub fn apply_each(&mut self, at: Register, tape: &mut Tape<'_>) -> Result<(), Stop> {
-        let points = tape.reader.points(tape.alloc)?;
-        let Ok(copy) = self.string(at).clone() else {
-            return Err(Stop::Memory);
-        };
-        let string = mem::replace(&mut self.strings[at.index], copy);
-        self.strings[at.index] = self.applied(string, at, points.as_slice(), tape)?;
-        Ok(())
+    pub fn apply_each(&mut self, at: Register, tape: &mut Tape<'_>) {
+        match self.applied(at, tape) {
+            Ok(string) => self.strings[at.index] = string,
+            Err(stop) => tape.write_stop(stop),
+        }
     }
 
-    /// Returns a string after `apply` of each call of a list.
-    fn applied(
-        &self,
-        string: Wtf8Buf<Global>,
-        at: Register,
-        points: &[CodePoint],
-        tape: &mut Tape<'_>,
-    ) -> Result<Wtf8Buf<Global>, Stop> {
-        let mut string = string;
-        let calls = self.read_calls(tape, points)?;
+    /// Returns a copy of a string after `apply` of each call of a list.
+    fn applied(&self, at: Register, tape: &mut Tape<'_>) -> Result<Wtf8Buf<Global>, Stop> {
+        let points = tape.reader.points(tape.alloc);
+        let calls = self.read_calls(tape, points.as_slice());
+        let mut string = self.copy_of(at, tape);
         apply_calls(&mut string, at, calls.as_slice(), tape)?;
         Ok(string)
     }
@@ -42,10 +33,9 @@ impl Machine {
     /// `apply_all` of a list of calls, on a copy with spare capacity and an allocator that grants a number of requests.
     /// Writes the number of refused truncations or the index of the refused call, then the units. Returns the string.
     pub fn apply_all(&self, at: Register, tape: &mut Tape<'_>) -> Result<Wtf8Buf<Global>, Stop> {
-        let spare = tape.reader.number()?;
-        let grants = tape.reader.number()?;
-        let points = tape.reader.points(tape.alloc)?;
-        let calls = self.read_calls(tape, points.as_slice())?;
+        let (spare, grants) = tape.reader.range();
+        let points = tape.reader.points(tape.alloc);
+        let calls = self.read_calls(tape, points.as_slice());
         apply_with_grants(self.view(at), spare, grants, calls.as_slice(), tape)
     }
 
@@ -55,36 +45,55 @@ impl Machine {
         &'c self,
         tape: &mut Tape<'s>,
         points: &'c [CodePoint],
-    ) -> Result<Vec<Build<'c>>, Stop> {
+    ) -> Vec<Build<'c>> {
         let mut calls = Vec::new(tape.alloc);
-        for _ in 0..tape.reader.byte()? {
-            match self.read_call(&mut tape.reader, points) {
-                Ok(call) => push(&mut calls, call)?,
-                Err(Stop::NoCodePoint | Stop::NoCharacter) => {}
-                Err(stop) => return Err(stop),
+        for _ in 0..tape.reader.byte() {
+            if let Some(call) = self.read_call(&mut tape.reader, points) {
+                if calls.push(call).is_err() {
+                    tape.reader.fail(Stop::Memory);
+                }
             }
         }
-        Ok(calls)
+        calls
     }
 
-    /// Reads a building call: a byte that names it, and its operand.
+    /// Reads a building call: a byte that names it, and its operand. `None` if that is a value that `read_calls` leaves
+    /// out, or the byte names no call, which is a fault.
     fn read_call<'s: 'c, 'c>(
         &'c self,
         reader: &mut Reader<'s>,
         points: &'c [CodePoint],
-    ) -> Result<Build<'c>, Stop> {
-        let call = match reader.byte()? {
-            0 => Build::Push(reader.point()?),
-            1 => Build::PushChar(reader.character()?),
-            2 => Build::PushStr(reader.text()?),
-            3 => Build::PushWtf8(self.view(reader.register()?)),
-            4 => Build::Extend(&points[..reader.number()?.min(points.len())]),
-            5 => Build::Reserve(reader.number()?),
-            6 => Build::Truncate(reader.number()?),
-            7 => Build::TruncateUnits(reader.number()?),
-            _ => return Err(Stop::Malformed),
-        };
-        Ok(call)
+    ) -> Option<Build<'c>> {
+        match reader.byte() {
+            0 => push_of(reader.point()),
+            1 => push_char_of(reader.character()),
+            2 => Some(Build::PushStr(reader.text())),
+            3 => Some(Build::PushWtf8(self.view(reader.register()))),
+            4 => Some(Build::Extend(&points[..reader.number().min(points.len())])),
+            5 => Some(Build::Reserve(reader.number())),
+            6 => Some(Build::Truncate(reader.number())),
+            7 => Some(Build::TruncateUnits(reader.number())),
+            _ => {
+                reader.fail(Stop::Malformed);
+                None
+            }
+        }
+    }
+}
+
+/// `Build::Push` of a value that was read, if it is a code point.
+fn push_of<'c>(value: Result<CodePoint, Stop>) -> Option<Build<'c>> {
+    match value {
+        Ok(point) => Some(Build::Push(point)),
+        Err(_) => None,
+    }
+}
+
+/// `Build::PushChar` of a value that was read, if it is a scalar value.
+fn push_char_of<'c>(value: Result<char, Stop>) -> Option<Build<'c>> {
+    match value {
+        Ok(c) => Some(Build::PushChar(c)),
+        Err(_) => None,
     }
 }
 
@@ -96,22 +105,13 @@ fn apply_calls(
     tape: &mut Tape<'_>,
 ) -> Result<(), Stop> {
     for call in calls {
-        apply_call(string, *call, tape)?;
-        tape.write_string(at, string.as_wtf8())?;
+        let Ok(is_kept) = string.apply(*call) else {
+            return Err(Stop::Memory);
+        };
+        tape.write_truth("applied", is_kept);
+        tape.write_string(at, string.as_wtf8());
     }
     Ok(())
-}
-
-/// `apply`: writes what it returns.
-fn apply_call(
-    string: &mut Wtf8Buf<Global>,
-    call: Build<'_>,
-    tape: &mut Tape<'_>,
-) -> Result<(), Stop> {
-    let Ok(is_kept) = string.apply(call) else {
-        return Err(Stop::Memory);
-    };
-    writeln!(tape, "applied {is_kept}")
 }
 
 /// `apply_all` on a copy of a view with spare capacity, after which `grants` requests for memory are granted.
@@ -150,13 +150,13 @@ fn apply_list<A: Allocator + Drop>(
     tape: &mut Tape<'_>,
 ) -> Result<Wtf8Buf<Global>, Stop> {
     let mut string = string;
-    write_refusals(string.apply_all(calls), tape)?;
-    write_units(tape, string.as_wtf8())?;
+    write_refusals(string.apply_all(calls), tape);
+    write_units(tape, string.as_wtf8());
     with_view(Wtf8Buf::new(tape.alloc), string.as_wtf8())
 }
 
 /// Writes what `apply_all` returns.
-fn write_refusals(returned: Result<usize, Stopped>, tape: &mut Tape<'_>) -> Result<(), Stop> {
+fn write_refusals(returned: Result<usize, Stopped>, tape: &mut Tape<'_>) {
     match returned {
         Ok(refused) => writeln!(tape, "all, {refused} refused"),
         Err(Stopped { done }) => writeln!(tape, "stopped at {done}"),
@@ -164,10 +164,10 @@ fn write_refusals(returned: Result<usize, Stopped>, tape: &mut Tape<'_>) -> Resu
 }
 
 /// Writes a line with the units of a string.
-fn write_units(tape: &mut Tape<'_>, view: Wtf8<'_>) -> Result<(), Stop> {
-    tape.write_word("units")?;
+fn write_units(tape: &mut Tape<'_>, view: Wtf8<'_>) {
+    tape.write_word("units");
     for unit in view.to_ill_formed_utf16() {
-        unit.show(tape)?;
+        unit.show(tape);
     }
-    tape.write_line("")
+    tape.end_line();
 }

@@ -8,7 +8,7 @@ use crate::opcodes::{
 use crate::recorder::write_hash_input;
 use crate::stop::{Stop, done, indexed_made};
 use crate::tape::Tape;
-use crate::views::{write_all_units, write_slice};
+use crate::views::{write_all_units, write_made_text, write_slice, zeros_before_units};
 use std::alloc::Global;
 use std::mem;
 use unit_text::IndexedBuf;
@@ -16,22 +16,27 @@ use wtf8::{Wtf8, Wtf8Buf};
 
 impl Machine {
     /// Runs a call, whose operands come next in the script, and writes what it returns.
-    pub fn run_indexed(&mut self, call: IndexedCall, tape: &mut Tape<'_>) -> Result<(), Stop> {
+    pub fn run_indexed(&mut self, call: IndexedCall, tape: &mut Tape<'_>) {
         match call {
-            IndexedCall::Change(call) => {
-                self.change_indexed(call, tape)?;
-                tape.write_indexed(&self.indexed)
-            }
+            IndexedCall::Change(call) => self.write_indexed_change(call, tape),
             IndexedCall::Read(call) => self.write_indexed_results(call, tape),
             IndexedCall::IntoBuf => self.take_indexed(tape),
             IndexedCall::PushSlice => self.push_indexed_slice(tape),
         }
     }
 
+    /// Runs a call that changes the indexed string, and writes the string.
+    fn write_indexed_change(&mut self, call: ChangeIndexed, tape: &mut Tape<'_>) {
+        match self.change_indexed(call, tape) {
+            Ok(()) => tape.write_indexed(&self.indexed),
+            Err(stop) => tape.write_stop(stop),
+        }
+    }
+
     /// Runs a call that changes the indexed string.
     fn change_indexed(&mut self, call: ChangeIndexed, tape: &mut Tape<'_>) -> Result<(), Stop> {
         match call {
-            ChangeIndexed::Make(call) => self.indexed = self.make_indexed(call, tape)?,
+            ChangeIndexed::Make(call) => return self.replace_indexed(call, tape),
             ChangeIndexed::Append(call) => return append(&mut self.indexed, call, tape),
             ChangeIndexed::PushWtf8 => return self.push_to_indexed(tape),
             ChangeIndexed::PushUnitSlice => return self.push_slice_to_indexed(tape),
@@ -39,6 +44,12 @@ impl Machine {
             ChangeIndexed::Mark => self.indexed.mark_units(tape.alloc),
             ChangeIndexed::ShrinkToFit => self.indexed.shrink_to_fit(),
         }
+        Ok(())
+    }
+
+    /// Replaces the indexed string by the one that a call makes.
+    fn replace_indexed(&mut self, call: MakeIndexed, tape: &mut Tape<'_>) -> Result<(), Stop> {
+        self.indexed = self.make_indexed(call, tape)?;
         Ok(())
     }
 
@@ -52,85 +63,79 @@ impl Machine {
             MakeIndexed::New => Ok(IndexedBuf::new(tape.alloc)),
             MakeIndexed::WithCapacity => with_capacity(tape),
             MakeIndexed::FromUnits => from_units(tape),
-            MakeIndexed::FromBuf => self.indexed_string(tape),
+            MakeIndexed::FromBuf => Ok(IndexedBuf::from_buf(self.copy(tape))),
             MakeIndexed::Clone => indexed_made(self.indexed.clone()),
         }
     }
 
-    /// `from_buf` of a clone of a string.
-    fn indexed_string(&self, tape: &mut Tape<'_>) -> Result<IndexedBuf<Global>, Stop> {
-        Ok(IndexedBuf::from_buf(self.copy(tape)?))
-    }
-
     /// `push_wtf8` of a clone of a string.
     fn push_to_indexed(&mut self, tape: &mut Tape<'_>) -> Result<(), Stop> {
-        let piece = self.copy(tape)?;
+        let piece = self.copy(tape);
         done(self.indexed.push_wtf8(piece.as_wtf8()))
     }
 
     /// `push_unit_slice` of the `slice_units` of a clone of a string.
     fn push_slice_to_indexed(&mut self, tape: &mut Tape<'_>) -> Result<(), Stop> {
-        let whole = self.copy(tape)?;
-        let (begin, end) = tape.reader.range()?;
+        let whole = self.copy(tape);
+        let (begin, end) = tape.reader.range();
         append_slice(&mut self.indexed, whole.as_wtf8(), begin, end)
     }
 
     /// `into_buf`: the result becomes the string of a register.
-    fn take_indexed(&mut self, tape: &mut Tape<'_>) -> Result<(), Stop> {
-        let at = tape.reader.register()?;
+    fn take_indexed(&mut self, tape: &mut Tape<'_>) {
+        let at = tape.reader.register();
         let indexed = mem::replace(&mut self.indexed, IndexedBuf::new(tape.alloc));
         self.strings[at.index] = indexed.into_buf();
-        tape.write_string(at, self.view(at))
+        tape.write_string(at, self.view(at));
     }
 
     /// `slice_units`: writes the slice, appends it to the string of a register, and writes this string.
-    fn push_indexed_slice(&mut self, tape: &mut Tape<'_>) -> Result<(), Stop> {
-        let at = tape.reader.register()?;
+    fn push_indexed_slice(&mut self, tape: &mut Tape<'_>) {
+        let at = tape.reader.register();
         let mut string = mem::replace(&mut self.strings[at.index], Wtf8Buf::new(tape.alloc));
         let pushed = push_slice(&self.indexed, &mut string, tape);
         self.strings[at.index] = string;
-        pushed?;
-        tape.write_string(at, self.view(at))
+        match pushed {
+            Ok(()) => tape.write_string(at, self.view(at)),
+            Err(stop) => tape.write_stop(stop),
+        }
     }
 
     /// Runs a call that reads the indexed string, and writes what it returns.
-    fn write_indexed_results(&self, call: ReadIndexed, tape: &mut Tape<'_>) -> Result<(), Stop> {
+    fn write_indexed_results(&self, call: ReadIndexed, tape: &mut Tape<'_>) {
         let string = &self.indexed;
         match call {
-            ReadIndexed::UnitAt => {
-                let index = tape.reader.number()?;
-                tape.write_found("unit", string.unit_at(index))
-            }
+            ReadIndexed::UnitAt => write_unit(tape, string),
             ReadIndexed::CopyUnits => write_copied_units(tape, string),
             ReadIndexed::UnitsFrom => write_units_from(tape, string),
             ReadIndexed::PositionAt => write_position(tape, string),
-            ReadIndexed::UnitBefore => {
-                let position = tape.reader.number()?;
-                writeln!(tape, "units before {}", string.unit_before(position))
-            }
-            ReadIndexed::Comparisons => {
-                let other = self.indexed_string(tape)?;
-                write_comparisons(tape, "indexed", string, &other)
-            }
+            ReadIndexed::UnitBefore => write_unit_before(tape, string),
+            ReadIndexed::Comparisons => self.compare_indexed(tape),
             ReadIndexed::Hash => write_hash_input(tape, string),
             ReadIndexed::Debug => write_debug_text(tape, string),
         }
+    }
+
+    /// Compares the indexed string with a clone of a string.
+    fn compare_indexed(&self, tape: &mut Tape<'_>) {
+        let other = IndexedBuf::from_buf(self.copy(tape));
+        write_comparisons(tape, "indexed", &self.indexed, &other);
     }
 }
 
 /// `with_capacity`: writes whether the capacity is at least the requested one.
 fn with_capacity(tape: &mut Tape<'_>) -> Result<IndexedBuf<Global>, Stop> {
-    let capacity = tape.reader.number()?;
+    let capacity = tape.reader.number();
     let Ok(string) = IndexedBuf::with_capacity(tape.alloc, capacity) else {
         return Err(Stop::Memory);
     };
-    tape.write_room(string.capacity() - string.as_wtf8().len(), capacity)?;
+    tape.write_room(string.capacity() - string.as_wtf8().len(), capacity);
     Ok(string)
 }
 
 /// `from_units`.
 fn from_units(tape: &mut Tape<'_>) -> Result<IndexedBuf<Global>, Stop> {
-    let units = tape.reader.counted_units(tape.alloc)?;
+    let units = tape.reader.counted_units(tape.alloc);
     indexed_made(IndexedBuf::from_units(tape.alloc, units.as_slice()))
 }
 
@@ -143,25 +148,26 @@ fn append(
     match call {
         AppendIndexed::Reserve => reserve(string, tape),
         AppendIndexed::Push => done(string.push(tape.reader.point()?)),
-        AppendIndexed::PushUnit => done(string.push_unit(tape.reader.unit()?)),
+        AppendIndexed::PushUnit => done(string.push_unit(tape.reader.unit())),
         AppendIndexed::PushChar => done(string.push_char(tape.reader.character()?)),
-        AppendIndexed::PushStr => done(string.push_str(tape.reader.text()?)),
+        AppendIndexed::PushStr => done(string.push_str(tape.reader.text())),
         AppendIndexed::PushUnits => push_units(string, tape),
     }
 }
 
 /// `reserve`: writes whether the spare capacity is at least the requested one.
 fn reserve(string: &mut IndexedBuf<Global>, tape: &mut Tape<'_>) -> Result<(), Stop> {
-    let additional = tape.reader.number()?;
+    let additional = tape.reader.number();
     let Ok(()) = string.reserve(additional) else {
         return Err(Stop::Memory);
     };
-    tape.write_room(string.capacity() - string.as_wtf8().len(), additional)
+    tape.write_room(string.capacity() - string.as_wtf8().len(), additional);
+    Ok(())
 }
 
 /// `push_units`.
 fn push_units(string: &mut IndexedBuf<Global>, tape: &mut Tape<'_>) -> Result<(), Stop> {
-    let units = tape.reader.counted_units(tape.alloc)?;
+    let units = tape.reader.counted_units(tape.alloc);
     done(string.push_units(units.as_slice()))
 }
 
@@ -181,17 +187,30 @@ fn append_slice(
 /// `truncate`, `truncate_units` and `clear`: writes whether the capacity was unchanged.
 fn cut(string: &mut IndexedBuf<Global>, call: CutIndexed, tape: &mut Tape<'_>) -> Result<(), Stop> {
     let capacity = string.capacity();
+    shorten(string, call, tape)?;
+    tape.write_kept(string.capacity() == capacity);
+    Ok(())
+}
+
+/// `truncate`, `truncate_units` and `clear`.
+fn shorten(
+    string: &mut IndexedBuf<Global>,
+    call: CutIndexed,
+    tape: &mut Tape<'_>,
+) -> Result<(), Stop> {
     match call {
-        CutIndexed::Truncate => truncate(string, tape)?,
-        CutIndexed::TruncateUnits => truncate_units(string, tape)?,
-        CutIndexed::Clear => string.clear(),
+        CutIndexed::Truncate => truncate(string, tape),
+        CutIndexed::TruncateUnits => truncate_units(string, tape),
+        CutIndexed::Clear => {
+            string.clear();
+            Ok(())
+        }
     }
-    tape.write_kept(string.capacity() == capacity)
 }
 
 /// `truncate`.
 fn truncate(string: &mut IndexedBuf<Global>, tape: &mut Tape<'_>) -> Result<(), Stop> {
-    let position = tape.reader.number()?;
+    let position = tape.reader.number();
     if !string.as_wtf8().is_code_point_boundary(position) {
         return Err(Stop::Refused);
     }
@@ -201,7 +220,7 @@ fn truncate(string: &mut IndexedBuf<Global>, tape: &mut Tape<'_>) -> Result<(), 
 
 /// `truncate_units`.
 fn truncate_units(string: &mut IndexedBuf<Global>, tape: &mut Tape<'_>) -> Result<(), Stop> {
-    let count = tape.reader.number()?;
+    let count = tape.reader.number();
     if string.unit_len() < count {
         return Err(Stop::Refused);
     }
@@ -215,61 +234,72 @@ fn push_slice(
     string: &mut Wtf8Buf<Global>,
     tape: &mut Tape<'_>,
 ) -> Result<(), Stop> {
-    let (begin, end) = tape.reader.range()?;
+    let (begin, end) = tape.reader.range();
     if end < begin || indexed.unit_len() < end {
         return Err(Stop::Refused);
     }
     let slice = indexed.slice_units(begin, end);
-    write_slice(tape, slice)?;
+    write_slice(tape, slice);
     done(string.push_unit_slice(slice))
 }
 
+/// `unit_at`: writes the unit.
+fn write_unit(tape: &mut Tape<'_>, string: &IndexedBuf<Global>) {
+    let index = tape.reader.number();
+    tape.write_found("unit", string.unit_at(index));
+}
+
 /// `copy_units` to zeros, one for each unit, with units of the script after them: writes all units of the slice.
-fn write_copied_units(tape: &mut Tape<'_>, string: &IndexedBuf<Global>) -> Result<(), Stop> {
-    let (begin, end) = tape.reader.range()?;
-    let after = tape.reader.counted_units(tape.alloc)?;
-    if end < begin || string.unit_len() < end {
-        return Err(Stop::Refused);
+fn write_copied_units(tape: &mut Tape<'_>, string: &IndexedBuf<Global>) {
+    let (begin, end) = tape.reader.range();
+    match zeros_before_units(tape, end.saturating_sub(begin)) {
+        Ok(mut units) => write_units_over(tape, string, (begin, end), &mut units),
+        Err(stop) => tape.write_stop(stop),
     }
-    let mut units = Vec::new(tape.alloc);
-    let Ok(()) = units.resize(end - begin, 0) else {
-        return Err(Stop::Memory);
-    };
-    let Ok(()) = units.extend_from_slice(after.as_slice()) else {
-        return Err(Stop::Memory);
-    };
-    if units.len() < end - begin {
-        return Err(Stop::Refused);
+}
+
+/// `copy_units` to a slice: writes all units of the slice.
+fn write_units_over(
+    tape: &mut Tape<'_>,
+    string: &IndexedBuf<Global>,
+    (begin, end): (usize, usize),
+    units: &mut [u16],
+) {
+    if end < begin || string.unit_len() < end || units.len() < end - begin {
+        return tape.write_stop(Stop::Refused);
     }
-    string.copy_units(begin, end, &mut units);
-    tape.write_word("copied")?;
-    write_all_units(tape, units.as_slice())
+    string.copy_units(begin, end, units);
+    tape.write_word("copied");
+    write_all_units(tape, units);
 }
 
 /// `units_from`: writes the steps of the iterator.
-fn write_units_from(tape: &mut Tape<'_>, string: &IndexedBuf<Global>) -> Result<(), Stop> {
-    let index = tape.reader.number()?;
+fn write_units_from(tape: &mut Tape<'_>, string: &IndexedBuf<Global>) {
+    let index = tape.reader.number();
     if string.unit_len() < index {
-        let _ = tape.reader.bytes()?;
-        return Err(Stop::Refused);
+        tape.reader.bytes();
+        return tape.write_stop(Stop::Refused);
     }
-    tape.write_word("units from")?;
-    write_steps(tape, string.units_from(index))
+    tape.write_word("units from");
+    write_steps(tape, string.units_from(index));
 }
 
 /// `position_at`: writes the position.
-fn write_position(tape: &mut Tape<'_>, string: &IndexedBuf<Global>) -> Result<(), Stop> {
-    let index = tape.reader.number()?;
+fn write_position(tape: &mut Tape<'_>, string: &IndexedBuf<Global>) {
+    let index = tape.reader.number();
     if string.unit_len() < index {
-        return Err(Stop::Refused);
+        return tape.write_stop(Stop::Refused);
     }
-    writeln!(tape, "position {}", string.position_at(index))
+    tape.write_found("position", Some(string.position_at(index)));
+}
+
+/// `unit_before`: writes the number of units.
+fn write_unit_before(tape: &mut Tape<'_>, string: &IndexedBuf<Global>) {
+    let position = tape.reader.number();
+    tape.write_found("units before", Some(string.unit_before(position)));
 }
 
 /// Writes the bytes of the debug text.
-fn write_debug_text(tape: &mut Tape<'_>, string: &IndexedBuf<Global>) -> Result<(), Stop> {
-    let Ok(text) = format!(in tape.alloc; "{string:?}") else {
-        return Err(Stop::Memory);
-    };
-    tape.write_text("indexed", text.as_str())
+fn write_debug_text(tape: &mut Tape<'_>, string: &IndexedBuf<Global>) {
+    write_made_text(tape, "indexed", format!(in tape.alloc; "{string:?}").ok());
 }

@@ -1,5 +1,5 @@
 // Runs a script.
-use crate::opcodes::{Call, Change, StringCall};
+use crate::opcodes::{Call, Change, Make, StringCall};
 use crate::reader::{Reader, Register, STRINGS};
 use crate::stop::Stop;
 use crate::tape::Tape;
@@ -26,10 +26,13 @@ fn transcript_of(alloc: Global, script: &[u8]) -> Result<String, Stop> {
     let mut tape = Tape::new(alloc, script);
     let mut machine = Machine::new(alloc);
     for _ in 0..script.len() {
-        let Ok(opcode) = tape.reader.byte() else {
+        let Some(opcode) = tape.reader.opcode() else {
             break;
         };
-        machine.step(opcode, &mut tape)?;
+        machine.run(opcode, &mut tape);
+        if let Some(stop) = tape.reader.fault {
+            return Err(stop);
+        }
     }
     Ok(tape.transcript)
 }
@@ -52,39 +55,24 @@ impl Machine {
         }
     }
 
-    /// Runs the call of an opcode, or writes why the call does not accept its operands.
-    fn step(&mut self, opcode: u8, tape: &mut Tape<'_>) -> Result<(), Stop> {
-        match self.run(opcode, tape) {
-            Err(Stop::Refused) => tape.write_line("refused"),
-            Err(Stop::NoCodePoint) => tape.write_line("no code point"),
-            Err(Stop::NoCharacter) => tape.write_line("no character"),
-            result => result,
-        }
-    }
-
-    /// Runs the call of an opcode, whose operands come next in the script, and writes what it returns.
-    fn run(&mut self, opcode: u8, tape: &mut Tape<'_>) -> Result<(), Stop> {
+    /// Runs the call of an opcode, whose operands come next in the script, and writes what it returns, or why it does
+    /// not accept its operands.
+    fn run(&mut self, opcode: u8, tape: &mut Tape<'_>) {
         match Call::from_opcode(opcode) {
             Some(Call::Operands(call)) => write_operand_results(call, tape),
             Some(Call::String(call)) => self.run_at(call, tape),
             Some(Call::Text(call)) => self.texts.run(call, tape),
             Some(Call::Indexed(call)) => self.run_indexed(call, tape),
-            Some(Call::Silence) => {
-                tape.is_silent = true;
-                Ok(())
-            }
-            None => Err(Stop::Malformed),
+            Some(Call::Silence) => tape.is_silent = true,
+            None => tape.write_stop(Stop::Malformed),
         }
     }
 
     /// Runs a call on one of the strings.
-    fn run_at(&mut self, call: StringCall, tape: &mut Tape<'_>) -> Result<(), Stop> {
-        let at = tape.reader.register()?;
+    fn run_at(&mut self, call: StringCall, tape: &mut Tape<'_>) {
+        let at = tape.reader.register();
         match call {
-            StringCall::Change(call) => {
-                self.change(call, at, tape)?;
-                tape.write_string(at, self.view(at))
-            }
+            StringCall::Change(call) => self.write_change(call, at, tape),
             StringCall::Read(call) => self.write_results(call, at, tape),
             StringCall::ReadSlice => self.write_slice_results(at, tape),
             StringCall::CompareSlices => self.compare_slices(at, tape),
@@ -92,15 +80,29 @@ impl Machine {
         }
     }
 
+    /// Runs a call that changes one of the strings, and writes the string.
+    fn write_change(&mut self, call: Change, at: Register, tape: &mut Tape<'_>) {
+        match self.change(call, at, tape) {
+            Ok(()) => tape.write_string(at, self.view(at)),
+            Err(stop) => tape.write_stop(stop),
+        }
+    }
+
     /// Runs a call that changes one of the strings.
     fn change(&mut self, call: Change, at: Register, tape: &mut Tape<'_>) -> Result<(), Stop> {
         match call {
-            Change::Make(call) => self.strings[at.index] = self.make(call, at, tape)?,
+            Change::Make(call) => return self.replace(call, at, tape),
             Change::Append(call) => return self.append(call, at, tape),
             Change::Cut(call) => return self.cut(call, at, tape),
-            Change::Convert(call) => return self.convert(call, at, tape),
+            Change::Convert(call) => self.convert(call, at, tape),
             Change::ShrinkToFit => self.strings[at.index].shrink_to_fit(),
         }
+        Ok(())
+    }
+
+    /// Replaces one of the strings by the one that a call makes.
+    fn replace(&mut self, call: Make, at: Register, tape: &mut Tape<'_>) -> Result<(), Stop> {
+        self.strings[at.index] = self.make(call, at, tape)?;
         Ok(())
     }
 
@@ -114,16 +116,16 @@ impl Machine {
         self.string(at).as_wtf8()
     }
 
-    /// Reads a start and an end, and returns that slice of a string. `Refused` unless they are boundaries in order.
-    pub fn read_slice(&self, at: Register, reader: &mut Reader<'_>) -> Result<Wtf8<'_>, Stop> {
+    /// Reads a start and an end, and returns that slice of a string. `None` unless they are boundaries in order.
+    pub fn read_slice(&self, at: Register, reader: &mut Reader<'_>) -> Option<Wtf8<'_>> {
         let whole = self.view(at);
-        let (begin, end) = reader.range()?;
+        let (begin, end) = reader.range();
         let is_slice = begin <= end
             && whole.is_code_point_boundary(begin)
             && whole.is_code_point_boundary(end);
         if !is_slice {
-            return Err(Stop::Refused);
+            return None;
         }
-        Ok(whole.slice(begin, end))
+        Some(whole.slice(begin, end))
     }
 }

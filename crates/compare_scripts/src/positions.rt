@@ -9,7 +9,7 @@ use wtf8_uses::line_columns::{LineColumns, line_column_at, lines_of, mark_at_col
 
 /// `truncate_units`.
 pub fn truncate(text: &mut UnitText<Global>, tape: &mut Tape<'_>) -> Result<(), Stop> {
-    let n = tape.reader.number()?;
+    let n = tape.reader.number();
     if text.unit_len() < n {
         return Err(Stop::Refused);
     }
@@ -18,74 +18,83 @@ pub fn truncate(text: &mut UnitText<Global>, tape: &mut Tape<'_>) -> Result<(), 
 }
 
 /// `position_at`: writes the position.
-pub fn write_position(tape: &mut Tape<'_>, text: &UnitText<Global>) -> Result<(), Stop> {
-    let index = tape.reader.number()?;
+pub fn write_position(tape: &mut Tape<'_>, text: &UnitText<Global>) {
+    let index = tape.reader.number();
     if text.unit_len() < index {
-        return Err(Stop::Refused);
+        return tape.write_stop(Stop::Refused);
     }
-    let position = text.position_at(index);
-    writeln!(tape, "position {position}")
+    tape.write_found("position", Some(text.position_at(index)));
 }
 
 /// `unit_before`: writes the number of units.
-pub fn write_unit_before(tape: &mut Tape<'_>, text: &UnitText<Global>) -> Result<(), Stop> {
-    let position = tape.reader.number()?;
-    let units = text.unit_before(position);
-    writeln!(tape, "units before {units}")
+pub fn write_unit_before(tape: &mut Tape<'_>, text: &UnitText<Global>) {
+    let position = tape.reader.number();
+    tape.write_found("units before", Some(text.unit_before(position)));
 }
 
 /// `units_from`: writes the units.
-pub fn write_units_from(tape: &mut Tape<'_>, text: &UnitText<Global>) -> Result<(), Stop> {
-    let index = tape.reader.number()?;
+pub fn write_units_from(tape: &mut Tape<'_>, text: &UnitText<Global>) {
+    let index = tape.reader.number();
     if text.unit_len() < index {
-        return Err(Stop::Refused);
+        return tape.write_stop(Stop::Refused);
     }
-    tape.write_word("units from")?;
+    tape.write_word("units from");
     for unit in text.units_from(index) {
-        unit.show(tape)?;
+        unit.show(tape);
     }
-    tape.write_line("")
+    tape.end_line();
 }
 
 /// Writes the mark at the start of each line, then the line and the column of each position.
-pub fn write_lines(tape: &mut Tape<'_>, text: Wtf8<'_>) -> Result<(), Stop> {
-    let Ok(lines) = lines_of(tape.alloc, text) else {
-        return Err(Stop::Memory);
-    };
-    write_starts(tape, lines.starts.as_slice())?;
-    write_columns(tape, &lines)
+pub fn write_lines(tape: &mut Tape<'_>, text: Wtf8<'_>) {
+    match lines_of(tape.alloc, text) {
+        Ok(lines) => write_starts_and_columns(tape, &lines),
+        Err(_) => tape.write_stop(Stop::Memory),
+    }
+}
+
+/// Writes the mark at the start of each line, then the line and the column of each position.
+fn write_starts_and_columns(tape: &mut Tape<'_>, lines: &LineColumns<'_, Global>) {
+    write_starts(tape, lines.starts.as_slice());
+    write_columns(tape, lines);
 }
 
 /// Writes the mark at the start of each line.
-fn write_starts(tape: &mut Tape<'_>, starts: &[UnitMark]) -> Result<(), Stop> {
-    tape.write_word("lines")?;
+fn write_starts(tape: &mut Tape<'_>, starts: &[UnitMark]) {
+    tape.write_word("lines");
     for start in starts {
-        write_mark(tape, *start)?;
+        write_mark(tape, *start);
     }
-    tape.write_line("")
+    tape.end_line();
 }
 
 /// Writes the line and the column of each position.
-fn write_columns(tape: &mut Tape<'_>, lines: &LineColumns<'_, Global>) -> Result<(), Stop> {
-    tape.write_word("columns")?;
+fn write_columns(tape: &mut Tape<'_>, lines: &LineColumns<'_, Global>) {
+    tape.write_word("columns");
     for position in 0..=lines.text.len() {
         let found = line_column_at(lines, position);
-        write!(tape, " {}:{}", found.line, found.column)?;
+        write!(tape, " {}:{}", found.line, found.column);
     }
-    tape.write_line("")
+    tape.end_line();
 }
 
 /// `mark_at_column`: writes the mark, or that there is none.
-pub fn write_mark_at_column(tape: &mut Tape<'_>, text: Wtf8<'_>) -> Result<(), Stop> {
-    let line = tape.reader.number()?;
-    let column = tape.reader.number()?;
-    let Ok(lines) = lines_of(tape.alloc, text) else {
-        return Err(Stop::Memory);
-    };
-    tape.write_word("mark")?;
-    match mark_at_column(&lines, line, column) {
-        Some(mark) => write_mark(tape, mark)?,
-        None => write!(tape, " {NONE}")?,
+pub fn write_mark_at_column(tape: &mut Tape<'_>, text: Wtf8<'_>) {
+    let (line, column) = tape.reader.range();
+    match lines_of(tape.alloc, text) {
+        Ok(lines) => write_found_mark(tape, mark_at_column(&lines, line, column)),
+        Err(_) => tape.write_stop(Stop::Memory),
     }
-    tape.write_line("")
+}
+
+/// Writes a line of a mark, or that there is none.
+fn write_found_mark(tape: &mut Tape<'_>, mark: Option<UnitMark>) {
+    match mark {
+        Some(mark) => {
+            tape.write_word("mark");
+            write_mark(tape, mark);
+            tape.end_line();
+        }
+        None => tape.write_between("mark ", NONE, "\n"),
+    }
 }

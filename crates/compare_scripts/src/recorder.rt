@@ -1,7 +1,6 @@
 // Records the bytes that a value feeds a hasher.
 ghost use Rattle.std.specs.Prelude.{◌-◌, nat_lt, length, slice_index, Some, is_some, if◌then◌else◌};
 
-use crate::stop::Stop;
 use crate::tape::Tape;
 use std::hash::{Hash, Hasher};
 
@@ -31,15 +30,15 @@ impl Hasher for ByteAt {
 }
 
 /// Writes the bytes that a value feeds a hasher. Hashes the value once for each byte.
-pub fn write_hash_input<T: Hash>(tape: &mut Tape<'_>, value: &T) -> Result<(), Stop> {
-    tape.write_word("fed")?;
+pub fn write_hash_input<T: Hash>(tape: &mut Tape<'_>, value: &T) {
+    tape.write_word("fed");
     for index in 0..usize::MAX {
         let Some(byte) = byte_fed(value, index) else {
             break;
         };
-        write!(tape, " {byte:02X}")?;
+        write!(tape, " {byte:02X}");
     }
-    tape.write_line("")
+    tape.end_line();
 }
 
 /// The byte at an index of what a value feeds a hasher, or `None` past its end.

@@ -55,11 +55,3 @@ pub fn indexed_made(
         Err(_) => Err(Stop::Memory),
     }
 }
-
-/// `Vec::push` with the error of this crate.
-pub fn push<T: Copy>(items: &mut Vec<T>, item: T) -> Result<(), Stop> {
-    match items.push(item) {
-        Ok(()) => Ok(()),
-        Err(_) => Err(Stop::Memory),
-    }
-}

@@ -1,24 +1,19 @@
 // Each call of a text on one example. Scripts compare the calls with a JavaScript engine's strings on many texts.
-use crate::shared::{has_bytes, has_text, slice_of};
-use std::alloc::{AllocError, Global};
+use crate::shared::{has_bytes, has_text, slice_of, text_of};
+use std::alloc::Global;
 use std::cmp::Ordering;
 use std::collections::HashMap;
 use unit_text::UnitText;
-use wtf8::Wtf8Buf;
 
 /// The units and bytes of "a", a surrogate pair, "é" and a lone lead surrogate.
-const UNITS: [u16; 5] = [0x0061, 0xD83D, 0xDCA9, 0x00E9, 0xD800];
+static UNITS: [u16; 5] = [0x0061, 0xD83D, 0xDCA9, 0x00E9, 0xD800];
 
 const DUMP: &str = "61 F0 9F 92 A9 C3 A9 ED A0 80";
 
 /// Whether the trail of the pair, then "é" and the lone lead can be appended.
 fn is_rest_appended(alloc: Global, text: &mut UnitText<Global>) -> bool {
-    let Ok(trail) = Wtf8Buf::from_ill_formed_utf16(alloc, &[0xDCA9]) else {
-        return false;
-    };
-    let Ok(lead) = UnitText::from_units(alloc, &[0xD800]) else {
-        return false;
-    };
+    let trail = text_of(alloc, &[0xDCA9]);
+    let lead = text_of(alloc, &[0xD800]);
     text.push_wtf8(trail.as_wtf8()).is_ok()
         && text.push_str("é").is_ok()
         && text.concat(&lead).is_ok()
@@ -68,10 +63,7 @@ fn has_slices(alloc: Global, text: &UnitText<Global>) -> bool {
 
 /// Whether a text can be made of `UNITS`, and has its slices.
 fn is_sliced(alloc: Global) -> bool {
-    match UnitText::from_units(alloc, &UNITS) {
-        Ok(text) => has_slices(alloc, &text),
-        Err(_) => false,
-    }
+    has_slices(alloc, &text_of(alloc, &UNITS))
 }
 
 #[test]
@@ -89,28 +81,35 @@ fn is_ordered(private: &UnitText<Global>, pair: &UnitText<Global>) -> bool {
 }
 
 /// Whether `is_ordered` holds of the two texts.
-fn are_ordered(alloc: Global) -> Result<bool, AllocError> {
-    let private = UnitText::from_str(alloc, "\u{E000}")?;
-    let pair = UnitText::from_str(alloc, "\u{10000}")?;
-    Ok(is_ordered(&private, &pair))
+fn are_ordered(alloc: Global) -> bool {
+    let private = UnitText::from_str(alloc, "\u{E000}");
+    let pair = UnitText::from_str(alloc, "\u{10000}");
+    match (private, pair) {
+        (Ok(private), Ok(pair)) => is_ordered(&private, &pair),
+        _ => false,
+    }
 }
 
 #[test]
 fn the_order_of_units_is_not_that_of_code_points(rt: HostRuntime) {
-    assert!(rt; matches!(are_ordered(rt.alloc()), Ok(true)));
+    assert!(rt; are_ordered(rt.alloc()));
 }
 
-/// Whether a map with `UNITS` alone has the text of `units`.
-fn is_key(alloc: Global, units: &[u16]) -> Result<bool, AllocError> {
+/// Whether the map has 1 for the text.
+fn is_key(map: &HashMap<UnitText<Global>, i32>, key: &UnitText<Global>) -> bool {
+    map.get(key).copied() == Some(1)
+}
+
+/// Whether a map with the text of `UNITS` alone has it, and not the text of "a".
+fn is_only_key(alloc: Global) -> bool {
     let mut map = HashMap::new(alloc);
-    map.insert(UnitText::from_units(alloc, &UNITS)?, 1)?;
-    let key = UnitText::from_units(alloc, units)?;
-    Ok(map.get(&key).copied() == Some(1))
+    let is_inserted = map.insert(text_of(alloc, &UNITS), 1).is_ok();
+    is_inserted
+        && is_key(&map, &text_of(alloc, &UNITS))
+        && !is_key(&map, &text_of(alloc, &[0x0061]))
 }
 
 #[test]
 fn a_map_has_a_text_by_its_units(rt: HostRuntime) {
-    let alloc = rt.alloc();
-    let has_units = matches!(is_key(alloc, &UNITS), Ok(true));
-    assert!(rt; has_units && matches!(is_key(alloc, &[0x0061]), Ok(false)));
+    assert!(rt; is_only_key(rt.alloc()));
 }

@@ -1,6 +1,7 @@
 // Buffers that find their code units: short ones by tables, and long ones with marks and without.
 use crate::shared::{
-    Push, buf_has_units, has_buf, has_bytes, has_text, has_units_left, push_each, push_to,
+    Push, buf_has_units, buf_of, has_buf, has_bytes, has_text, has_units_left, push_each, push_to,
+    with_room,
 };
 use std::alloc::{AllocError, Allocator, Global};
 use std::cmp::Ordering;
@@ -10,13 +11,6 @@ use wtf8::{Wtf8, Wtf8Buf};
 
 /// What a unit of an output is before a call writes to it.
 const UNWRITTEN: u16 = 0x1234;
-
-/// A list of `count` units that no call has written.
-fn unwritten(alloc: Global, count: usize) -> Result<Vec<u16>, AllocError> {
-    let mut out = Vec::new(alloc);
-    out.resize(count, UNWRITTEN)?;
-    Ok(out)
-}
 
 /// Whether no call has written to these units.
 fn are_unwritten(units: &[u16]) -> bool {
@@ -57,10 +51,9 @@ fn is_copied<A: Allocator>(
     begin: usize,
     end: usize,
 ) -> bool {
-    match unwritten(alloc, units.len().saturating_add(1)) {
-        Ok(mut out) => is_copied_to(buf, units, begin, end, &mut out),
-        Err(_) => false,
-    }
+    let mut out = Vec::new(alloc);
+    let is_made = out.resize(units.len().saturating_add(1), UNWRITTEN).is_ok();
+    is_made && is_copied_to(buf, units, begin, end, &mut out)
 }
 
 /// Whether `slice_units` has the units from index `begin` to before index `end`.
@@ -111,59 +104,79 @@ fn has_all<A: Allocator>(alloc: Global, buf: &IndexedBuf<A>, units: &[u16], dump
 }
 
 /// Units and their bytes: of each length, in pairs, and lone.
-fn texts() -> [(&'static [u16], &'static str); 11] {
-    [
-        (&[], ""),
-        (&[0x0061, 0x0000, 0x007F], "61 00 7F"),
-        (&[0x0080, 0x00E9, 0x07FF], "C2 80 C3 A9 DF BF"),
-        (&[0x0800, 0x3042, 0xFFFF], "E0 A0 80 E3 81 82 EF BF BF"),
-        (&[0xD83D, 0xDCA9], "F0 9F 92 A9"),
-        (&[0xD83D], "ED A0 BD"),
-        (&[0xDCA9], "ED B2 A9"),
-        (&[0xDCA9, 0xD83D], "ED B2 A9 ED A0 BD"),
-        (&[0xD83D, 0xD83D, 0xDCA9], "ED A0 BD F0 9F 92 A9"),
-        (
-            &[0xD83D, 0xDCA9, 0xD800, 0xDC00, 0xDBFF, 0xDFFF],
-            "F0 9F 92 A9 F0 90 80 80 F4 8F BF BF",
-        ),
-        (
-            &[0x0061, 0xD83D, 0xDCA9, 0x00E9, 0xD800],
-            "61 F0 9F 92 A9 C3 A9 ED A0 80",
-        ),
-    ]
-}
+static TEXTS: [(&[u16], &str); 11] = [
+    (&[], ""),
+    (&[0x0061, 0x0000, 0x007F], "61 00 7F"),
+    (&[0x0080, 0x00E9, 0x07FF], "C2 80 C3 A9 DF BF"),
+    (&[0x0800, 0x3042, 0xFFFF], "E0 A0 80 E3 81 82 EF BF BF"),
+    (&[0xD83D, 0xDCA9], "F0 9F 92 A9"),
+    (&[0xD83D], "ED A0 BD"),
+    (&[0xDCA9], "ED B2 A9"),
+    (&[0xDCA9, 0xD83D], "ED B2 A9 ED A0 BD"),
+    (&[0xD83D, 0xD83D, 0xDCA9], "ED A0 BD F0 9F 92 A9"),
+    (
+        &[0xD83D, 0xDCA9, 0xD800, 0xDC00, 0xDBFF, 0xDFFF],
+        "F0 9F 92 A9 F0 90 80 80 F4 8F BF BF",
+    ),
+    (
+        &[0x0061, 0xD83D, 0xDCA9, 0x00E9, 0xD800],
+        "61 F0 9F 92 A9 C3 A9 ED A0 80",
+    ),
+];
 
 /// The buffer of the units, pushed one by one to an empty one.
-fn pushed_each(alloc: Global, units: &[u16]) -> Result<IndexedBuf<Global>, AllocError> {
+fn pushed_each(alloc: Global, units: &[u16]) -> IndexedBuf<Global> {
     let mut buf = IndexedBuf::new(alloc);
-    push_each(&mut buf, units)?;
-    Ok(buf)
+    push_each(&mut buf, units);
+    buf
 }
 
-/// The buffer of the units, pushed at once to one with room for 40 bytes and with marks kept.
-fn pushed_at_once(alloc: Global, units: &[u16]) -> Result<IndexedBuf<Global>, AllocError> {
-    let mut buf = IndexedBuf::with_capacity(alloc, 40)?;
+/// The buffer of the units, pushed at once to one with room for 40 bytes and with marks kept; an empty one if memory is
+/// refused.
+fn pushed_at_once(alloc: Global, units: &[u16]) -> IndexedBuf<Global> {
+    let mut buf = with_room(alloc, 40);
     buf.mark_units(alloc);
-    buf.push_units(units)?;
-    Ok(buf)
+    let _ = buf.push_units(units);
+    buf
 }
 
-/// The buffer that takes over the string of the units.
-fn taken_over(alloc: Global, units: &[u16]) -> Result<IndexedBuf<Global>, AllocError> {
-    let text = Wtf8Buf::from_ill_formed_utf16(alloc, units)?;
-    Ok(IndexedBuf::from_buf(text))
+/// The buffer that takes over the string of the units, or an empty one if memory is refused.
+fn taken_over(alloc: Global, units: &[u16]) -> IndexedBuf<Global> {
+    match Wtf8Buf::from_ill_formed_utf16(alloc, units) {
+        Ok(text) => IndexedBuf::from_buf(text),
+        Err(_) => IndexedBuf::new(alloc),
+    }
 }
 
-/// Whether the buffer was made, has room for `capacity` bytes, and has the units and the bytes.
+/// The buffer of the units, with marks kept or without.
+fn marked(alloc: Global, units: &[u16], is_marked: bool) -> IndexedBuf<Global> {
+    let mut buf = buf_of(alloc, units);
+    if is_marked {
+        buf.mark_units(alloc);
+    }
+    buf
+}
+
+/// Whether the buffer has room for `capacity` bytes, and has the units and the bytes.
 fn is_all(
     alloc: Global,
-    made: Result<IndexedBuf<Global>, AllocError>,
+    buf: IndexedBuf<Global>,
     capacity: usize,
     units: &[u16],
     dump: &str,
 ) -> bool {
-    match made {
-        Ok(buf) => buf.capacity() >= capacity && has_all(alloc, &buf, units, dump),
+    buf.capacity() >= capacity && has_all(alloc, &buf, units, dump)
+}
+
+/// Whether a copy of the buffer was made, and has the units and the bytes.
+fn is_copy(
+    alloc: Global,
+    copy: Result<IndexedBuf<Global>, AllocError>,
+    units: &[u16],
+    dump: &str,
+) -> bool {
+    match copy {
+        Ok(buf) => has_all(alloc, &buf, units, dump),
         Err(_) => false,
     }
 }
@@ -172,9 +185,7 @@ fn is_all(
 fn has_all_marked(alloc: Global, buf: &mut IndexedBuf<Global>, units: &[u16], dump: &str) -> bool {
     let has_all_unmarked = has_all(alloc, buf, units, dump);
     buf.mark_units(alloc);
-    has_all_unmarked
-        && has_all(alloc, buf, units, dump)
-        && is_all(alloc, buf.clone(), 0, units, dump)
+    has_all_unmarked && has_all(alloc, buf, units, dump) && is_copy(alloc, buf.clone(), units, dump)
 }
 
 /// Whether the string of the buffer has the bytes.
@@ -184,9 +195,7 @@ fn has_string(alloc: Global, buf: IndexedBuf<Global>, dump: &str) -> bool {
 
 /// Whether the buffer of the units has these and the bytes, without marks and with them, and its string the bytes.
 fn is_made(alloc: Global, units: &[u16], dump: &str) -> bool {
-    let Ok(mut buf) = IndexedBuf::from_units(alloc, units) else {
-        return false;
-    };
+    let mut buf = buf_of(alloc, units);
     let is_right = has_all_marked(alloc, &mut buf, units, dump);
     has_string(alloc, buf, dump) && is_right
 }
@@ -201,7 +210,7 @@ fn is_made_each_way(alloc: Global, units: &[u16], dump: &str) -> bool {
 
 /// Whether buffers of each of these lists of units have the units and the bytes.
 fn are_made(alloc: Global) -> bool {
-    for (units, dump) in texts() {
+    for (units, dump) in &TEXTS {
         if !is_made_each_way(alloc, units, dump) {
             return false;
         }
@@ -226,139 +235,132 @@ struct Row {
 /// Code points, units and characters that are pushed, then strings and lists of units, and then slices: with the trail
 /// of a pair in front, which the lead at the end of a string meets or not, with a lead at the end, with both, and
 /// without any unit.
-fn pushes() -> [Row; 19] {
-    [
-        Row {
-            front: &[0x0061],
-            push: Push::Point(0xE9),
-            units: &[0x0061, 0x00E9],
-            dump: "61 C3 A9",
-        },
-        Row {
-            front: &[0xD83D],
-            push: Push::Point(0xDCA9),
-            units: &[0xD83D, 0xDCA9],
-            dump: "F0 9F 92 A9",
-        },
-        Row {
-            front: &[],
-            push: Push::Point(0x10_FFFF),
-            units: &[0xDBFF, 0xDFFF],
-            dump: "F4 8F BF BF",
-        },
-        Row {
-            front: &[0xD83D],
-            push: Push::Unit(0xDCA9),
-            units: &[0xD83D, 0xDCA9],
-            dump: "F0 9F 92 A9",
-        },
-        Row {
-            front: &[0xDCA9],
-            push: Push::Unit(0xD83D),
-            units: &[0xDCA9, 0xD83D],
-            dump: "ED B2 A9 ED A0 BD",
-        },
-        Row {
-            front: &[0x0061],
-            push: Push::Char('あ'),
-            units: &[0x0061, 0x3042],
-            dump: "61 E3 81 82",
-        },
-        Row {
-            front: &[0xD83D],
-            push: Push::Char('💩'),
-            units: &[0xD83D, 0xD83D, 0xDCA9],
-            dump: "ED A0 BD F0 9F 92 A9",
-        },
-        Row {
-            front: &[0x0061],
-            push: Push::Str(""),
-            units: &[0x0061],
-            dump: "61",
-        },
-        Row {
-            front: &[0xD83D],
-            push: Push::Str("aé💩"),
-            units: &[0xD83D, 0x0061, 0x00E9, 0xD83D, 0xDCA9],
-            dump: "ED A0 BD 61 C3 A9 F0 9F 92 A9",
-        },
-        Row {
-            front: &[0xD83D],
-            push: Push::Units(&[]),
-            units: &[0xD83D],
-            dump: "ED A0 BD",
-        },
-        Row {
-            front: &[0x0061, 0xD83D],
-            push: Push::Units(&[0xDCA9, 0xDCA9]),
-            units: &[0x0061, 0xD83D, 0xDCA9, 0xDCA9],
-            dump: "61 F0 9F 92 A9 ED B2 A9",
-        },
-        Row {
-            front: &[0xD83D],
-            push: Push::View(&[]),
-            units: &[0xD83D],
-            dump: "ED A0 BD",
-        },
-        Row {
-            front: &[0x0061, 0xD83D],
-            push: Push::View(&[0xDCA9, 0x00E9]),
-            units: &[0x0061, 0xD83D, 0xDCA9, 0x00E9],
-            dump: "61 F0 9F 92 A9 C3 A9",
-        },
-        Row {
-            front: &[0x0061],
-            push: Push::View(&[0xDCA9, 0xD83D]),
-            units: &[0x0061, 0xDCA9, 0xD83D],
-            dump: "61 ED B2 A9 ED A0 BD",
-        },
-        Row {
-            front: &[0x0061, 0xD83D],
-            push: Push::Slice(&[0xD83D, 0xDCA9, 0x00E9], 1, 3),
-            units: &[0x0061, 0xD83D, 0xDCA9, 0x00E9],
-            dump: "61 F0 9F 92 A9 C3 A9",
-        },
-        Row {
-            front: &[0x0061],
-            push: Push::Slice(&[0xD83D, 0xDCA9, 0x00E9], 1, 3),
-            units: &[0x0061, 0xDCA9, 0x00E9],
-            dump: "61 ED B2 A9 C3 A9",
-        },
-        Row {
-            front: &[0x0061],
-            push: Push::Slice(&[0x00E9, 0xD83D, 0xDCA9], 0, 2),
-            units: &[0x0061, 0x00E9, 0xD83D],
-            dump: "61 C3 A9 ED A0 BD",
-        },
-        Row {
-            front: &[0xD83D],
-            push: Push::Slice(&[0xD83D, 0xDCA9, 0xD83D, 0xDCA9], 1, 3),
-            units: &[0xD83D, 0xDCA9, 0xD83D],
-            dump: "F0 9F 92 A9 ED A0 BD",
-        },
-        Row {
-            front: &[0xD83D],
-            push: Push::Slice(&[0xD83D, 0xDCA9], 1, 1),
-            units: &[0xD83D],
-            dump: "ED A0 BD",
-        },
-    ]
-}
+static PUSHES: [Row; 19] = [
+    Row {
+        front: &[0x0061],
+        push: Push::Point(0xE9),
+        units: &[0x0061, 0x00E9],
+        dump: "61 C3 A9",
+    },
+    Row {
+        front: &[0xD83D],
+        push: Push::Point(0xDCA9),
+        units: &[0xD83D, 0xDCA9],
+        dump: "F0 9F 92 A9",
+    },
+    Row {
+        front: &[],
+        push: Push::Point(0x10_FFFF),
+        units: &[0xDBFF, 0xDFFF],
+        dump: "F4 8F BF BF",
+    },
+    Row {
+        front: &[0xD83D],
+        push: Push::Unit(0xDCA9),
+        units: &[0xD83D, 0xDCA9],
+        dump: "F0 9F 92 A9",
+    },
+    Row {
+        front: &[0xDCA9],
+        push: Push::Unit(0xD83D),
+        units: &[0xDCA9, 0xD83D],
+        dump: "ED B2 A9 ED A0 BD",
+    },
+    Row {
+        front: &[0x0061],
+        push: Push::Char('あ'),
+        units: &[0x0061, 0x3042],
+        dump: "61 E3 81 82",
+    },
+    Row {
+        front: &[0xD83D],
+        push: Push::Char('💩'),
+        units: &[0xD83D, 0xD83D, 0xDCA9],
+        dump: "ED A0 BD F0 9F 92 A9",
+    },
+    Row {
+        front: &[0x0061],
+        push: Push::Str(""),
+        units: &[0x0061],
+        dump: "61",
+    },
+    Row {
+        front: &[0xD83D],
+        push: Push::Str("aé💩"),
+        units: &[0xD83D, 0x0061, 0x00E9, 0xD83D, 0xDCA9],
+        dump: "ED A0 BD 61 C3 A9 F0 9F 92 A9",
+    },
+    Row {
+        front: &[0xD83D],
+        push: Push::Units(&[]),
+        units: &[0xD83D],
+        dump: "ED A0 BD",
+    },
+    Row {
+        front: &[0x0061, 0xD83D],
+        push: Push::Units(&[0xDCA9, 0xDCA9]),
+        units: &[0x0061, 0xD83D, 0xDCA9, 0xDCA9],
+        dump: "61 F0 9F 92 A9 ED B2 A9",
+    },
+    Row {
+        front: &[0xD83D],
+        push: Push::View(&[]),
+        units: &[0xD83D],
+        dump: "ED A0 BD",
+    },
+    Row {
+        front: &[0x0061, 0xD83D],
+        push: Push::View(&[0xDCA9, 0x00E9]),
+        units: &[0x0061, 0xD83D, 0xDCA9, 0x00E9],
+        dump: "61 F0 9F 92 A9 C3 A9",
+    },
+    Row {
+        front: &[0x0061],
+        push: Push::View(&[0xDCA9, 0xD83D]),
+        units: &[0x0061, 0xDCA9, 0xD83D],
+        dump: "61 ED B2 A9 ED A0 BD",
+    },
+    Row {
+        front: &[0x0061, 0xD83D],
+        push: Push::Slice(&[0xD83D, 0xDCA9, 0x00E9], 1, 3),
+        units: &[0x0061, 0xD83D, 0xDCA9, 0x00E9],
+        dump: "61 F0 9F 92 A9 C3 A9",
+    },
+    Row {
+        front: &[0x0061],
+        push: Push::Slice(&[0xD83D, 0xDCA9, 0x00E9], 1, 3),
+        units: &[0x0061, 0xDCA9, 0x00E9],
+        dump: "61 ED B2 A9 C3 A9",
+    },
+    Row {
+        front: &[0x0061],
+        push: Push::Slice(&[0x00E9, 0xD83D, 0xDCA9], 0, 2),
+        units: &[0x0061, 0x00E9, 0xD83D],
+        dump: "61 C3 A9 ED A0 BD",
+    },
+    Row {
+        front: &[0xD83D],
+        push: Push::Slice(&[0xD83D, 0xDCA9, 0xD83D, 0xDCA9], 1, 3),
+        units: &[0xD83D, 0xDCA9, 0xD83D],
+        dump: "F0 9F 92 A9 ED A0 BD",
+    },
+    Row {
+        front: &[0xD83D],
+        push: Push::Slice(&[0xD83D, 0xDCA9], 1, 1),
+        units: &[0xD83D],
+        dump: "ED A0 BD",
+    },
+];
 
 /// Whether the row's call appends its units, with marks kept or without.
 fn is_pushed(alloc: Global, row: &Row, is_marked: bool) -> bool {
-    let Ok(mut buf) = IndexedBuf::from_units(alloc, row.front) else {
-        return false;
-    };
-    if is_marked {
-        buf.mark_units(alloc);
-    }
+    let mut buf = marked(alloc, row.front, is_marked);
     push_to(alloc, &mut buf, row.push).is_ok() && has_all(alloc, &buf, row.units, row.dump)
 }
 
 /// Whether each row's call appends its units, with marks kept and without.
 fn are_pushed(alloc: Global) -> bool {
-    for row in &pushes() {
+    for row in &PUSHES {
         if !is_pushed(alloc, row, false) || !is_pushed(alloc, row, true) {
             return false;
         }
@@ -372,18 +374,16 @@ fn each_call_that_pushes_appends_its_units(rt: HostRuntime) {
 }
 
 /// Lists of units in the order of their code points, which is that of their bytes: a pair is after U+FFFF.
-fn ordered() -> [&'static [u16]; 8] {
-    [
-        &[],
-        &[0x0061],
-        &[0x0061, 0x0061],
-        &[0x00E9],
-        &[0xD83D],
-        &[0xDCA9],
-        &[0xFFFF],
-        &[0xD800, 0xDC00],
-    ]
-}
+static ORDERED: [&[u16]; 8] = [
+    &[],
+    &[0x0061],
+    &[0x0061, 0x0061],
+    &[0x00E9],
+    &[0xD83D],
+    &[0xDCA9],
+    &[0xFFFF],
+    &[0xD800, 0xDC00],
+];
 
 /// The hash of a buffer.
 fn hash_of(buf: &IndexedBuf<Global>) -> u64 {
@@ -403,23 +403,20 @@ fn are_ordered(buf: &IndexedBuf<Global>, other: &IndexedBuf<Global>, order: Orde
 }
 
 /// Whether the buffers of the units compare as `order` says.
-fn is_order(
-    alloc: Global,
-    units: &[u16],
-    others: &[u16],
-    order: Ordering,
-) -> Result<bool, AllocError> {
-    let buf = IndexedBuf::from_units(alloc, units)?;
-    let other = pushed_each(alloc, others)?;
-    Ok(are_ordered(&buf, &other, order))
+fn is_order(alloc: Global, units: &[u16], others: &[u16], order: Ordering) -> bool {
+    let buf = buf_of(alloc, units);
+    let other = pushed_each(alloc, others);
+    buf.unit_len() == units.len()
+        && other.unit_len() == others.len()
+        && are_ordered(&buf, &other, order)
 }
 
 /// Whether the buffer of the units, which have this number in the list, compares with all others as the number does.
 fn is_ordered(alloc: Global, units: &[u16], number: usize) -> bool {
     let mut other_number = 0usize;
-    for others in ordered() {
+    for others in &ORDERED {
         let order = number.cmp(&other_number);
-        if !matches!(is_order(alloc, units, others, order), Ok(true)) {
+        if !is_order(alloc, units, others, order) {
             return false;
         }
         other_number = other_number.wrapping_add(1);
@@ -430,7 +427,7 @@ fn is_ordered(alloc: Global, units: &[u16], number: usize) -> bool {
 #[test]
 fn buffers_compare_by_code_points(rt: HostRuntime) {
     let mut number = 0usize;
-    for units in ordered() {
+    for units in &ORDERED {
         assert!(rt; is_ordered(rt.alloc(), units, number), "list {number}");
         number = number.wrapping_add(1);
     }
@@ -438,23 +435,23 @@ fn buffers_compare_by_code_points(rt: HostRuntime) {
 
 /// The byte positions of the indexes from 0 to 5 of "a", a pair, "é" and a lone lead, whose bytes are 61, F0 9F 92 A9,
 /// C3 A9 and ED A0 80. Index 2 is inside the pair, which begins at position 1.
-const POSITIONS: [usize; 6] = [0, 1, 1, 5, 7, 10];
+static POSITIONS: [usize; 6] = [0, 1, 1, 5, 7, 10];
 
 /// The numbers of units before the byte positions from 0 to 11 of the same string. The last one is past the end.
-const BEFORE: [usize; 12] = [0, 1, 1, 1, 1, 3, 3, 4, 4, 4, 5, 5];
+static BEFORE: [usize; 12] = [0, 1, 1, 1, 1, 3, 3, 4, 4, 4, 5, 5];
 
 /// Whether the buffer has the positions of `POSITIONS` and `BEFORE`.
 fn is_mapped<A: Allocator>(buf: &IndexedBuf<A>) -> bool {
     let mut i = 0usize;
-    for position in POSITIONS {
-        if i > buf.unit_len() || buf.position_at(i) != position {
+    for position in &POSITIONS {
+        if i > buf.unit_len() || buf.position_at(i) != *position {
             return false;
         }
         i = i.wrapping_add(1);
     }
     let mut position = 0usize;
-    for units in BEFORE {
-        if buf.unit_before(position) != units {
+    for units in &BEFORE {
+        if buf.unit_before(position) != *units {
             return false;
         }
         position = position.wrapping_add(1);
@@ -464,10 +461,7 @@ fn is_mapped<A: Allocator>(buf: &IndexedBuf<A>) -> bool {
 
 /// Whether the buffer has the positions, without marks and with them.
 fn is_mapped_each_way(alloc: Global) -> bool {
-    let Ok(mut buf) = IndexedBuf::from_units(alloc, &[0x0061, 0xD83D, 0xDCA9, 0x00E9, 0xD800])
-    else {
-        return false;
-    };
+    let mut buf = buf_of(alloc, &[0x0061, 0xD83D, 0xDCA9, 0x00E9, 0xD800]);
     let is_mapped_unmarked = is_mapped(&buf);
     buf.mark_units(alloc);
     is_mapped_unmarked && is_mapped(&buf)
@@ -497,7 +491,7 @@ enum Kind {
     Pairs,
 }
 
-const KINDS: [Kind; 3] = [Kind::Ascii, Kind::Wide, Kind::Pairs];
+static KINDS: [Kind; 3] = [Kind::Ascii, Kind::Wide, Kind::Pairs];
 
 /// The unit after `unit`, which is U+0000 or the last one appended.
 fn next_unit(kind: Kind, unit: u16) -> u16 {
@@ -518,15 +512,15 @@ fn first_unit(kind: Kind) -> u16 {
     }
 }
 
-/// The units of a long buffer.
-fn long_units(alloc: Global, kind: Kind) -> Result<Vec<u16>, AllocError> {
+/// The units of a long buffer; fewer if memory is refused.
+fn long_units(alloc: Global, kind: Kind) -> Vec<u16> {
     let mut units = Vec::new(alloc);
     let mut unit = first_unit(kind);
     for _ in 0..LENGTH {
-        units.push(unit)?;
+        let _ = units.push(unit);
         unit = next_unit(kind, unit);
     }
-    Ok(units)
+    units
 }
 
 /// The byte position of the unit at index `i`, or of its pair.
@@ -550,13 +544,12 @@ fn units_before(kind: Kind, position: usize) -> usize {
 }
 
 /// Indexes near the multiples of 128, and near the ends.
-fn indexes() -> [usize; 13] {
-    [0, 1, 2, 126, 127, 128, 129, 130, 255, 256, 257, 300, 301]
-}
+static INDEXES: [usize; 13] = [0, 1, 2, 126, 127, 128, 129, 130, 255, 256, 257, 300, 301];
 
 /// Whether `position_at` and `unit_before` agree with the kind, near the marks and at the end.
 fn has_positions<A: Allocator>(buf: &IndexedBuf<A>, kind: Kind) -> bool {
-    for i in indexes() {
+    for i in &INDEXES {
+        let i = *i;
         let position = position_of(kind, i);
         if i > buf.unit_len() || buf.position_at(i) != position {
             return false;
@@ -573,9 +566,9 @@ fn has_positions<A: Allocator>(buf: &IndexedBuf<A>, kind: Kind) -> bool {
 
 /// Whether the buffer has the units of its kind, by each call.
 fn has_long<A: Allocator>(alloc: Global, buf: &IndexedBuf<A>, units: &[u16], kind: Kind) -> bool {
-    for end in indexes() {
-        for begin in indexes() {
-            if !has_part(alloc, buf, units, begin, end) {
+    for end in &INDEXES {
+        for begin in &INDEXES {
+            if !has_part(alloc, buf, units, *begin, *end) {
                 return false;
             }
         }
@@ -583,17 +576,9 @@ fn has_long<A: Allocator>(alloc: Global, buf: &IndexedBuf<A>, units: &[u16], kin
     buf_has_units(buf, units) && has_positions(buf, kind)
 }
 
-/// Whether the buffer was made and has the units of its kind.
-fn is_long(
-    alloc: Global,
-    made: Result<IndexedBuf<Global>, AllocError>,
-    units: &[u16],
-    kind: Kind,
-) -> bool {
-    match made {
-        Ok(buf) => has_long(alloc, &buf, units, kind),
-        Err(_) => false,
-    }
+/// Whether the buffer has the units of its kind.
+fn is_long(alloc: Global, buf: IndexedBuf<Global>, units: &[u16], kind: Kind) -> bool {
+    has_long(alloc, &buf, units, kind)
 }
 
 /// Appends a string, as a text if `is_str`. Fails if it is then no text.
@@ -602,25 +587,20 @@ fn push_string(
     text: Wtf8<'_>,
     is_str: bool,
 ) -> Result<(), AllocError> {
-    if !is_str {
-        return buf.push_wtf8(text);
-    }
     match text.as_str() {
-        Some(value) => buf.push_str(value),
-        None => Err(AllocError),
+        Some(value) if is_str => buf.push_str(value),
+        None if is_str => Err(AllocError),
+        _ => buf.push_wtf8(text),
     }
 }
 
-/// The buffer of a string, pushed at once to an empty one with marks kept, as a text if `is_str`.
-fn pushed_string(
-    alloc: Global,
-    text: Wtf8<'_>,
-    is_str: bool,
-) -> Result<IndexedBuf<Global>, AllocError> {
+/// The buffer of a string, pushed at once to an empty one with marks kept, as a text if `is_str`. The empty one if that
+/// fails.
+fn pushed_string(alloc: Global, text: Wtf8<'_>, is_str: bool) -> IndexedBuf<Global> {
     let mut buf = IndexedBuf::new(alloc);
     buf.mark_units(alloc);
-    push_string(&mut buf, text, is_str)?;
-    Ok(buf)
+    let _ = push_string(&mut buf, text, is_str);
+    buf
 }
 
 /// Whether a buffer with marks has the units of its kind after these are pushed as one string and as one text.
@@ -641,18 +621,25 @@ fn is_pushed_string(alloc: Global, units: &[u16], kind: Kind) -> bool {
     )
 }
 
-/// Whether the buffer was made and has the units of its kind, without marks or with those that it keeps, then with
-/// marks, and its copies too.
-fn is_long_again(
+/// Whether a copy was made and has the units of its kind.
+fn is_long_copy(
     alloc: Global,
-    made: Result<IndexedBuf<Global>, AllocError>,
+    copy: Result<IndexedBuf<Global>, AllocError>,
     units: &[u16],
     kind: Kind,
 ) -> bool {
-    let Ok(mut buf) = made else {
-        return false;
-    };
-    let is_right = has_long(alloc, &buf, units, kind) && is_long(alloc, buf.clone(), units, kind);
+    match copy {
+        Ok(buf) => has_long(alloc, &buf, units, kind),
+        Err(_) => false,
+    }
+}
+
+/// Whether the buffer has the units of its kind, without marks or with those that it keeps, then with marks, and its
+/// copy too.
+fn is_long_again(alloc: Global, buf: IndexedBuf<Global>, units: &[u16], kind: Kind) -> bool {
+    let mut buf = buf;
+    let is_right = has_long(alloc, &buf, units, kind)
+        && is_long_copy(alloc, buf.clone(), units, kind);
     buf.mark_units(alloc);
     is_right && has_long(alloc, &buf, units, kind)
 }
@@ -694,9 +681,7 @@ fn is_cut<A: Allocator>(
 }
 
 /// Indexes about 128 before the end of a long buffer, and near its end. A pair is split by each even one.
-fn last_indexes() -> [usize; 6] {
-    [172, 173, 174, 298, 299, 300]
-}
+static LAST_INDEXES: [usize; 6] = [172, 173, 174, 298, 299, 300];
 
 /// Whether a buffer has its units and position from index `i` on, and if it is cut there.
 fn is_right_from<A: Allocator>(
@@ -712,14 +697,12 @@ fn is_right_from<A: Allocator>(
     has_part(alloc, buf, units, i, LENGTH) && is_cut(alloc, buf, units, kind, i)
 }
 
-/// Whether a long buffer without marks has its units and positions from each of `last_indexes` on, and if it is cut
+/// Whether a long buffer without marks has its units and positions from each of `LAST_INDEXES` on, and if it is cut
 /// there.
 fn is_right_at_end(alloc: Global, units: &[u16], kind: Kind) -> bool {
-    let Ok(mut buf) = IndexedBuf::from_units(alloc, units) else {
-        return false;
-    };
-    for i in last_indexes() {
-        if !is_right_from(alloc, &mut buf, units, kind, i) {
+    let mut buf = buf_of(alloc, units);
+    for i in &LAST_INDEXES {
+        if !is_right_from(alloc, &mut buf, units, kind, *i) {
             return false;
         }
     }
@@ -752,21 +735,22 @@ fn is_cleared<A: Allocator>(
 ) -> bool {
     let capacity = buf.capacity();
     buf.clear();
-    has_buf(alloc, buf, &[], "")
-        && buf.capacity() == capacity
-        && push_each(buf, units).is_ok()
-        && has_long(alloc, buf, units, kind)
+    let is_empty = has_buf(alloc, buf, &[], "") && buf.capacity() == capacity;
+    push_each(buf, units);
+    is_empty && has_long(alloc, buf, units, kind)
 }
 
-/// Whether a long buffer, cut at each of `indexes` or emptied, has its units again once they are pushed.
+/// Whether a long buffer, cut at each of `INDEXES` or emptied, has its units again once they are pushed.
 fn is_shortened<A: Allocator>(
     alloc: Global,
     buf: &mut IndexedBuf<A>,
     units: &[u16],
     kind: Kind,
 ) -> bool {
-    for n in indexes() {
-        if !is_cut(alloc, buf, units, kind, n) || !is_cut_at_position(alloc, buf, units, kind, n) {
+    for n in &INDEXES {
+        if !is_cut(alloc, buf, units, kind, *n)
+            || !is_cut_at_position(alloc, buf, units, kind, *n)
+        {
             return false;
         }
     }
@@ -776,12 +760,7 @@ fn is_shortened<A: Allocator>(
 /// Whether `is_shortened` holds without marks, and with them.
 fn is_shortened_each_way(alloc: Global, units: &[u16], kind: Kind) -> bool {
     for is_marked in [false, true] {
-        let Ok(mut buf) = IndexedBuf::from_units(alloc, units) else {
-            return false;
-        };
-        if is_marked {
-            buf.mark_units(alloc);
-        }
+        let mut buf = marked(alloc, units, is_marked);
         if !is_shortened(alloc, &mut buf, units, kind) {
             return false;
         }
@@ -789,16 +768,9 @@ fn is_shortened_each_way(alloc: Global, units: &[u16], kind: Kind) -> bool {
     true
 }
 
-/// Releases the spare capacity of a buffer. Whether it was made, none is left, and the buffer has its units.
-fn is_shrunk(
-    alloc: Global,
-    made: Result<IndexedBuf<Global>, AllocError>,
-    units: &[u16],
-    kind: Kind,
-) -> bool {
-    let Ok(mut buf) = made else {
-        return false;
-    };
+/// Releases the spare capacity of a buffer. Whether none is left, and the buffer has its units.
+fn is_shrunk(alloc: Global, buf: IndexedBuf<Global>, units: &[u16], kind: Kind) -> bool {
+    let mut buf = buf;
     buf.shrink_to_fit();
     buf.capacity() == buf.as_wtf8().len() && has_long(alloc, &buf, units, kind)
 }
@@ -832,11 +804,9 @@ fn is_checked(alloc: Global, units: &[u16], kind: Kind, check: Check) -> bool {
 
 /// Whether long buffers of each kind do what `check` requires.
 fn is_each_kind_checked(alloc: Global, check: Check) -> bool {
-    for kind in KINDS {
-        let Ok(units) = long_units(alloc, kind) else {
-            return false;
-        };
-        if !is_checked(alloc, &units, kind, check) {
+    for kind in &KINDS {
+        let units = long_units(alloc, *kind);
+        if units.len() != LENGTH || !is_checked(alloc, &units, *kind, check) {
             return false;
         }
     }
@@ -876,18 +846,6 @@ fn text_has_units_from(text: &UnitText<Global>, units: &[u16], begin: usize) -> 
     has_units_left(text.units_from(begin), &units[begin..])
 }
 
-/// An empty text to which units are pushed in two parts.
-fn text_in_parts(
-    alloc: Global,
-    front: &[u16],
-    back: &[u16],
-) -> Result<UnitText<Global>, AllocError> {
-    let mut text = UnitText::new(alloc);
-    text.push_units(front)?;
-    text.push_units(back)?;
-    Ok(text)
-}
-
 /// Whether a copy of the text equals it and has the units and bytes.
 fn is_text_copied(alloc: Global, text: &UnitText<Global>, units: &[u16], dump: &str) -> bool {
     match text.clone() {
@@ -896,21 +854,22 @@ fn is_text_copied(alloc: Global, text: &UnitText<Global>, units: &[u16], dump: &
     }
 }
 
-/// Whether a text pushed in two parts, cut after index `cut`, has the units and bytes, also from that index on, and its
-/// copy too.
+/// Whether the text of units pushed to an empty one in two parts, cut after index `cut`, has the units and bytes, also
+/// from that index on, and its copy too.
 fn is_text_in_parts(alloc: Global, units: &[u16], dump: &str, cut: usize) -> bool {
     let (front, back) = units.split_at(cut.min(units.len()));
-    let Ok(text) = text_in_parts(alloc, front, back) else {
-        return false;
-    };
-    has_text(alloc, &text, units, dump)
+    let mut text = UnitText::new(alloc);
+    has_text(alloc, &text, &[], "")
+        && text.push_units(front).is_ok()
+        && text.push_units(back).is_ok()
+        && has_text(alloc, &text, units, dump)
         && text_has_units_from(&text, units, cut)
         && is_text_copied(alloc, &text, units, dump)
 }
 
 /// Whether texts of each of these lists of units, pushed in two parts, wherever they are cut, have the units and bytes.
 fn are_texts_in_parts(alloc: Global) -> bool {
-    for (units, dump) in texts() {
+    for (units, dump) in &TEXTS {
         for cut in 0..units.len().saturating_add(1) {
             if !is_text_in_parts(alloc, units, dump, cut) {
                 return false;
@@ -920,13 +879,7 @@ fn are_texts_in_parts(alloc: Global) -> bool {
     true
 }
 
-/// Whether a new text has no units and no bytes.
-fn is_new_text_empty(alloc: Global) -> bool {
-    has_text(alloc, &UnitText::new(alloc), &[], "")
-}
-
 #[test]
 fn a_text_is_pushed_in_parts_and_copied(rt: HostRuntime) {
-    let alloc = rt.alloc();
-    assert!(rt; is_new_text_empty(alloc) && are_texts_in_parts(alloc));
+    assert!(rt; are_texts_in_parts(rt.alloc()));
 }

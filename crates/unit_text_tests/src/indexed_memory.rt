@@ -1,8 +1,11 @@
 // Requests for memory of buffers that find their code units, each refused in turn.
-use crate::shared::{Push, buf_has_units, has_buf, has_bytes, has_text, push_each, push_to};
+use crate::memory::{Append, Appended, Made, MakeText, are_appended, are_right};
+use crate::shared::{
+    Push, buf_has_units, buf_of, has_buf, has_bytes, push_each, push_to, with_room,
+};
 use refusing::{Lent, REFUSALS, Refusal, Refusing};
 use std::alloc::{AllocError, Allocator, Global};
-use unit_text::{IndexedBuf, UnitText};
+use unit_text::IndexedBuf;
 
 /// "a" and a lone lead, and their four bytes.
 const FRONT: [u16; 2] = [0x0061, 0xD83D];
@@ -31,138 +34,127 @@ struct Row {
 /// Calls that append one code point, or nothing, then several code points, and then slices whose trail in front
 /// completes the pair, alone or before other code points, that have a lead at the end, or that are empty. Each part of
 /// a slice is appended separately, and a growth is at least to twice the capacity, which is four bytes at first.
-fn pushes() -> [Row; 16] {
-    [
-        Row {
-            push: Push::Point(0xDCA9),
-            units: &PAIR,
-            dump: PAIR_DUMP,
-            growth: 1,
-            requests: 1,
-        },
-        Row {
-            push: Push::Unit(0xDCA9),
-            units: &PAIR,
-            dump: PAIR_DUMP,
-            growth: 1,
-            requests: 1,
-        },
-        Row {
-            push: Push::Unit(0x00E9),
-            units: &[0x0061, 0xD83D, 0x00E9],
-            dump: "61 ED A0 BD C3 A9",
-            growth: 2,
-            requests: 1,
-        },
-        Row {
-            push: Push::Char('💩'),
-            units: &[0x0061, 0xD83D, 0xD83D, 0xDCA9],
-            dump: "61 ED A0 BD F0 9F 92 A9",
-            growth: 4,
-            requests: 1,
-        },
-        Row {
-            push: Push::Units(&[0xDCA9]),
-            units: &PAIR,
-            dump: PAIR_DUMP,
-            growth: 1,
-            requests: 1,
-        },
-        Row {
-            push: Push::Str(""),
-            units: &FRONT,
-            dump: FRONT_DUMP,
-            growth: 0,
-            requests: 0,
-        },
-        Row {
-            push: Push::Units(&[]),
-            units: &FRONT,
-            dump: FRONT_DUMP,
-            growth: 0,
-            requests: 0,
-        },
-        Row {
-            push: Push::View(&[]),
-            units: &FRONT,
-            dump: FRONT_DUMP,
-            growth: 0,
-            requests: 0,
-        },
-        Row {
-            push: Push::Str("aé💩"),
-            units: &[0x0061, 0xD83D, 0x0061, 0x00E9, 0xD83D, 0xDCA9],
-            dump: "61 ED A0 BD 61 C3 A9 F0 9F 92 A9",
-            growth: 7,
-            requests: 1,
-        },
-        Row {
-            push: Push::Units(&[0xDCA9, 0xE000, 0xE000]),
-            units: &[0x0061, 0xD83D, 0xDCA9, 0xE000, 0xE000],
-            dump: "61 F0 9F 92 A9 EE 80 80 EE 80 80",
-            growth: 7,
-            requests: 2,
-        },
-        Row {
-            push: Push::View(&[0xDCA9, 0x00E9]),
-            units: &[0x0061, 0xD83D, 0xDCA9, 0x00E9],
-            dump: "61 F0 9F 92 A9 C3 A9",
-            growth: 3,
-            requests: 1,
-        },
-        Row {
-            push: Push::Slice(&[0xD83D, 0xDCA9], 1, 2),
-            units: &PAIR,
-            dump: PAIR_DUMP,
-            growth: 1,
-            requests: 1,
-        },
-        Row {
-            push: Push::Slice(&[0xD83D, 0xDCA9, 0x00E9], 1, 3),
-            units: &[0x0061, 0xD83D, 0xDCA9, 0x00E9],
-            dump: "61 F0 9F 92 A9 C3 A9",
-            growth: 3,
-            requests: 1,
-        },
-        Row {
-            push: Push::Slice(&[0xD83D, 0xDCA9, 0xE000, 0xD83D, 0xDCA9], 1, 4),
-            units: &[0x0061, 0xD83D, 0xDCA9, 0xE000, 0xD83D],
-            dump: "61 F0 9F 92 A9 EE 80 80 ED A0 BD",
-            growth: 7,
-            requests: 2,
-        },
-        Row {
-            push: Push::Slice(&[0x00E9, 0xD83D, 0xDCA9], 0, 2),
-            units: &[0x0061, 0xD83D, 0x00E9, 0xD83D],
-            dump: "61 ED A0 BD C3 A9 ED A0 BD",
-            growth: 5,
-            requests: 2,
-        },
-        Row {
-            push: Push::Slice(&[0xD83D, 0xDCA9], 1, 1),
-            units: &FRONT,
-            dump: FRONT_DUMP,
-            growth: 0,
-            requests: 0,
-        },
-    ]
-}
-
-/// The buffer of the units, made with room for `capacity` bytes.
-fn buf_of<A: Allocator + Drop>(
-    heap: A,
-    units: &[u16],
-    capacity: usize,
-) -> Result<IndexedBuf<A>, AllocError> {
-    let mut buf = IndexedBuf::with_capacity(heap, capacity)?;
-    push_each(&mut buf, units)?;
-    Ok(buf)
-}
+static PUSHES: [Row; 16] = [
+    Row {
+        push: Push::Point(0xDCA9),
+        units: &PAIR,
+        dump: PAIR_DUMP,
+        growth: 1,
+        requests: 1,
+    },
+    Row {
+        push: Push::Unit(0xDCA9),
+        units: &PAIR,
+        dump: PAIR_DUMP,
+        growth: 1,
+        requests: 1,
+    },
+    Row {
+        push: Push::Unit(0x00E9),
+        units: &[0x0061, 0xD83D, 0x00E9],
+        dump: "61 ED A0 BD C3 A9",
+        growth: 2,
+        requests: 1,
+    },
+    Row {
+        push: Push::Char('💩'),
+        units: &[0x0061, 0xD83D, 0xD83D, 0xDCA9],
+        dump: "61 ED A0 BD F0 9F 92 A9",
+        growth: 4,
+        requests: 1,
+    },
+    Row {
+        push: Push::Units(&[0xDCA9]),
+        units: &PAIR,
+        dump: PAIR_DUMP,
+        growth: 1,
+        requests: 1,
+    },
+    Row {
+        push: Push::Str(""),
+        units: &FRONT,
+        dump: FRONT_DUMP,
+        growth: 0,
+        requests: 0,
+    },
+    Row {
+        push: Push::Units(&[]),
+        units: &FRONT,
+        dump: FRONT_DUMP,
+        growth: 0,
+        requests: 0,
+    },
+    Row {
+        push: Push::View(&[]),
+        units: &FRONT,
+        dump: FRONT_DUMP,
+        growth: 0,
+        requests: 0,
+    },
+    Row {
+        push: Push::Str("aé💩"),
+        units: &[0x0061, 0xD83D, 0x0061, 0x00E9, 0xD83D, 0xDCA9],
+        dump: "61 ED A0 BD 61 C3 A9 F0 9F 92 A9",
+        growth: 7,
+        requests: 1,
+    },
+    Row {
+        push: Push::Units(&[0xDCA9, 0xE000, 0xE000]),
+        units: &[0x0061, 0xD83D, 0xDCA9, 0xE000, 0xE000],
+        dump: "61 F0 9F 92 A9 EE 80 80 EE 80 80",
+        growth: 7,
+        requests: 2,
+    },
+    Row {
+        push: Push::View(&[0xDCA9, 0x00E9]),
+        units: &[0x0061, 0xD83D, 0xDCA9, 0x00E9],
+        dump: "61 F0 9F 92 A9 C3 A9",
+        growth: 3,
+        requests: 1,
+    },
+    Row {
+        push: Push::Slice(&[0xD83D, 0xDCA9], 1, 2),
+        units: &PAIR,
+        dump: PAIR_DUMP,
+        growth: 1,
+        requests: 1,
+    },
+    Row {
+        push: Push::Slice(&[0xD83D, 0xDCA9, 0x00E9], 1, 3),
+        units: &[0x0061, 0xD83D, 0xDCA9, 0x00E9],
+        dump: "61 F0 9F 92 A9 C3 A9",
+        growth: 3,
+        requests: 1,
+    },
+    Row {
+        push: Push::Slice(&[0xD83D, 0xDCA9, 0xE000, 0xD83D, 0xDCA9], 1, 4),
+        units: &[0x0061, 0xD83D, 0xDCA9, 0xE000, 0xD83D],
+        dump: "61 F0 9F 92 A9 EE 80 80 ED A0 BD",
+        growth: 7,
+        requests: 2,
+    },
+    Row {
+        push: Push::Slice(&[0x00E9, 0xD83D, 0xDCA9], 0, 2),
+        units: &[0x0061, 0xD83D, 0x00E9, 0xD83D],
+        dump: "61 ED A0 BD C3 A9 ED A0 BD",
+        growth: 5,
+        requests: 2,
+    },
+    Row {
+        push: Push::Slice(&[0xD83D, 0xDCA9], 1, 1),
+        units: &FRONT,
+        dump: FRONT_DUMP,
+        growth: 0,
+        requests: 0,
+    },
+];
 
 /// The buffer of `FRONT` with `spare` bytes of spare capacity.
-fn with_spare(heap: Lent<'_>, spare: usize) -> Result<IndexedBuf<Lent<'_>>, AllocError> {
+fn with_spare(heap: Lent<'_>, spare: usize) -> IndexedBuf<Lent<'_>> {
     heap.grant(1);
-    buf_of(heap, &FRONT, spare.saturating_add(4))
+    let mut buf = with_room(heap, spare.saturating_add(4));
+    push_each(&mut buf, &FRONT);
+    buf
 }
 
 /// Whether the buffer has the units and bytes of `FRONT`.
@@ -209,9 +201,7 @@ fn is_right_after(
     setup: Setup,
     outcome: (bool, u64),
 ) -> bool {
-    let Ok(mut buf) = with_spare(heap, setup.spare) else {
-        return false;
-    };
+    let mut buf = with_spare(heap, setup.spare);
     if setup.is_marked {
         buf.mark_units(heap);
     }
@@ -219,71 +209,49 @@ fn is_right_after(
     is_right(alloc, heap, &mut buf, row, outcome)
 }
 
-/// Whether the row's call, with `spare` bytes of spare capacity and every request refused, appends its units without a
-/// request if their bytes fit, and else changes nothing.
-fn is_right_in_room(
-    alloc: Global,
-    heap: Lent<'_>,
-    row: &Row,
-    spare: usize,
-    is_marked: bool,
-) -> bool {
-    let is_pushed = row.growth <= spare;
-    let setup = Setup {
-        spare,
-        is_marked,
-        granted: 0,
-        refusal: Refusal::ForGood,
-    };
-    is_right_after(alloc, heap, row, setup, (is_pushed, u64::from(!is_pushed)))
-}
-
-/// Whether `is_right_in_room` holds at each spare capacity, up to one byte more than the row's call needs, with marks
-/// and without.
+/// Whether the row's call, with every request refused, appends its units without a request if their bytes fit, and else
+/// changes nothing: at each spare capacity, up to one byte more than the row's call needs, with marks and without.
 fn is_right_in_each_room(alloc: Global, heap: Lent<'_>, row: &Row) -> bool {
     for spare in 0..=row.growth.saturating_add(1) {
-        if !is_right_in_room(alloc, heap, row, spare, false)
-            || !is_right_in_room(alloc, heap, row, spare, true)
-        {
-            return false;
+        let is_pushed = row.growth <= spare;
+        for is_marked in [false, true] {
+            let setup = Setup {
+                spare,
+                is_marked,
+                granted: 0,
+                refusal: Refusal::ForGood,
+            };
+            if !is_right_after(alloc, heap, row, setup, (is_pushed, u64::from(!is_pushed))) {
+                return false;
+            }
         }
     }
     true
 }
 
-/// Grants `granted` requests and refuses the next one. Whether the row's call, without spare capacity, fails there and
-/// changes nothing.
-fn is_refused(alloc: Global, heap: Lent<'_>, row: &Row, granted: u64, refusal: Refusal) -> bool {
-    let setup = Setup {
-        spare: 0,
-        is_marked: false,
-        granted,
-        refusal,
-    };
-    is_right_after(alloc, heap, row, setup, (false, granted.wrapping_add(1)))
-}
-
-/// Whether the row's call, without spare capacity and with all requests granted, makes its requests.
-fn is_granted(alloc: Global, heap: Lent<'_>, row: &Row) -> bool {
-    let setup = Setup {
+/// Whether the row's call, without spare capacity, makes its requests if all are granted, and fails and changes nothing
+/// at each that is refused.
+fn is_each_refused(alloc: Global, heap: Lent<'_>, row: &Row) -> bool {
+    let mut setup = Setup {
         spare: 0,
         is_marked: false,
         granted: 9,
         refusal: Refusal::ForGood,
     };
-    is_right_after(alloc, heap, row, setup, (true, row.requests))
-}
-
-/// Whether the row's call, without spare capacity, makes its requests and fails at each that is refused.
-fn is_each_refused(alloc: Global, heap: Lent<'_>, row: &Row) -> bool {
-    for granted in 0..row.requests {
-        if !is_refused(alloc, heap, row, granted, Refusal::ForGood)
-            || !is_refused(alloc, heap, row, granted, Refusal::Once)
-        {
-            return false;
+    if !is_right_after(alloc, heap, row, setup, (true, row.requests)) {
+        return false;
+    }
+    for refusal in REFUSALS {
+        for granted in 0..row.requests {
+            setup.granted = granted;
+            setup.refusal = refusal;
+            let outcome = (false, granted.wrapping_add(1));
+            if !is_right_after(alloc, heap, row, setup, outcome) {
+                return false;
+            }
         }
     }
-    is_granted(alloc, heap, row)
+    true
 }
 
 /// The number of units of three bytes before `FRONT` in a long buffer. The unit after `FRONT` has index 256, where the
@@ -293,12 +261,12 @@ const WIDE: usize = 254;
 /// The number of bytes of the long buffer that `FRONT` ends.
 const LONG_FRONT_LEN: usize = 254 * 3 + 4;
 
-/// Units of three bytes, and then `units`.
-fn after_wide(alloc: Global, units: &[u16]) -> Result<Vec<u16>, AllocError> {
+/// Units of three bytes, and then `units`; fewer if memory is refused.
+fn after_wide(alloc: Global, units: &[u16]) -> Vec<u16> {
     let mut all = Vec::new(alloc);
-    all.resize(WIDE, 0x3042)?;
-    all.extend_from_slice(units)?;
-    Ok(all)
+    let _ = all.resize(WIDE, 0x3042);
+    let _ = all.extend_from_slice(units);
+    all
 }
 
 /// The buffer of the long list that `FRONT` ends, with `spare` bytes of spare capacity, and with the one mark that it
@@ -308,11 +276,11 @@ fn long_with_spare<'a>(
     heap: Lent<'a>,
     marks: Lent<'a>,
     spare: usize,
-) -> Result<IndexedBuf<Lent<'a>>, AllocError> {
-    let units = after_wide(alloc, &FRONT)?;
-    let mut buf = buf_of(heap, &units, spare.saturating_add(LONG_FRONT_LEN))?;
+) -> IndexedBuf<Lent<'a>> {
+    let mut buf = with_room(heap, spare.saturating_add(LONG_FRONT_LEN));
+    push_each(&mut buf, &after_wide(alloc, &FRONT));
     buf.mark_units(marks);
-    Ok(buf)
+    buf
 }
 
 /// Pushes "a" to the buffer of the units with all requests granted. Whether one is made for the mark that is missing,
@@ -339,10 +307,8 @@ fn is_ended<A: Allocator>(
     buf: &mut IndexedBuf<A>,
     units: &[u16],
 ) -> bool {
-    match after_wide(alloc, units) {
-        Ok(mut all) => buf_has_units(buf, &all) && has_one_more(heap, marks, buf, &mut all),
-        Err(_) => false,
-    }
+    let mut all = after_wide(alloc, units);
+    buf_has_units(buf, &all) && has_one_more(heap, marks, buf, &mut all)
 }
 
 /// Makes the row's call with every request refused. If its bytes fit, whether it appends its units, though a mark is
@@ -370,9 +336,7 @@ fn is_unmarked<A: Allocator>(
 fn is_right_on_long(alloc: Global, row: &Row, spare: usize) -> bool {
     let heap = Refusing::new(alloc, 1);
     let marks = Refusing::new(alloc, 1);
-    let Ok(mut buf) = long_with_spare(alloc, &heap, &marks, spare) else {
-        return false;
-    };
+    let mut buf = long_with_spare(alloc, &heap, &marks, spare);
     heap.grant(0);
     marks.grant(0);
     is_unmarked(alloc, &heap, &marks, &mut buf, row, row.growth <= spare)
@@ -404,7 +368,7 @@ fn is_checked(alloc: Global, heap: Lent<'_>, row: &Row, check: Check) -> bool {
 /// Whether the call of each row does what `check` requires.
 fn are_checked(alloc: Global, check: Check) -> bool {
     let heap = Refusing::new(alloc, 0);
-    for row in &pushes() {
+    for row in &PUSHES {
         if !is_checked(alloc, &heap, row, check) {
             return false;
         }
@@ -459,10 +423,8 @@ fn has_next_mark<A: Allocator>(
 ) -> bool {
     heap.grant(u64::MAX);
     marks.grant(0);
-    push_each(buf, &[0x3042; 127]).is_ok()
-        && marks.requests() == 0
-        && buf.push_unit(0x3042).is_ok()
-        && (marks.requests() == 1) == is_full
+    push_each(buf, &[0x3042; 127]);
+    marks.requests() == 0 && buf.push_unit(0x3042).is_ok() && (marks.requests() == 1) == is_full
 }
 
 /// Empties a buffer. Whether it then releases all its memory without a request.
@@ -475,50 +437,42 @@ fn is_released<A: Allocator>(heap: Lent<'_>, marks: Lent<'_>, buf: &mut IndexedB
 }
 
 /// Whether a long buffer has its units after its spare capacity is released, and after each push that follows, and
-/// releases all its memory once it is emptied.
+/// releases all its memory once it is emptied. `units` are its units.
 fn is_right_shrunk<A: Allocator>(
-    alloc: Global,
     heap: Lent<'_>,
     marks: Lent<'_>,
     buf: &mut IndexedBuf<A>,
     (is_granted, is_full): (bool, bool),
+    units: &mut Vec<u16>,
 ) -> bool {
-    let Ok(mut units) = after_wide(alloc, &PAIR) else {
-        return false;
-    };
     is_shrunk(heap, marks, buf, is_granted)
-        && buf_has_units(buf, &units)
+        && buf_has_units(buf, units)
         && has_next_mark(heap, marks, buf, is_full)
         && units.resize(WIDE + 131, 0x3042).is_ok()
-        && buf_has_units(buf, &units)
+        && buf_has_units(buf, units)
         && is_released(heap, marks, buf)
 }
 
 /// Whether `shrink_to_fit` of the long buffer of `PAIR`, with 100 bytes of spare capacity and with its two marks in a
 /// list that has room for four, releases the spare capacity of its bytes and of its marks, each if that is granted.
-fn is_each_shrunk(alloc: Global, (is_granted, is_full): (bool, bool), refusal: Refusal) -> bool {
+fn is_each_shrunk(alloc: Global, granted: (bool, bool), refusal: Refusal) -> bool {
     let heap = Refusing::new(alloc, 1);
     let marks = Refusing::new(alloc, 1);
-    let Ok(mut buf) = long_with_spare(alloc, &heap, &marks, 101) else {
-        return false;
-    };
+    let mut buf = long_with_spare(alloc, &heap, &marks, 101);
     marks.grant(1);
-    let is_pushed = buf.push_unit(0xDCA9).is_ok();
-    heap.refuse_after(u64::from(is_granted), refusal);
-    marks.refuse_after(u64::from(is_full), refusal);
-    is_pushed && is_right_shrunk(alloc, &heap, &marks, &mut buf, (is_granted, is_full))
-}
-
-/// Whether `is_each_shrunk` holds if all following requests are refused, and if the next one alone is.
-fn is_shrunk_if_granted(alloc: Global, granted: (bool, bool)) -> bool {
-    is_each_shrunk(alloc, granted, Refusal::ForGood)
-        && is_each_shrunk(alloc, granted, Refusal::Once)
+    push_each(&mut buf, &[0xDCA9]);
+    heap.refuse_after(u64::from(granted.0), refusal);
+    marks.refuse_after(u64::from(granted.1), refusal);
+    let mut units = after_wide(alloc, &PAIR);
+    is_right_shrunk(&heap, &marks, &mut buf, granted, &mut units)
 }
 
 #[test]
 fn a_buffer_releases_spare_capacity_if_that_is_granted(rt: HostRuntime) {
     for granted in [(false, false), (false, true), (true, false), (true, true)] {
-        assert!(rt; is_shrunk_if_granted(rt.alloc(), granted));
+        for refusal in REFUSALS {
+            assert!(rt; is_each_shrunk(rt.alloc(), granted, refusal));
+        }
     }
 }
 
@@ -530,26 +484,17 @@ fn is_before_front<A: Allocator>(buf: &mut IndexedBuf<A>, units: &mut Vec<u16>) 
         && buf_has_units(buf, units)
 }
 
-/// Asks for marks of the buffer of the units with `granted` requests granted. Whether the buffer has its units then, and
-/// after a push.
-fn is_marked(alloc: Global, units: &mut Vec<u16>, granted: u64, refusal: Refusal) -> bool {
+/// Asks for marks of a long buffer with `granted` requests granted. Whether the buffer has its units then, and after a
+/// push.
+fn is_long_marked(alloc: Global, granted: u64, refusal: Refusal) -> bool {
     let heap = Refusing::new(alloc, 9);
     let marks = Refusing::new(alloc, 0);
-    let Ok(mut buf) = IndexedBuf::from_units(&heap, units) else {
-        return false;
-    };
+    let mut units = after_wide(alloc, &[0xD83D, 0xD83D, 0xDCA9]);
+    let mut buf = buf_of(&heap, &units);
     marks.refuse_after(granted, refusal);
     buf.mark_units(&marks);
     heap.grant(9);
-    is_before_front(&mut buf, units)
-}
-
-/// Whether `is_marked` holds of a long buffer.
-fn is_long_marked(alloc: Global, granted: u64, refusal: Refusal) -> bool {
-    match after_wide(alloc, &[0xD83D, 0xD83D, 0xDCA9]) {
-        Ok(mut units) => is_marked(alloc, &mut units, granted, refusal),
-        Err(_) => false,
-    }
+    units.len() == WIDE + 3 && is_before_front(&mut buf, &mut units)
 }
 
 #[test]
@@ -575,16 +520,14 @@ enum Make {
 /// Calls that make a buffer, and the number of their requests. A buffer of six units of three bytes first has room for
 /// six bytes, then for the 18 of their block. One of 17 such units first has room for 17 bytes, then for the 48 of a
 /// block of sixteen, then for twice that number.
-fn makes() -> [(Make, u64); 6] {
-    [
-        (Make::Capacity(0), 0),
-        (Make::Capacity(8), 1),
-        (Make::Units(&[]), 0),
-        (Make::Units(&[0xE000; 6]), 2),
-        (Make::Units(&[0xE000; 17]), 3),
-        (Make::Clone, 1),
-    ]
-}
+static MAKES: [(Make, u64); 6] = [
+    (Make::Capacity(0), 0),
+    (Make::Capacity(8), 1),
+    (Make::Units(&[]), 0),
+    (Make::Units(&[0xE000; 6]), 2),
+    (Make::Units(&[0xE000; 17]), 3),
+    (Make::Clone, 1),
+];
 
 /// The buffer that the call makes, by a clone of `other` where it is one.
 fn make_buf<A: Allocator + Clone + Drop>(
@@ -609,40 +552,20 @@ fn is_make<'a>(
     make_buf(heap, other, make).is_ok() == is_made && heap.requests() == requests
 }
 
-/// Whether the call makes no buffer if the request after the `granted` ones is refused.
-fn is_unmade<'a>(
-    heap: Lent<'a>,
-    other: &IndexedBuf<Lent<'a>>,
-    make: Make,
-    granted: u64,
-    refusal: Refusal,
-) -> bool {
-    heap.refuse_after(granted, refusal);
-    is_make(heap, other, make, (false, granted.wrapping_add(1)))
-}
-
-/// Whether the call makes its requests, and makes no buffer if one of them is refused.
-fn is_right_make<'a>(
-    heap: Lent<'a>,
-    other: &IndexedBuf<Lent<'a>>,
-    make: Make,
-    requests: u64,
-) -> bool {
-    for granted in 0..requests {
-        if !is_unmade(heap, other, make, granted, Refusal::ForGood)
-            || !is_unmade(heap, other, make, granted, Refusal::Once)
-        {
-            return false;
-        }
-    }
-    heap.grant(requests);
-    is_make(heap, other, make, (true, requests))
-}
-
-/// Whether each call of `makes` does what `is_right_make` requires.
+/// Whether each call of `MAKES` makes its requests, and makes no buffer if one of them is refused.
 fn is_each_made<'a>(heap: Lent<'a>, other: &IndexedBuf<Lent<'a>>) -> bool {
-    for (make, requests) in makes() {
-        if !is_right_make(heap, other, make, requests) {
+    for (make, requests) in &MAKES {
+        let (make, requests) = (*make, *requests);
+        for refusal in REFUSALS {
+            for granted in 0..requests {
+                heap.refuse_after(granted, refusal);
+                if !is_make(heap, other, make, (false, granted.wrapping_add(1))) {
+                    return false;
+                }
+            }
+        }
+        heap.grant(requests);
+        if !is_make(heap, other, make, (true, requests)) {
             return false;
         }
     }
@@ -650,17 +573,15 @@ fn is_each_made<'a>(heap: Lent<'a>, other: &IndexedBuf<Lent<'a>>) -> bool {
 }
 
 /// Whether `is_each_made` holds with the buffer of `FRONT`, which the calls leave as it was.
-fn is_front_kept(alloc: Global, heap: Lent<'_>) -> bool {
-    match with_spare(heap, 0) {
-        Ok(other) => is_each_made(heap, &other) && has_front(alloc, &other),
-        Err(_) => false,
-    }
+fn is_front_kept(alloc: Global) -> bool {
+    let heap = Refusing::new(alloc, 9);
+    let other = with_spare(&heap, 0);
+    is_each_made(&heap, &other) && has_front(alloc, &other)
 }
 
 #[test]
 fn a_buffer_is_made_of_the_memory_that_it_needs(rt: HostRuntime) {
-    let heap = Refusing::new(rt.alloc(), 9);
-    assert!(rt; is_front_kept(rt.alloc(), &heap));
+    assert!(rt; is_front_kept(rt.alloc()));
 }
 
 /// Reserves `additional` bytes in the buffer of `FRONT`, which has two bytes of spare capacity. Whether that succeeds
@@ -683,31 +604,27 @@ fn is_reserve<A: Allocator>(
 /// Whether `is_reserve` holds with `granted` requests granted.
 fn is_right_reserve(
     alloc: Global,
-    heap: Lent<'_>,
     (additional, granted): (usize, u64),
     outcome: (bool, u64),
 ) -> bool {
-    let Ok(mut buf) = with_spare(heap, 2) else {
-        return false;
-    };
+    let heap = Refusing::new(alloc, 1);
+    let mut buf = with_spare(&heap, 2);
     heap.grant(granted);
-    is_reserve(alloc, heap, &mut buf, additional, outcome)
+    is_reserve(alloc, &heap, &mut buf, additional, outcome)
 }
 
 /// Whether reserves within the spare capacity make no request, and others one.
-fn is_reserved_once(alloc: Global, heap: Lent<'_>) -> bool {
-    is_right_reserve(alloc, heap, (0, 0), (true, 0))
-        && is_right_reserve(alloc, heap, (2, 0), (true, 0))
-        && is_right_reserve(alloc, heap, (3, 0), (false, 1))
-        && is_right_reserve(alloc, heap, (3, 1), (true, 1))
-        && is_right_reserve(alloc, heap, (300, 1), (true, 1))
+fn is_reserved_once(alloc: Global) -> bool {
+    is_right_reserve(alloc, (0, 0), (true, 0))
+        && is_right_reserve(alloc, (2, 0), (true, 0))
+        && is_right_reserve(alloc, (3, 0), (false, 1))
+        && is_right_reserve(alloc, (3, 1), (true, 1))
+        && is_right_reserve(alloc, (300, 1), (true, 1))
 }
 
 #[test]
 fn spare_capacity_is_reserved_once(rt: HostRuntime) {
-    let alloc = rt.alloc();
-    let heap = Refusing::new(alloc, 9);
-    assert!(rt; is_reserved_once(alloc, &heap));
+    assert!(rt; is_reserved_once(rt.alloc()));
 }
 
 /// Cuts the buffer of `PAIR` inside the pair and empties it. Whether it has the right bytes before and after each call.
@@ -734,54 +651,55 @@ fn is_new_empty<A: Allocator + Drop>(alloc: Global, heap: A) -> bool {
 }
 
 /// Whether calls that append nothing make no request.
-fn is_unasked(alloc: Global, heap: Lent<'_>) -> bool {
-    let Ok(buf) = IndexedBuf::from_units(heap, &PAIR) else {
-        return false;
-    };
+fn is_unasked(alloc: Global) -> bool {
+    let heap = Refusing::new(alloc, 9);
+    let buf = buf_of(&heap, &PAIR);
     heap.grant(0);
-    is_made_again(alloc, buf) && is_new_empty(alloc, heap) && heap.requests() == 0
+    is_made_again(alloc, buf) && is_new_empty(alloc, &heap) && heap.requests() == 0
 }
 
 #[test]
 fn calls_that_append_nothing_make_no_request(rt: HostRuntime) {
-    let heap = Refusing::new(rt.alloc(), 9);
-    assert!(rt; is_unasked(rt.alloc(), &heap));
+    assert!(rt; is_unasked(rt.alloc()));
 }
 
-/// Refuses a copy of a text. Whether it makes one request.
-fn is_uncopied<A: Allocator + Clone + Drop>(
-    heap: Lent<'_>,
-    text: &UnitText<A>,
-    refusal: Refusal,
-) -> bool {
-    heap.refuse_after(0, refusal);
-    text.clone().is_err() && heap.requests() == 1
-}
+/// A copy of a text.
+static COPY: [Made; 1] = [Made {
+    units: &[0x0061, 0xD83D],
+    text: FRONT_DUMP,
+    make: MakeText::Clone,
+    dump: FRONT_DUMP,
+    requests: 1,
+    bytes: 4,
+}];
 
-/// Refuses units pushed to a text. Whether that makes one request, and no units are pushed without one.
-fn is_unpushed<A: Allocator>(heap: Lent<'_>, text: &mut UnitText<A>, refusal: Refusal) -> bool {
-    heap.refuse_after(0, refusal);
-    let is_pushed = text.push_units(&[0xE000; 6]).is_ok();
-    let is_asked = heap.requests() == 1;
-    heap.grant(0);
-    !is_pushed && is_asked && text.push_units(&[]).is_ok() && heap.requests() == 0
-}
-
-/// Whether the text of `FRONT` is as it was after a copy, and then units pushed to it, are refused.
-fn is_text_kept(alloc: Global, heap: Lent<'_>, refusal: Refusal) -> bool {
-    heap.grant(9);
-    let Ok(mut text) = UnitText::from_units(heap, &FRONT) else {
-        return false;
-    };
-    is_uncopied(heap, &text, refusal)
-        && is_unpushed(heap, &mut text, refusal)
-        && has_text(alloc, &text, &FRONT, FRONT_DUMP)
-}
+/// Units pushed to a text with a capacity of eight bytes, for which a byte each is requested first and then what they
+/// need, and no units.
+static PUSHED: [Appended; 2] = [
+    Appended {
+        units: &[0x0061, 0xD83D],
+        dump: FRONT_DUMP,
+        append: Append::Units(&[0xE000; 6]),
+        unit_len: 8,
+        front: 3,
+        front_dump: "61 ED A0 BD EE 80 80",
+        requests: 2,
+        bytes: 16 + 32,
+    },
+    Appended {
+        units: &[0x0061, 0xD83D],
+        dump: FRONT_DUMP,
+        append: Append::Units(&[]),
+        unit_len: 2,
+        front: 2,
+        front_dump: FRONT_DUMP,
+        requests: 0,
+        bytes: 0,
+    },
+];
 
 #[test]
 fn a_text_is_unchanged_if_a_copy_or_units_are_refused(rt: HostRuntime) {
     let alloc = rt.alloc();
-    let heap = Refusing::new(alloc, 9);
-    let is_kept = is_text_kept(alloc, &heap, Refusal::ForGood);
-    assert!(rt; is_kept && is_text_kept(alloc, &heap, Refusal::Once));
+    assert!(rt; are_right(alloc, &COPY) && are_appended(alloc, &PUSHED));
 }

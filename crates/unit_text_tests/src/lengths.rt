@@ -1,43 +1,39 @@
 // Texts of each length: each call succeeds if its requests are granted, and requests no more bytes than it needs.
-use crate::shared::slice_of;
+use crate::shared::{slice_of, text_of};
 use refusing::{Lent, Refusing};
-use std::alloc::{AllocError, Global};
+use std::alloc::Global;
 use unit_text::UnitText;
 
 /// Eight units that repeat in a text: of one kind alone, or mixed.
-fn kinds() -> [[u16; 8]; 5] {
+static KINDS: [[u16; 8]; 5] = [
+    [0x0061; 8],
+    [0x3042; 8],
+    [0xDCA9; 8],
     [
-        [0x0061; 8],
-        [0x3042; 8],
-        [0xDCA9; 8],
-        [
-            0xD83D, 0xDCA9, 0xD83D, 0xDCA9, 0xD83D, 0xDCA9, 0xD83D, 0xDCA9,
-        ],
-        [
-            0x0061, 0x00E9, 0x3042, 0xD83D, 0xDCA9, 0xDCA9, 0x0020, 0xD83D,
-        ],
-    ]
-}
+        0xD83D, 0xDCA9, 0xD83D, 0xDCA9, 0xD83D, 0xDCA9, 0xD83D, 0xDCA9,
+    ],
+    [
+        0x0061, 0x00E9, 0x3042, 0xD83D, 0xDCA9, 0xDCA9, 0x0020, 0xD83D,
+    ],
+];
 
 /// Lengths in units to try besides each length from 0 to 300.
-fn long() -> [usize; 4] {
-    [1000, 5000, 20_000, 70_000]
-}
+static LONG: [usize; 4] = [1000, 5000, 20_000, 70_000];
 
 /// A unit, and lengths in units at which a text of it has about 4,096 or 65,536 bytes.
-const ABOUT_POWERS: [(u16, &[usize]); 3] = [
+static ABOUT_POWERS: [(u16, &[usize]); 3] = [
     (0x0061, &[4095, 4096, 4097, 65_535, 65_536, 65_537]),
     (0x00E9, &[2047, 2048, 2049, 32_767, 32_768, 32_769]),
     (0x3042, &[1365, 1366, 21_845, 21_846]),
 ];
 
-/// `length` units that repeat `kind`.
-fn units_of(alloc: Global, kind: &[u16; 8], length: usize) -> Result<Vec<u16>, AllocError> {
+/// `length` units that repeat `kind`; fewer if memory is refused.
+fn units_of(alloc: Global, kind: &[u16; 8], length: usize) -> Vec<u16> {
     let mut units = Vec::new(alloc);
     for at in 0..length {
-        units.push(kind[at % 8])?;
+        let _ = units.push(kind[at % 8]);
     }
-    Ok(units)
+    units
 }
 
 /// A model of the memory of a growing text: its length and capacity in bytes, and the number of requests and of the
@@ -134,41 +130,32 @@ fn is_twice<'a>(heap: Lent<'a>, text: &UnitText<Lent<'a>>) -> bool {
     front.concat(text).is_ok() && heap.requests() <= 1 && heap.bytes() <= most
 }
 
-/// Whether slices of the text of `units`, which repeat `kind`, and appending these to a copy, request what they need.
-fn is_done(alloc: Global, kind: &[u16; 8], units: &[u16]) -> bool {
-    let heap = Refusing::new(alloc, u64::MAX);
-    match UnitText::from_units(&heap, units) {
-        Ok(text) => has_slices(&heap, &text, kind, units.len()) && is_twice(&heap, &text),
-        Err(_) => false,
-    }
-}
-
-/// Whether `is_done` holds of `length` units.
+/// Whether slices of the text of `length` units that repeat `kind`, and appending these to a copy, request what they
+/// need.
 fn is_length_done(alloc: Global, kind: &[u16; 8], length: usize) -> bool {
-    match units_of(alloc, kind, length) {
-        Ok(units) => is_done(alloc, kind, &units),
-        Err(_) => false,
-    }
+    let heap = Refusing::new(alloc, u64::MAX);
+    let text = text_of(&heap, &units_of(alloc, kind, length));
+    text.unit_len() == length && has_slices(&heap, &text, kind, length) && is_twice(&heap, &text)
 }
 
 #[test]
 fn each_call_is_done_at_each_length(rt: HostRuntime) {
-    for kind in &kinds() {
+    for kind in &KINDS {
         for length in 0..=300 {
             assert!(rt; is_length_done(rt.alloc(), kind, length), "{length} units");
         }
-        for length in long() {
-            assert!(rt; is_length_done(rt.alloc(), kind, length), "{length} units");
+        for length in &LONG {
+            assert!(rt; is_length_done(rt.alloc(), kind, *length), "{length} units");
         }
     }
 }
 
 #[test]
 fn each_call_is_done_about_powers_of_two(rt: HostRuntime) {
-    for (unit, lengths) in ABOUT_POWERS {
-        for length in lengths {
+    for (unit, lengths) in &ABOUT_POWERS {
+        for length in *lengths {
             assert!(rt;
-                is_length_done(rt.alloc(), &[unit; 8], *length),
+                is_length_done(rt.alloc(), &[*unit; 8], *length),
                 "{length} units"
             );
         }

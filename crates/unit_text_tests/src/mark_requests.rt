@@ -1,13 +1,18 @@
 // The requests for memory of the marks of a text that grows.
 use refusing::{Lent, Refusing};
-use std::alloc::{AllocError, Allocator, Global};
+use std::alloc::{Allocator, Global};
 use unit_text::UnitText;
 
 /// Lengths in units of a growing text, and the number of requests for its marks up to each. The text has a mark for
 /// each multiple of 128 below its length; the list of marks has room for four at first, and then for twice that number.
-fn requests_by_length() -> [(usize, u64); 6] {
-    [(128, 0), (129, 1), (640, 1), (641, 2), (1152, 2), (1153, 3)]
-}
+static REQUESTS_BY_LENGTH: [(usize, u64); 6] = [
+    (128, 0),
+    (129, 1),
+    (640, 1),
+    (641, 2),
+    (1152, 2),
+    (1153, 3),
+];
 
 /// How a text grows.
 #[derive(Clone, Copy)]
@@ -17,40 +22,26 @@ enum Growth {
     PushStr,
 }
 
-/// Pushes `count` units of three bytes each, as characters if `is_str`.
-fn push_units<A: Allocator>(
-    text: &mut UnitText<A>,
-    count: usize,
-    is_str: bool,
-) -> Result<(), AllocError> {
+/// Pushes `count` units of three bytes each, as characters if `is_str`, except those for which memory is refused.
+fn push_units<A: Allocator>(text: &mut UnitText<A>, count: usize, is_str: bool) {
     for _ in 0..count {
-        if is_str {
-            text.push_str("あ")?;
+        let _ = if is_str {
+            text.push_str("あ")
         } else {
-            text.push(0x3042)?;
-        }
+            text.push(0x3042)
+        };
     }
-    Ok(())
 }
 
-/// Appends `count` units of three bytes each at once.
-fn append_text<A: Allocator + Drop>(
-    alloc: A,
-    text: &mut UnitText<A>,
-    count: usize,
-) -> Result<(), AllocError> {
-    let mut piece = UnitText::from_str(alloc, "")?;
-    push_units(&mut piece, count, false)?;
-    text.concat(&piece)
+/// Appends `count` units of three bytes each at once, unless memory is refused.
+fn append_text<A: Allocator + Drop>(alloc: A, text: &mut UnitText<A>, count: usize) {
+    let mut piece = UnitText::new(alloc);
+    push_units(&mut piece, count, false);
+    let _ = text.concat(&piece);
 }
 
 /// Appends `count` units of three bytes each.
-fn grow<A: Allocator + Drop>(
-    alloc: A,
-    text: &mut UnitText<A>,
-    count: usize,
-    growth: Growth,
-) -> Result<(), AllocError> {
+fn grow<A: Allocator + Drop>(alloc: A, text: &mut UnitText<A>, count: usize, growth: Growth) {
     match growth {
         Growth::Push => push_units(text, count, false),
         Growth::Concat => append_text(alloc, text, count),
@@ -67,9 +58,8 @@ fn is_requested<'a>(
     (length, requests): (usize, u64),
 ) -> bool {
     let count = length.saturating_sub(text.unit_len());
-    grow(heap, text, count, growth).is_ok()
-        && text.unit_len() == length
-        && marks.requests() == requests
+    grow(heap, text, count, growth);
+    text.unit_len() == length && marks.requests() == requests
 }
 
 /// Whether `is_requested` holds of the text at each length.
@@ -79,8 +69,8 @@ fn is_each_requested<'a>(
     text: &mut UnitText<Lent<'a>>,
     growth: Growth,
 ) -> bool {
-    for row in requests_by_length() {
-        if !is_requested(heap, marks, text, growth, row) {
+    for row in &REQUESTS_BY_LENGTH {
+        if !is_requested(heap, marks, text, growth, *row) {
             return false;
         }
     }
@@ -91,9 +81,7 @@ fn is_each_requested<'a>(
 fn is_grown(alloc: Global, growth: Growth) -> bool {
     let heap = Refusing::new(alloc, u64::MAX);
     let marks = Refusing::new(alloc, u64::MAX);
-    let Ok(mut text) = UnitText::from_units(&heap, &[]) else {
-        return false;
-    };
+    let mut text = UnitText::new(&heap);
     text.mark_units(&marks);
     is_each_requested(&heap, &marks, &mut text, growth)
 }

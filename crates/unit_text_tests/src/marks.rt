@@ -1,15 +1,13 @@
 // Texts with marks: the requests for these, and texts grown by pieces while requests are refused.
-use crate::shared::{has_units, kinds, units_of};
-use refusing::{Lent, REFUSALS, Refusal, Refusing};
-use std::alloc::{AllocError, Allocator, Global};
+use crate::shared::{KINDS, has_units, text_of, units_of};
+use refusing::{REFUSALS, Refusal, Refusing};
+use std::alloc::{Allocator, Global};
 use unit_text::UnitText;
 
 /// Unit indexes on both sides of marks.
-fn indexes() -> [usize; 14] {
-    [
-        0, 1, 126, 127, 128, 129, 130, 255, 256, 257, 384, 385, 599, 600,
-    ]
-}
+static INDEXES: [usize; 14] = [
+    0, 1, 126, 127, 128, 129, 130, 255, 256, 257, 384, 385, 599, 600,
+];
 
 /// Whether the slice from unit `begin` to before unit `end` is that part of `units`, if there is such a range.
 fn has_between<A: Allocator + Drop>(
@@ -28,11 +26,11 @@ fn has_between<A: Allocator + Drop>(
     }
 }
 
-/// Whether the text has `units`, and each slice between two of `indexes` has its part of them.
+/// Whether the text has `units`, and each slice between two of `INDEXES` has its part of them.
 fn is_found<A: Allocator + Copy + Drop>(alloc: A, text: &UnitText<A>, units: &[u16]) -> bool {
-    for end in indexes() {
-        for begin in indexes() {
-            if !has_between(alloc, text, units, begin, end) {
+    for end in &INDEXES {
+        for begin in &INDEXES {
+            if !has_between(alloc, text, units, *begin, *end) {
                 return false;
             }
         }
@@ -48,54 +46,32 @@ fn has_kind<A: Allocator + Copy + Drop>(
     kind: &[u16; 6],
     length: usize,
 ) -> bool {
-    match units_of(alloc, kind, length) {
-        Ok(units) => is_found(text_alloc, text, &units),
-        Err(_) => false,
-    }
+    is_found(text_alloc, text, &units_of(alloc, kind, length))
 }
 
 /// Six units to repeat, the number of units of a text, and of requests for its marks: one if there are any marks.
-fn requests() -> [([u16; 6], usize, u64); 5] {
-    [
-        ([0x0061; 6], 600, 0),
-        ([0x3042; 6], 0, 0),
-        ([0x3042; 6], 128, 0),
-        ([0x3042; 6], 129, 1),
-        ([0x3042; 6], 600, 1),
-    ]
-}
+static REQUESTS: [([u16; 6], usize, u64); 5] = [
+    ([0x0061; 6], 600, 0),
+    ([0x3042; 6], 0, 0),
+    ([0x3042; 6], 128, 0),
+    ([0x3042; 6], 129, 1),
+    ([0x3042; 6], 600, 1),
+];
 
-/// Whether `mark_units` makes this number of requests for the text of `units`.
-fn is_requested(heap: Lent<'_>, units: &[u16], requests: u64) -> bool {
+/// Whether `mark_units` makes this number of requests for the text of `length` units that repeat `kind`.
+fn is_requested(alloc: Global, kind: &[u16; 6], length: usize, requests: u64) -> bool {
+    let heap = Refusing::new(alloc, u64::MAX);
+    let mut text = text_of(&heap, &units_of(alloc, kind, length));
     heap.grant(u64::MAX);
-    let Ok(mut text) = UnitText::from_units(heap, units) else {
-        return false;
-    };
-    heap.grant(u64::MAX);
-    text.mark_units(heap);
-    heap.requests() == requests
-}
-
-/// Whether `is_requested` holds of `length` units that repeat `kind`.
-fn is_kind_requested(
-    alloc: Global,
-    heap: Lent<'_>,
-    kind: &[u16; 6],
-    length: usize,
-    requests: u64,
-) -> bool {
-    match units_of(alloc, kind, length) {
-        Ok(units) => is_requested(heap, &units, requests),
-        Err(_) => false,
-    }
+    text.mark_units(&heap);
+    text.unit_len() == length && heap.requests() == requests
 }
 
 #[test]
 fn marks_ask_for_what_they_need(rt: HostRuntime) {
-    let heap = Refusing::new(rt.alloc(), u64::MAX);
-    for (kind, length, requests) in requests() {
+    for (kind, length, requests) in &REQUESTS {
         assert!(rt;
-            is_kind_requested(rt.alloc(), &heap, &kind, length, requests),
+            is_requested(rt.alloc(), kind, *length, *requests),
             "{length} units"
         );
     }
@@ -128,43 +104,33 @@ fn is_left(
     piece_units: &[u16],
     granted: u64,
     refusal: Refusal,
-) -> Result<bool, AllocError> {
+) -> bool {
     let heap = Refusing::new(alloc, u64::MAX);
-    let piece = UnitText::from_units(&heap, piece_units)?;
-    let mut text = UnitText::from_units(&heap, &[])?;
+    let piece = text_of(&heap, piece_units);
+    let mut text = UnitText::new(&heap);
     heap.refuse_after(granted, refusal);
     let grown = grow(&heap, &mut text, &piece);
     heap.grant(u64::MAX);
-    Ok(has_kind(alloc, &heap, &text, kind, grown))
+    has_kind(alloc, &heap, &text, kind, grown)
 }
 
 /// Whether `is_left` holds of the kind with each number of requests granted.
-fn is_each_left(alloc: Global, kind: &[u16; 6], piece_units: &[u16]) -> bool {
+fn is_kind_left(alloc: Global, kind: &[u16; 6]) -> bool {
+    let piece_units = units_of(alloc, kind, 60);
     for granted in 0..12 {
         for refusal in REFUSALS {
-            if !matches!(
-                is_left(alloc, kind, piece_units, granted, refusal),
-                Ok(true)
-            ) {
+            if !is_left(alloc, kind, &piece_units, granted, refusal) {
                 return false;
             }
         }
     }
-    true
-}
-
-/// Whether `is_each_left` holds of pieces of 60 units.
-fn is_kind_left(alloc: Global, kind: &[u16; 6]) -> bool {
-    match units_of(alloc, kind, 60) {
-        Ok(units) => is_each_left(alloc, kind, &units),
-        Err(_) => false,
-    }
+    piece_units.len() == 60
 }
 
 #[test]
 fn refused_marks_are_left_out(rt: HostRuntime) {
     let mut row = 0usize;
-    for kind in &kinds() {
+    for kind in &KINDS {
         assert!(rt; is_kind_left(rt.alloc(), kind), "row {row}");
         row = row.wrapping_add(1);
     }

@@ -1,302 +1,389 @@
-// Refused requests for memory, and the number of bytes in requests.
-use crate::shared::{has_bytes, slice_of};
-use refusing::{Lent, Refusal, Refusing};
-use std::alloc::{Allocator, Global};
+// Requests for memory of calls on a text: their number, the bytes in them, and what a refused one leaves.
+use crate::shared::{has_bytes, has_text, slice_of, text_of};
+use refusing::{Lent, REFUSALS, Refusal, Refusing};
+use std::alloc::{AllocError, Allocator, Global};
 use unit_text::UnitText;
+use wtf8::Wtf8;
 
-/// Units of three bytes each, so that a text of them grows more than once.
-const WIDE: [u16; 6] = [0xE000; 6];
-
-/// Whether no request was made, and the text has the bytes of `dump`.
-fn is_unasked<A: Allocator>(alloc: Global, heap: Lent<'_>, text: &UnitText<A>, dump: &str) -> bool {
-    heap.requests() == 0 && has_bytes(alloc, text.as_wtf8(), dump)
+/// A call that makes a text.
+#[derive(Clone, Copy)]
+pub enum MakeText {
+    FromUnits(&'static [u16]),
+    FromStr(&'static str),
+    /// `slice_units` from one index to before another.
+    Slice(usize, usize),
+    Clone,
 }
 
-/// Whether the slice from unit `index` to before unit `index` makes no request and is empty.
-fn is_empty_slice<'a>(
-    alloc: Global,
-    heap: Lent<'a>,
-    text: &UnitText<Lent<'a>>,
-    index: usize,
-) -> bool {
-    match slice_of(heap, text, index, index) {
-        Ok(slice) => is_unasked(alloc, heap, &slice, ""),
-        Err(_) => false,
+/// A call on the text of `units`, which has the bytes of `text`, that makes a text of the bytes of `dump`.
+#[derive(Clone, Copy)]
+pub struct Made {
+    pub units: &'static [u16],
+    pub text: &'static str,
+    pub make: MakeText,
+    pub dump: &'static str,
+    /// The number of requests, and of the bytes in them. A growth is to the greatest of eight bytes, twice the capacity
+    /// and what is needed.
+    pub requests: u64,
+    pub bytes: usize,
+}
+
+/// Makes the call. Fails too if a `Slice` has no range of the text's units.
+fn make<A: Allocator + Clone + Drop>(
+    heap: A,
+    text: &UnitText<A>,
+    make: MakeText,
+) -> Result<UnitText<A>, AllocError> {
+    match make {
+        MakeText::FromUnits(units) => UnitText::from_units(heap, units),
+        MakeText::FromStr(value) => UnitText::from_str(heap, value),
+        MakeText::Slice(begin, end) => slice_of(heap, text, begin, end),
+        MakeText::Clone => text.clone(),
     }
 }
 
-/// Whether no units make an empty text, and this an empty slice, without a request.
-fn is_empty_unasked(alloc: Global, heap: Lent<'_>) -> bool {
-    match UnitText::from_units(heap, &[]) {
-        Ok(empty) => {
-            is_unasked(alloc, heap, &empty, "") && is_empty_slice(alloc, heap, &empty, 0)
+/// Refuses each request of the row's call in turn. Whether the call fails and makes no more requests.
+fn is_unmade<'a>(heap: Lent<'a>, text: &UnitText<Lent<'a>>, row: Made) -> bool {
+    for refusal in REFUSALS {
+        for granted in 0..row.requests {
+            heap.refuse_after(granted, refusal);
+            if make(heap, text, row.make).is_ok() || heap.requests() != granted.wrapping_add(1) {
+                return false;
+            }
+        }
+    }
+    true
+}
+
+/// Whether the row's call made its text, with its requests.
+fn is_made<'a>(
+    alloc: Global,
+    heap: Lent<'a>,
+    made: Result<UnitText<Lent<'a>>, AllocError>,
+    row: Made,
+) -> bool {
+    match made {
+        Ok(made) => {
+            heap.requests() == row.requests
+                && heap.bytes() == row.bytes
+                && has_bytes(alloc, made.as_wtf8(), row.dump)
         }
         Err(_) => false,
     }
 }
 
-#[test]
-fn no_units_ask_for_no_memory(rt: HostRuntime) {
-    let heap = Refusing::new(rt.alloc(), 0);
-    assert!(rt; is_empty_unasked(rt.alloc(), &heap));
+/// Whether the row's call fails at each of its requests that is refused, makes its text if `grants` requests are
+/// granted, and leaves the text of its units as it was.
+fn is_right_make(alloc: Global, row: Made, grants: u64) -> bool {
+    let heap = Refusing::new(alloc, 9);
+    let text = text_of(&heap, row.units);
+    let is_refused = is_unmade(&heap, &text, row);
+    heap.grant(grants);
+    let made = make(&heap, &text, row.make);
+    is_made(alloc, &heap, made, row) && is_refused && has_text(alloc, &text, row.units, row.text)
 }
 
-/// Whether the empty text is appended to a lead surrogate without a request.
-fn is_nothing_appended<'a>(alloc: Global, heap: Lent<'a>, lead: &mut UnitText<Lent<'a>>) -> bool {
-    heap.grant(0);
-    match UnitText::from_units(heap, &[]) {
-        Ok(empty) => lead.concat(&empty).is_ok() && is_unasked(alloc, heap, lead, "ED A0 BD"),
-        Err(_) => false,
-    }
+/// Whether `is_right_make` holds with just the requests granted that the row's call makes, and with more.
+pub fn is_right(alloc: Global, row: Made) -> bool {
+    is_right_make(alloc, row, row.requests) && is_right_make(alloc, row, 9)
 }
 
-/// Whether `is_nothing_appended` holds of the text of a lead surrogate.
-fn is_lead_kept(alloc: Global, heap: Lent<'_>) -> bool {
-    match UnitText::from_units(heap, &[0xD83D]) {
-        Ok(mut lead) => is_nothing_appended(alloc, heap, &mut lead),
-        Err(_) => false,
-    }
-}
-
-#[test]
-fn the_empty_text_asks_for_no_memory(rt: HostRuntime) {
-    let heap = Refusing::new(rt.alloc(), 9);
-    assert!(rt; is_lead_kept(rt.alloc(), &heap));
-}
-
-/// Whether the empty slice inside a pair makes no request, is empty, and leaves the text as it was.
-fn is_pair_kept(alloc: Global, heap: Lent<'_>) -> bool {
-    let Ok(text) = UnitText::from_units(heap, &[0xD83D, 0xDCA9]) else {
-        return false;
-    };
-    heap.grant(0);
-    is_empty_slice(alloc, heap, &text, 1) && has_bytes(alloc, text.as_wtf8(), "F0 9F 92 A9")
-}
-
-#[test]
-fn an_empty_slice_asks_for_no_memory(rt: HostRuntime) {
-    let heap = Refusing::new(rt.alloc(), 9);
-    assert!(rt; is_pair_kept(rt.alloc(), &heap));
-}
-
-/// A slice of the text of `units`, and what it requests.
-#[derive(Clone, Copy)]
-struct Slice {
-    units: &'static [u16],
-    /// The range of the slice, in units.
-    begin: usize,
-    end: usize,
-    /// The number of its requests, and of the bytes in them. A growth is to the greatest of eight bytes, twice the
-    /// capacity and what is needed.
-    requests: u64,
-    bytes: usize,
-}
-
-/// Slices of units of three bytes, and slices that split surrogate pairs.
-fn slices() -> [Slice; 7] {
-    [
-        Slice {
-            units: &WIDE,
-            begin: 0,
-            end: 6,
-            requests: 1,
-            bytes: 18,
-        },
-        Slice {
-            units: &WIDE,
-            begin: 3,
-            end: 6,
-            requests: 1,
-            bytes: 9,
-        },
-        Slice {
-            units: &WIDE,
-            begin: 2,
-            end: 3,
-            requests: 1,
-            bytes: 8,
-        },
-        Slice {
-            units: &WIDE,
-            begin: 3,
-            end: 3,
-            requests: 0,
-            bytes: 0,
-        },
-        Slice {
-            units: &[0xD83D, 0xDCA9],
-            begin: 1,
-            end: 2,
-            requests: 1,
-            bytes: 8,
-        },
-        Slice {
-            units: &[0xD83D, 0xDCA9, 0xD83D, 0xDCA9],
-            begin: 1,
-            end: 3,
-            requests: 1,
-            bytes: 8,
-        },
-        Slice {
-            units: &[
-                0xD83D, 0xDCA9, 0xD83D, 0xDCA9, 0xD83D, 0xDCA9, 0xD83D, 0xDCA9,
-            ],
-            begin: 1,
-            end: 7,
-            requests: 2,
-            bytes: 8 + 16,
-        },
-    ]
-}
-
-/// Whether `slice_units` succeeds just if `is_sliced`, with `granted` requests granted, and the following ones, or the
-/// next one alone, refused. The row has to have a range of the text's units.
-fn is_slice<'a>(
-    heap: Lent<'a>,
-    text: &UnitText<Lent<'a>>,
-    row: Slice,
-    (granted, refusal): (u64, Refusal),
-    is_sliced: bool,
-) -> bool {
-    if row.begin > row.end || row.end > text.unit_len() {
-        return false;
-    }
-    heap.refuse_after(granted, refusal);
-    text.slice_units(heap, row.begin, row.end).is_ok() == is_sliced
-}
-
-/// Refuses each request of the row's slice in turn. Whether the slice fails and makes no more requests.
-fn is_each_refused<'a>(
-    heap: Lent<'a>,
-    text: &UnitText<Lent<'a>>,
-    row: Slice,
-    refusal: Refusal,
-) -> bool {
-    for granted in 0..row.requests {
-        if !is_slice(heap, text, row, (granted, refusal), false)
-            || heap.requests() != granted.wrapping_add(1)
-        {
+/// Whether `is_right` holds of each row.
+pub fn are_right(alloc: Global, rows: &[Made]) -> bool {
+    for row in rows {
+        if !is_right(alloc, *row) {
             return false;
         }
     }
     true
 }
 
-/// Whether the row's slice requests what the row says, and fails at each request that is refused.
-fn is_right<'a>(heap: Lent<'a>, text: &UnitText<Lent<'a>>, row: Slice) -> bool {
-    is_each_refused(heap, text, row, Refusal::ForGood)
-        && is_each_refused(heap, text, row, Refusal::Once)
-        && is_slice(heap, text, row, (9, Refusal::Once), true)
-        && heap.requests() == row.requests
-        && heap.bytes() == row.bytes
+/// No units, and no slice of them.
+static NO_UNITS: [Made; 2] = [
+    Made {
+        units: &[],
+        text: "",
+        make: MakeText::FromUnits(&[]),
+        dump: "",
+        requests: 0,
+        bytes: 0,
+    },
+    Made {
+        units: &[],
+        text: "",
+        make: MakeText::Slice(0, 0),
+        dump: "",
+        requests: 0,
+        bytes: 0,
+    },
+];
+
+#[test]
+fn no_units_ask_for_no_memory(rt: HostRuntime) {
+    assert!(rt; are_right(rt.alloc(), &NO_UNITS));
 }
 
-/// Whether `is_right` holds of the text of the row's units.
-fn is_right_of_units(heap: Lent<'_>, row: Slice) -> bool {
-    heap.grant(9);
-    match UnitText::from_units(heap, row.units) {
-        Ok(text) => is_right(heap, &text, row),
-        Err(_) => false,
-    }
+/// The empty slice inside a pair.
+static EMPTY_SLICE: Made = Made {
+    units: &[0xD83D, 0xDCA9],
+    text: "F0 9F 92 A9",
+    make: MakeText::Slice(1, 1),
+    dump: "",
+    requests: 0,
+    bytes: 0,
+};
+
+#[test]
+fn an_empty_slice_asks_for_no_memory(rt: HostRuntime) {
+    assert!(rt; is_right(rt.alloc(), EMPTY_SLICE));
 }
+
+/// Slices of units of three bytes, and slices that split surrogate pairs.
+static SLICES: [Made; 7] = [
+    Made {
+        units: &[0xE000; 6],
+        text: "EE 80 80 EE 80 80 EE 80 80 EE 80 80 EE 80 80 EE 80 80",
+        make: MakeText::Slice(0, 6),
+        dump: "EE 80 80 EE 80 80 EE 80 80 EE 80 80 EE 80 80 EE 80 80",
+        requests: 1,
+        bytes: 18,
+    },
+    Made {
+        units: &[0xE000; 6],
+        text: "EE 80 80 EE 80 80 EE 80 80 EE 80 80 EE 80 80 EE 80 80",
+        make: MakeText::Slice(3, 6),
+        dump: "EE 80 80 EE 80 80 EE 80 80",
+        requests: 1,
+        bytes: 9,
+    },
+    Made {
+        units: &[0xE000; 6],
+        text: "EE 80 80 EE 80 80 EE 80 80 EE 80 80 EE 80 80 EE 80 80",
+        make: MakeText::Slice(2, 3),
+        dump: "EE 80 80",
+        requests: 1,
+        bytes: 8,
+    },
+    Made {
+        units: &[0xE000; 6],
+        text: "EE 80 80 EE 80 80 EE 80 80 EE 80 80 EE 80 80 EE 80 80",
+        make: MakeText::Slice(3, 3),
+        dump: "",
+        requests: 0,
+        bytes: 0,
+    },
+    Made {
+        units: &[0xD83D, 0xDCA9],
+        text: "F0 9F 92 A9",
+        make: MakeText::Slice(1, 2),
+        dump: "ED B2 A9",
+        requests: 1,
+        bytes: 8,
+    },
+    Made {
+        units: &[0xD83D, 0xDCA9, 0xD83D, 0xDCA9],
+        text: "F0 9F 92 A9 F0 9F 92 A9",
+        make: MakeText::Slice(1, 3),
+        dump: "ED B2 A9 ED A0 BD",
+        requests: 1,
+        bytes: 8,
+    },
+    Made {
+        units: &[
+            0xD83D, 0xDCA9, 0xD83D, 0xDCA9, 0xD83D, 0xDCA9, 0xD83D, 0xDCA9,
+        ],
+        text: "F0 9F 92 A9 F0 9F 92 A9 F0 9F 92 A9 F0 9F 92 A9",
+        make: MakeText::Slice(1, 7),
+        dump: "ED B2 A9 F0 9F 92 A9 F0 9F 92 A9 ED A0 BD",
+        requests: 2,
+        bytes: 8 + 16,
+    },
+];
 
 #[test]
 fn a_slice_asks_for_what_it_needs(rt: HostRuntime) {
-    let heap = Refusing::new(rt.alloc(), 9);
     let mut index = 0usize;
-    for row in slices() {
-        assert!(rt; is_right_of_units(&heap, row), "row {index}");
+    for row in &SLICES {
+        assert!(rt; is_right(rt.alloc(), *row), "row {index}");
         index = index.wrapping_add(1);
     }
 }
 
-fn is_made<A: Allocator>(alloc: A, units: &[u16]) -> bool {
-    UnitText::from_units(alloc, units).is_ok()
-}
+/// Texts of units. A byte for each unit is requested first, then what a block of up to sixteen needs, at least twice the
+/// capacity.
+static TEXTS: [Made; 2] = [
+    Made {
+        units: &[],
+        text: "",
+        make: MakeText::FromUnits(&[0xE000; 6]),
+        dump: "EE 80 80 EE 80 80 EE 80 80 EE 80 80 EE 80 80 EE 80 80",
+        requests: 2,
+        bytes: 6 + 18,
+    },
+    Made {
+        units: &[],
+        text: "",
+        make: MakeText::FromUnits(&[0xE000; 17]),
+        dump: "EE 80 80 EE 80 80 EE 80 80 EE 80 80 EE 80 80 EE 80 80 EE 80 80 EE 80 80 EE 80 80 EE 80 80 EE 80 80 EE 80 80 EE 80 80 EE 80 80 EE 80 80 EE 80 80 EE 80 80",
+        requests: 3,
+        bytes: 17 + 48 + 96,
+    },
+];
 
-/// Whether no text of the units is made with `granted` requests granted, after one more request.
-fn is_unmade(heap: Lent<'_>, units: &[u16], granted: u64, refusal: Refusal) -> bool {
-    heap.refuse_after(granted, refusal);
-    !is_made(heap, units) && heap.requests() == granted.wrapping_add(1)
-}
-
-/// Whether a text of the units makes these requests, and is not made if one of them is refused.
-fn is_asked(heap: Lent<'_>, units: &[u16], requests: u64, bytes: usize) -> bool {
-    for granted in 0..requests {
-        if !is_unmade(heap, units, granted, Refusal::ForGood)
-            || !is_unmade(heap, units, granted, Refusal::Once)
-        {
-            return false;
-        }
-    }
-    heap.grant(9);
-    is_made(heap, units) && heap.requests() == requests && heap.bytes() == bytes
-}
-
-/// A byte for each unit is requested first, then what a block of up to sixteen needs, at least twice the capacity.
 #[test]
 fn a_text_of_units_asks_for_what_it_needs(rt: HostRuntime) {
-    let heap = Refusing::new(rt.alloc(), 9);
-    let is_wide_asked = is_asked(&heap, &WIDE, 2, 6 + 18);
-    assert!(rt; is_wide_asked && is_asked(&heap, &[0xE000; 17], 3, 17 + 48 + 96));
+    assert!(rt; are_right(rt.alloc(), &TEXTS));
 }
 
-fn hundred_trails() -> [u16; 100] {
-    [0xDCA9; 100]
+/// A call that appends to a text.
+#[derive(Clone, Copy)]
+pub enum Append {
+    Units(&'static [u16]),
+    Str(&'static str),
+    /// `push_wtf8`.
+    View(&'static str),
+    /// `concat` of the text of these units.
+    Concat(&'static [u16]),
 }
 
-/// Appends 100 trail surrogates with `granted` requests granted. Whether they are appended just if `is_granted`, after
-/// one request, for the 302 bytes that are needed.
-fn is_appended<'a>(
-    heap: Lent<'a>,
-    text: &mut UnitText<Lent<'a>>,
-    (granted, refusal): (u64, Refusal),
-    is_granted: bool,
-) -> bool {
-    let Ok(trails) = UnitText::from_units(heap, &hundred_trails()) else {
-        return false;
-    };
-    heap.refuse_after(granted, refusal);
-    text.concat(&trails).is_ok() == is_granted
-        && trails.unit_len() == 100
-        && heap.requests() == 1
-        && heap.bytes() == 302
+/// A call that appends to the text of `units`, which has the bytes of `dump`.
+#[derive(Clone, Copy)]
+pub struct Appended {
+    pub units: &'static [u16],
+    pub dump: &'static str,
+    pub append: Append,
+    /// The number of units after the call, and the bytes of the first `front` of them.
+    pub unit_len: usize,
+    pub front: usize,
+    pub front_dump: &'static str,
+    /// The number of requests, and of the bytes in them.
+    pub requests: u64,
+    pub bytes: usize,
 }
 
-/// Whether the text has the 102 units of both texts if `is_granted`, and is unchanged if not.
-fn is_left<'a>(alloc: Global, heap: Lent<'a>, text: &UnitText<Lent<'a>>, is_granted: bool) -> bool {
-    if !is_granted {
-        return text.unit_len() == 2 && has_bytes(alloc, text.as_wtf8(), "61 ED A0 BD");
+/// The units of the text that the call appends, if it does.
+fn piece_of(append: Append) -> &'static [u16] {
+    match append {
+        Append::Concat(units) => units,
+        _ => &[],
     }
+}
+
+/// Makes the call, of which `piece` is the text of its `piece_of`.
+fn append_to<A: Allocator>(
+    text: &mut UnitText<A>,
+    append: Append,
+    piece: &UnitText<A>,
+) -> Result<(), AllocError> {
+    match append {
+        Append::Units(units) => text.push_units(units),
+        Append::Str(value) => text.push_str(value),
+        Append::View(value) => text.push_wtf8(Wtf8::from_str(value)),
+        Append::Concat(_) => text.concat(piece),
+    }
+}
+
+/// Whether the text has the units and the bytes that the row's call leaves.
+fn is_end<'a>(alloc: Global, heap: Lent<'a>, text: &UnitText<Lent<'a>>, row: Appended) -> bool {
     heap.grant(9);
-    match slice_of(heap, text, 0, 3) {
+    match slice_of(heap, text, 0, row.front) {
         Ok(front) => {
-            text.unit_len() == 102 && has_bytes(alloc, front.as_wtf8(), "61 F0 9F 92 A9")
+            text.unit_len() == row.unit_len && has_bytes(alloc, front.as_wtf8(), row.front_dump)
         }
         Err(_) => false,
     }
 }
 
-/// Appends 100 trail surrogates to "a" and a lead with `granted` requests granted. Whether these are enough just if
-/// `is_granted`, and a refusal leaves the text unchanged.
-fn is_right_end(alloc: Global, refused: (u64, Refusal), is_granted: bool) -> bool {
-    let heap = Refusing::new(alloc, 9);
-    let Ok(mut text) = UnitText::from_units(&heap, &[0x0061, 0xD83D]) else {
-        return false;
-    };
-    is_appended(&heap, &mut text, refused, is_granted) && is_left(alloc, &heap, &text, is_granted)
+/// Whether the row's call, after `granted` requests, made all of its own if `is_granted`, and else one more than these.
+fn is_counted(heap: Lent<'_>, row: Appended, granted: u64, is_granted: bool) -> bool {
+    if is_granted {
+        return heap.requests() == row.requests && heap.bytes() == row.bytes;
+    }
+    heap.requests() == granted.wrapping_add(1) && (row.requests > 1 || heap.bytes() == row.bytes)
 }
 
-/// Whether `is_right_end` holds if all following requests are refused, and if the next one alone is.
-fn is_right_each_end(alloc: Global, granted: u64, is_granted: bool) -> bool {
-    is_right_end(alloc, (granted, Refusal::ForGood), is_granted)
-        && is_right_end(alloc, (granted, Refusal::Once), is_granted)
+/// Makes the row's call. Whether it appends its units if its requests are all granted, and else changes nothing, makes no
+/// more requests, and appends its units if it is then made again.
+fn is_right_call<'a>(
+    alloc: Global,
+    heap: Lent<'a>,
+    text: &mut UnitText<Lent<'a>>,
+    (row, granted): (Appended, u64),
+    piece: &UnitText<Lent<'a>>,
+) -> bool {
+    let is_granted = row.requests <= granted;
+    if append_to(text, row.append, piece).is_ok() != is_granted
+        || !is_counted(heap, row, granted, is_granted)
+    {
+        return false;
+    }
+    if !is_granted {
+        let is_kept = has_text(alloc, text, row.units, row.dump);
+        heap.grant(9);
+        if !is_kept || append_to(text, row.append, piece).is_err() {
+            return false;
+        }
+    }
+    piece.unit_len() == piece_of(row.append).len() && is_end(alloc, heap, text, row)
 }
+
+/// Whether `is_right_call` holds with `granted` requests granted, and the following ones, or the next one alone, refused.
+fn is_right_append(alloc: Global, row: Appended, granted: u64, refusal: Refusal) -> bool {
+    let heap = Refusing::new(alloc, 9);
+    let mut text = text_of(&heap, row.units);
+    let piece = text_of(&heap, piece_of(row.append));
+    heap.refuse_after(granted, refusal);
+    is_right_call(alloc, &heap, &mut text, (row, granted), &piece)
+}
+
+/// Whether each row's call appends its units with just its requests granted, and with more, and changes nothing if one of
+/// them is refused.
+pub fn are_appended(alloc: Global, rows: &[Appended]) -> bool {
+    for row in rows {
+        for refusal in REFUSALS {
+            for granted in 0..=row.requests {
+                if !is_right_append(alloc, *row, granted, refusal) {
+                    return false;
+                }
+            }
+            if !is_right_append(alloc, *row, 9, refusal) {
+                return false;
+            }
+        }
+    }
+    true
+}
+
+/// The empty text, appended to a lead.
+static NOTHING: [Appended; 1] = [Appended {
+    units: &[0xD83D],
+    dump: "ED A0 BD",
+    append: Append::Concat(&[]),
+    unit_len: 1,
+    front: 1,
+    front_dump: "ED A0 BD",
+    requests: 0,
+    bytes: 0,
+}];
+
+#[test]
+fn the_empty_text_asks_for_no_memory(rt: HostRuntime) {
+    assert!(rt; are_appended(rt.alloc(), &NOTHING));
+}
+
+/// 100 trail surrogates after "a" and a lead, which need 302 bytes.
+static TRAILS: [Appended; 1] = [Appended {
+    units: &[0x0061, 0xD83D],
+    dump: "61 ED A0 BD",
+    append: Append::Concat(&[0xDCA9; 100]),
+    unit_len: 102,
+    front: 3,
+    front_dump: "61 F0 9F 92 A9",
+    requests: 1,
+    bytes: 302,
+}];
 
 #[test]
 fn a_refused_text_is_not_appended(rt: HostRuntime) {
-    let alloc = rt.alloc();
-    let is_refused = is_right_each_end(alloc, 0, false);
-    let is_granted = is_right_each_end(alloc, 1, true) && is_right_each_end(alloc, 9, true);
-    assert!(rt; is_refused && is_granted);
+    assert!(rt; are_appended(rt.alloc(), &TRAILS));
 }

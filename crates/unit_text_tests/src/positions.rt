@@ -1,30 +1,30 @@
 // Byte positions of units and back, and texts that become shorter, with marks and without.
-use crate::shared::{has_units, kinds, units_of};
-use refusing::{Lent, Refusing};
+use crate::shared::{KINDS, has_units, text_of, units_of};
+use refusing::Refusing;
 use std::alloc::{Allocator, Global};
 use unit_text::UnitText;
 
 /// "a", a surrogate pair, "é" and a lone lead surrogate: in bytes 61, F0 9F 92 A9, C3 A9 and ED A0 80.
-const UNITS: [u16; 5] = [0x0061, 0xD83D, 0xDCA9, 0x00E9, 0xD800];
+static UNITS: [u16; 5] = [0x0061, 0xD83D, 0xDCA9, 0x00E9, 0xD800];
 
 /// The byte positions of the indexes from 0 to 5 of `UNITS`. Index 2 is inside the pair, which begins at position 1.
-const POSITIONS: [usize; 6] = [0, 1, 1, 5, 7, 10];
+static POSITIONS: [usize; 6] = [0, 1, 1, 5, 7, 10];
 
 /// The numbers of units before the byte positions from 0 to 11 of `UNITS`. The last one is past the end.
-const BEFORE: [usize; 12] = [0, 1, 1, 1, 1, 3, 3, 4, 4, 4, 5, 5];
+static BEFORE: [usize; 12] = [0, 1, 1, 1, 1, 3, 3, 4, 4, 4, 5, 5];
 
 /// Whether the units have these byte positions, by both calls.
 fn is_mapped<A: Allocator>(text: &UnitText<A>) -> bool {
     let mut i = 0usize;
-    for position in POSITIONS {
-        if i > text.unit_len() || text.position_at(i) != position {
+    for position in &POSITIONS {
+        if i > text.unit_len() || text.position_at(i) != *position {
             return false;
         }
         i = i.wrapping_add(1);
     }
     let mut position = 0usize;
-    for units in BEFORE {
-        if text.unit_before(position) != units {
+    for units in &BEFORE {
+        if text.unit_before(position) != *units {
             return false;
         }
         position = position.wrapping_add(1);
@@ -34,10 +34,7 @@ fn is_mapped<A: Allocator>(text: &UnitText<A>) -> bool {
 
 /// Whether the text of `UNITS` has their byte positions.
 fn are_rounded_down(alloc: Global) -> bool {
-    match UnitText::from_units(alloc, &UNITS) {
-        Ok(text) => is_mapped(&text),
-        Err(_) => false,
-    }
+    is_mapped(&text_of(alloc, &UNITS))
 }
 
 #[test]
@@ -105,47 +102,42 @@ fn is_cut<A: Allocator>(text: &mut UnitText<A>, units: &[u16], n: usize) -> bool
     has_positions(text, units) && has_units(text, units)
 }
 
-/// Whether a text with marks has the positions of `units`, also after it is cut to `n` units and grows again.
-fn is_right(alloc: Global, units: &[u16], n: usize) -> bool {
-    let Ok(mut text) = UnitText::from_units(alloc, units) else {
-        return false;
-    };
+/// Whether a text with marks has the positions of its 600 units that repeat `kind`, also after it is cut to `n` units
+/// and grows again.
+fn is_right(alloc: Global, kind: &[u16; 6], n: usize) -> bool {
+    let units = units_of(alloc, kind, 600);
+    let mut text = text_of(alloc, &units);
     text.mark_units(alloc);
-    has_positions(&text, units) && is_cut(&mut text, units, n)
-}
-
-/// Whether `is_right` holds of 600 units that repeat `kind`, cut to `n`.
-fn is_kind_right(alloc: Global, kind: &[u16; 6], n: usize) -> bool {
-    match units_of(alloc, kind, 600) {
-        Ok(units) => is_right(alloc, &units, n),
-        Err(_) => false,
-    }
+    units.len() == 600 && has_positions(&text, &units) && is_cut(&mut text, &units, n)
 }
 
 #[test]
 fn a_long_text_has_positions_by_its_marks(rt: HostRuntime) {
-    for kind in &kinds() {
+    for kind in &KINDS {
         for n in [0, 1, 127, 128, 129, 257, 385, 599, 600] {
-            assert!(rt; is_kind_right(rt.alloc(), kind, n), "cut to {n}");
+            assert!(rt; is_right(rt.alloc(), kind, n), "cut to {n}");
         }
     }
 }
 
-/// Whether the text of `UNITS` has their positions, and its first two units once it is cut to them, without a request.
-fn is_unasked(heap: Lent<'_>) -> bool {
-    let Ok(mut text) = UnitText::from_units(heap, &UNITS) else {
-        return false;
-    };
-    heap.grant(0);
-    if text.unit_len() != 5 || !is_mapped(&text) {
+/// Whether the text of `UNITS` has their positions, and its first two units once it is cut to them.
+fn is_cut_to_two<A: Allocator>(text: &mut UnitText<A>) -> bool {
+    if text.unit_len() != 5 || !is_mapped(text) {
         return false;
     }
     text.truncate_units(2);
-    heap.requests() == 0 && has_units(&text, &[0x0061, 0xD83D])
+    has_units(text, &[0x0061, 0xD83D])
+}
+
+/// Whether `is_cut_to_two` holds of the text of `UNITS` without a request.
+fn is_unasked(alloc: Global) -> bool {
+    let heap = Refusing::new(alloc, u64::MAX);
+    let mut text = text_of(&heap, &UNITS);
+    heap.grant(0);
+    is_cut_to_two(&mut text) && heap.requests() == 0
 }
 
 #[test]
 fn positions_and_shorter_texts_request_no_memory(rt: HostRuntime) {
-    let heap = Refusing::new(rt.alloc(), u64::MAX);
-    assert!(rt; is_unasked(&heap));
+    assert!(rt; is_unasked(rt.alloc()));
 }

@@ -1,7 +1,7 @@
 // Texts that grow by single units, with marks and without, and their requests for memory refused in turn.
-use crate::shared::{has_bytes, has_units};
+use crate::shared::{has_bytes, has_units, text_of};
 use refusing::{Lent, Refusal, Refusing};
-use std::alloc::{AllocError, Allocator, Global};
+use std::alloc::{Allocator, Global};
 use unit_text::UnitText;
 
 /// A text to which 300 units are pushed.
@@ -16,54 +16,50 @@ struct Row {
 }
 
 /// If the units begin with a trail, every even index but 0 splits a surrogate pair.
-fn rows() -> [Row; 6] {
-    [
-        Row {
-            kind: [0x0061; 6],
-            is_marked: true,
-            growths: 7,
-            marks: 0,
-        },
-        Row {
-            kind: [0x3042; 6],
-            is_marked: false,
-            growths: 8,
-            marks: 0,
-        },
-        Row {
-            kind: [0x3042; 6],
-            is_marked: true,
-            growths: 8,
-            marks: 1,
-        },
-        Row {
-            kind: [0xDCA9, 0xD83D, 0xDCA9, 0xD83D, 0xDCA9, 0xD83D],
-            is_marked: true,
-            growths: 8,
-            marks: 1,
-        },
-        Row {
-            kind: [0x00E9, 0xD83D, 0xDCA9, 0x00E9, 0xD83D, 0xDCA9],
-            is_marked: true,
-            growths: 8,
-            marks: 1,
-        },
-        Row {
-            kind: [0x0061, 0x3042, 0xDCA9, 0xD83D, 0xDCA9, 0xD83D],
-            is_marked: false,
-            growths: 8,
-            marks: 0,
-        },
-    ]
-}
+static ROWS: [Row; 6] = [
+    Row {
+        kind: [0x0061; 6],
+        is_marked: true,
+        growths: 7,
+        marks: 0,
+    },
+    Row {
+        kind: [0x3042; 6],
+        is_marked: false,
+        growths: 8,
+        marks: 0,
+    },
+    Row {
+        kind: [0x3042; 6],
+        is_marked: true,
+        growths: 8,
+        marks: 1,
+    },
+    Row {
+        kind: [0xDCA9, 0xD83D, 0xDCA9, 0xD83D, 0xDCA9, 0xD83D],
+        is_marked: true,
+        growths: 8,
+        marks: 1,
+    },
+    Row {
+        kind: [0x00E9, 0xD83D, 0xDCA9, 0x00E9, 0xD83D, 0xDCA9],
+        is_marked: true,
+        growths: 8,
+        marks: 1,
+    },
+    Row {
+        kind: [0x0061, 0x3042, 0xDCA9, 0xD83D, 0xDCA9, 0xD83D],
+        is_marked: false,
+        growths: 8,
+        marks: 0,
+    },
+];
 
 /// The number of units to push.
 const LENGTH: usize = 300;
 
 /// Indexes of pushes after which a text is checked, near the ones after which a mark is added.
-fn checked() -> [usize; 7] {
-    [0, 126, 127, 128, 129, 255, 256]
-}
+static CHECKED: [usize; 7] = [0, 126, 127, 128, 129, 255, 256];
 
 /// Whether a text equals another one and has its bytes.
 fn is_same<A: Allocator>(alloc: Global, text: &UnitText<A>, other: &UnitText<A>) -> bool {
@@ -76,33 +72,18 @@ fn is_same<A: Allocator>(alloc: Global, text: &UnitText<A>, other: &UnitText<A>)
 /// Whether a text has `units` by index, and equals the text made of them at once.
 fn is_made<'a>(alloc: Global, heap: Lent<'a>, text: &UnitText<Lent<'a>>, units: &[u16]) -> bool {
     heap.grant(u64::MAX);
-    match UnitText::from_units(heap, units) {
-        Ok(other) => has_units(text, units) && is_same(alloc, text, &other),
-        Err(_) => false,
-    }
-}
-
-/// Pushes a unit to a text and, if it is not refused, to a list too. Fails if the list has no memory.
-fn push_both<A: Allocator>(
-    text: &mut UnitText<A>,
-    units: &mut Vec<u16>,
-    unit: u16,
-) -> Result<(), AllocError> {
-    if text.push(unit).is_err() {
-        return Ok(());
-    }
-    units.push(unit)?;
-    Ok(())
+    has_units(text, units) && is_same(alloc, text, &text_of(heap, units))
 }
 
 /// Pushes units that repeat `kind` to an empty text, and to `units` the ones not refused. Whether the text has them at
 /// each check.
 fn is_pushed<A: Allocator>(text: &mut UnitText<A>, units: &mut Vec<u16>, kind: &[u16; 6]) -> bool {
     for at in 0..LENGTH {
-        if push_both(text, units, kind[at % 6]).is_err() {
-            return false;
+        let unit = kind[at % 6];
+        if text.push(unit).is_ok() {
+            let _ = units.push(unit);
         }
-        if checked().contains(&at) && !has_units(text, units) {
+        if CHECKED.contains(&at) && !has_units(text, units) {
             return false;
         }
     }
@@ -129,9 +110,7 @@ fn refused_of<'a>(
 /// pushes.
 fn refused_after(alloc: Global, row: &Row, granted: u64, refusal: Refusal) -> Option<u64> {
     let heap = Refusing::new(alloc, 0);
-    let Ok(mut text) = UnitText::from_units(&heap, &[]) else {
-        return None;
-    };
+    let mut text = UnitText::new(&heap);
     if row.is_marked {
         text.mark_units(&heap);
     }
@@ -158,7 +137,7 @@ fn is_each_refused(alloc: Global, row: &Row) -> bool {
 #[test]
 fn pushed_units_are_found(rt: HostRuntime) {
     let mut index = 0usize;
-    for row in &rows() {
+    for row in &ROWS {
         assert!(rt; is_each_refused(rt.alloc(), row), "row {index}");
         index = index.wrapping_add(1);
     }

@@ -4,6 +4,30 @@ use unit_text::{IndexedBuf, UnitText};
 use wtf8::{CodePoint, IllFormedUtf16CodeUnits, Wtf8, Wtf8Buf};
 use wtf8_tests::wrong::expect_bytes;
 
+/// The text of the units, or the empty one if memory is refused.
+pub fn text_of<A: Allocator + Copy + Drop>(alloc: A, units: &[u16]) -> UnitText<A> {
+    match UnitText::from_units(alloc, units) {
+        Ok(text) => text,
+        Err(_) => UnitText::new(alloc),
+    }
+}
+
+/// An empty buffer with room for `n` bytes, or without room if memory is refused.
+pub fn with_room<A: Allocator + Copy + Drop>(heap: A, n: usize) -> IndexedBuf<A> {
+    match IndexedBuf::with_capacity(heap, n) {
+        Ok(buf) => buf,
+        Err(_) => IndexedBuf::new(heap),
+    }
+}
+
+/// The buffer of the units, or the empty one if memory is refused.
+pub fn buf_of<A: Allocator + Copy + Drop>(alloc: A, units: &[u16]) -> IndexedBuf<A> {
+    match IndexedBuf::from_units(alloc, units) {
+        Ok(buf) => buf,
+        Err(_) => IndexedBuf::new(alloc),
+    }
+}
+
 /// The slice from unit `begin` to before unit `end`. Fails if this is no range of the text's units.
 pub fn slice_of<A: Allocator + Drop>(
     alloc: A,
@@ -23,23 +47,21 @@ pub fn has_bytes(alloc: Global, text: Wtf8<'_>, dump: &str) -> bool {
 }
 
 /// Six units that repeat in a text.
-pub fn kinds() -> [[u16; 6]; 5] {
-    [
-        [0x0061; 6],
-        [0x3042; 6],
-        [0xD83D, 0xDCA9, 0xD83D, 0xDCA9, 0xD83D, 0xDCA9],
-        [0x00E9, 0xD83D, 0xDCA9, 0x00E9, 0xD83D, 0xDCA9],
-        [0x0061, 0x3042, 0xDCA9, 0xD83D, 0xDCA9, 0xD83D],
-    ]
-}
+pub static KINDS: [[u16; 6]; 5] = [
+    [0x0061; 6],
+    [0x3042; 6],
+    [0xD83D, 0xDCA9, 0xD83D, 0xDCA9, 0xD83D, 0xDCA9],
+    [0x00E9, 0xD83D, 0xDCA9, 0x00E9, 0xD83D, 0xDCA9],
+    [0x0061, 0x3042, 0xDCA9, 0xD83D, 0xDCA9, 0xD83D],
+];
 
-/// `length` units that repeat `kind`.
-pub fn units_of(alloc: Global, kind: &[u16; 6], length: usize) -> Result<Vec<u16>, AllocError> {
+/// `length` units that repeat `kind`; fewer if memory is refused.
+pub fn units_of(alloc: Global, kind: &[u16; 6], length: usize) -> Vec<u16> {
     let mut units = Vec::new(alloc);
     for at in 0..length {
-        units.push(kind[at % 6])?;
+        let _ = units.push(kind[at % 6]);
     }
-    Ok(units)
+    units
 }
 
 /// Whether the text has `units` by index, and no more.
@@ -92,12 +114,11 @@ pub fn has_units_left(mut left: IllFormedUtf16CodeUnits<'_>, units: &[u16]) -> b
     left.next().is_none()
 }
 
-/// Appends units one by one.
-pub fn push_each<A: Allocator>(buf: &mut IndexedBuf<A>, units: &[u16]) -> Result<(), AllocError> {
+/// Appends units one by one, except those for which memory is refused.
+pub fn push_each<A: Allocator>(buf: &mut IndexedBuf<A>, units: &[u16]) {
     for unit in units {
-        buf.push_unit(*unit)?;
+        let _ = buf.push_unit(*unit);
     }
-    Ok(())
 }
 
 /// A call of a buffer that appends, with what it appends.
@@ -143,8 +164,10 @@ fn push_part_of_units<A: Allocator>(
     units: &[u16],
     range: Option<(usize, usize)>,
 ) -> Result<(), AllocError> {
-    let whole = Wtf8Buf::from_ill_formed_utf16(alloc, units)?;
-    push_part(buf, whole.as_wtf8(), range)
+    match Wtf8Buf::from_ill_formed_utf16(alloc, units) {
+        Ok(whole) => push_part(buf, whole.as_wtf8(), range),
+        Err(_) => Err(AllocError),
+    }
 }
 
 /// Appends a view, or its slice where a range is given. Fails if there is no such range of its units.

@@ -1,7 +1,8 @@
 // `Debug` output of texts through a sink that refuses a write, and of a buffer.
-use std::alloc::{AllocError, Global};
+use crate::shared::buf_of;
+use std::alloc::Global;
 use std::fmt::Write;
-use unit_text::{IndexedBuf, UnitText};
+use unit_text::UnitText;
 use wtf8_tests::sinks::Sink;
 use wtf8_tests::wrong::{Failed, Wrong};
 
@@ -49,24 +50,23 @@ fn is_each_ended(alloc: Global, units: &[u16], expected: &str) -> bool {
     }
 }
 
-/// The units of a text of more than a thousand bytes, and its debug output.
-fn long_text(alloc: Global) -> Result<(Vec<u16>, String), AllocError> {
+/// The units of a text of more than a thousand bytes, and its debug output; less of them if memory is refused.
+fn long_text(alloc: Global) -> (Vec<u16>, String) {
     let mut units = Vec::new(alloc);
-    let mut expected = String::from_str(alloc, "\"")?;
+    let mut expected = String::new(alloc);
+    let _ = expected.push_str("\"");
     for _ in 0..150 {
-        units.extend_from_slice(&[0x0061, 0xDEAD, 0x3042])?;
-        expected.push_str("a\\u{DEAD}\u{3042}")?;
+        let _ = units.extend_from_slice(&[0x0061, 0xDEAD, 0x3042]);
+        let _ = expected.push_str("a\\u{DEAD}\u{3042}");
     }
-    expected.push_str("\"")?;
-    Ok((units, expected))
+    let _ = expected.push_str("\"");
+    (units, expected)
 }
 
 /// Whether `is_each_ended` holds of the long text.
 fn is_long_ended(alloc: Global) -> bool {
-    match long_text(alloc) {
-        Ok((units, expected)) => is_each_ended(alloc, &units, &expected),
-        Err(_) => false,
-    }
+    let (units, expected) = long_text(alloc);
+    units.len() == 450 && is_each_ended(alloc, &units, &expected)
 }
 
 /// Whether `is_each_ended` holds of short texts.
@@ -89,9 +89,7 @@ fn a_debug_text_ends_at_a_refused_write(rt: HostRuntime) {
 
 /// Whether the buffer of "a", a pair and a lone lead has the debug text of its view.
 fn has_debug_text(alloc: Global) -> bool {
-    let Ok(buf) = IndexedBuf::from_units(alloc, &[0x0061, 0xD83D, 0xDCA9, 0xD800]) else {
-        return false;
-    };
+    let buf = buf_of(alloc, &[0x0061, 0xD83D, 0xDCA9, 0xD800]);
     let mut sink = Sink::new(alloc, u32::MAX);
     write!(sink, "{buf:?}").is_ok() && sink.has_taken("\"a\u{1F4A9}\\u{D800}\"")
 }

@@ -8,10 +8,27 @@ use wtf8::{Build, CodePoint, Wtf8, Wtf8Buf};
 use wtf8_tests::examples::{TEXT, joined};
 use wtf8_tests::wrong::{Failed, Wrong, expect, expect_bytes, in_row};
 
+/// A building call. `build_of` adds the views and the code points that a test makes.
+#[derive(Clone, Copy)]
+enum Call {
+    /// `Build::Push` of a unit, and of a character.
+    Unit(u16),
+    Point(char),
+    Char(char),
+    Str(&'static str),
+    /// `Build::PushWtf8` of a text, and of `trails`.
+    View(&'static str),
+    Trails,
+    /// `Build::Extend` by `joining`, and by `points`.
+    Joining,
+    Points,
+    Reserve(usize),
+}
+
 /// A call on a string whose four bytes, "a" and D83D, fill its capacity.
 #[derive(Clone, Copy)]
-struct Row<'a> {
-    call: Build<'a>,
+struct Row {
+    call: Call,
     /// The bytes after the call if all its requests are granted.
     dump: &'static str,
     /// The number of bytes in its requests.
@@ -22,118 +39,130 @@ struct Row<'a> {
 
 /// Calls that make one request, to twice the capacity or to what is needed, whichever is more; then calls that make no
 /// request and leave the string unchanged; and last an extension by three code points of three bytes. Reserving three
-/// bytes grows the capacity to eight, which fits the first of these code points but not the second. `trails` has the
-/// units DCA9, DCA9 and 62.
-fn rows<'a>(
+/// bytes grows the capacity to eight, which fits the first of these code points but not the second.
+static ROWS: [Row; 17] = [
+    Row {
+        call: Call::Unit(0x0061),
+        dump: "61 ED A0 BD 61",
+        requested: 8,
+        refused: &[FULL],
+    },
+    Row {
+        call: Call::Unit(0xDCA9),
+        dump: "61 F0 9F 92 A9",
+        requested: 8,
+        refused: &[FULL],
+    },
+    Row {
+        call: Call::Unit(0xD83D),
+        dump: "61 ED A0 BD ED A0 BD",
+        requested: 8,
+        refused: &[FULL],
+    },
+    Row {
+        call: Call::Point('a'),
+        dump: "61 ED A0 BD 61",
+        requested: 8,
+        refused: &[FULL],
+    },
+    Row {
+        call: Call::Point('é'),
+        dump: "61 ED A0 BD C3 A9",
+        requested: 8,
+        refused: &[FULL],
+    },
+    Row {
+        call: Call::Point('あ'),
+        dump: "61 ED A0 BD E3 81 82",
+        requested: 8,
+        refused: &[FULL],
+    },
+    Row {
+        call: Call::Point('💩'),
+        dump: "61 ED A0 BD F0 9F 92 A9",
+        requested: 8,
+        refused: &[FULL],
+    },
+    Row {
+        call: Call::Char('💩'),
+        dump: "61 ED A0 BD F0 9F 92 A9",
+        requested: 8,
+        refused: &[FULL],
+    },
+    Row {
+        call: Call::Str(TEXT),
+        dump: "61 ED A0 BD 61 C3 A9 20 F0 9F 92 A9",
+        requested: 12,
+        refused: &[FULL],
+    },
+    Row {
+        call: Call::View("ab"),
+        dump: "61 ED A0 BD 61 62",
+        requested: 8,
+        refused: &[FULL],
+    },
+    Row {
+        call: Call::Trails,
+        dump: "61 F0 9F 92 A9 ED B2 A9 62",
+        requested: 9,
+        refused: &[FULL],
+    },
+    Row {
+        call: Call::Joining,
+        dump: "61 F0 9F 92 A9 62",
+        requested: 8,
+        refused: &[FULL],
+    },
+    Row {
+        call: Call::Reserve(1000),
+        dump: FULL,
+        requested: 1004,
+        refused: &[FULL],
+    },
+    Row {
+        call: Call::Str(""),
+        dump: FULL,
+        requested: 0,
+        refused: &[],
+    },
+    Row {
+        call: Call::View(""),
+        dump: FULL,
+        requested: 0,
+        refused: &[],
+    },
+    Row {
+        call: Call::Reserve(0),
+        dump: FULL,
+        requested: 0,
+        refused: &[],
+    },
+    Row {
+        call: Call::Points,
+        dump: "61 ED A0 BD E0 A0 80 E0 A0 80 E0 A0 80",
+        requested: 24,
+        refused: &[FULL, "61 ED A0 BD E0 A0 80"],
+    },
+];
+
+/// The call of a row. `trails` has the units DCA9, DCA9 and 62.
+fn build_of<'a>(
+    call: Call,
     trails: Wtf8<'a>,
     joining: &'a [CodePoint; 2],
     points: &'a [CodePoint; 3],
-) -> [Row<'a>; 17] {
-    let [a, e, hiragana, pile] = ['a', 'é', 'あ', '💩'].map(CodePoint::from_char);
-    [
-        Row {
-            call: Build::Push(CodePoint::from_unit(0x0061)),
-            dump: "61 ED A0 BD 61",
-            requested: 8,
-            refused: &[FULL],
-        },
-        Row {
-            call: Build::Push(joining[0]),
-            dump: "61 F0 9F 92 A9",
-            requested: 8,
-            refused: &[FULL],
-        },
-        Row {
-            call: Build::Push(CodePoint::from_unit(0xD83D)),
-            dump: "61 ED A0 BD ED A0 BD",
-            requested: 8,
-            refused: &[FULL],
-        },
-        Row {
-            call: Build::Push(a),
-            dump: "61 ED A0 BD 61",
-            requested: 8,
-            refused: &[FULL],
-        },
-        Row {
-            call: Build::Push(e),
-            dump: "61 ED A0 BD C3 A9",
-            requested: 8,
-            refused: &[FULL],
-        },
-        Row {
-            call: Build::Push(hiragana),
-            dump: "61 ED A0 BD E3 81 82",
-            requested: 8,
-            refused: &[FULL],
-        },
-        Row {
-            call: Build::Push(pile),
-            dump: "61 ED A0 BD F0 9F 92 A9",
-            requested: 8,
-            refused: &[FULL],
-        },
-        Row {
-            call: Build::PushChar('💩'),
-            dump: "61 ED A0 BD F0 9F 92 A9",
-            requested: 8,
-            refused: &[FULL],
-        },
-        Row {
-            call: Build::PushStr(TEXT),
-            dump: "61 ED A0 BD 61 C3 A9 20 F0 9F 92 A9",
-            requested: 12,
-            refused: &[FULL],
-        },
-        Row {
-            call: Build::PushWtf8(Wtf8::from_str("ab")),
-            dump: "61 ED A0 BD 61 62",
-            requested: 8,
-            refused: &[FULL],
-        },
-        Row {
-            call: Build::PushWtf8(trails),
-            dump: "61 F0 9F 92 A9 ED B2 A9 62",
-            requested: 9,
-            refused: &[FULL],
-        },
-        Row {
-            call: Build::Extend(joining),
-            dump: "61 F0 9F 92 A9 62",
-            requested: 8,
-            refused: &[FULL],
-        },
-        Row {
-            call: Build::Reserve(1000),
-            dump: FULL,
-            requested: 1004,
-            refused: &[FULL],
-        },
-        Row {
-            call: Build::PushStr(""),
-            dump: FULL,
-            requested: 0,
-            refused: &[],
-        },
-        Row {
-            call: Build::PushWtf8(Wtf8::from_str("")),
-            dump: FULL,
-            requested: 0,
-            refused: &[],
-        },
-        Row {
-            call: Build::Reserve(0),
-            dump: FULL,
-            requested: 0,
-            refused: &[],
-        },
-        Row {
-            call: Build::Extend(points),
-            dump: "61 ED A0 BD E0 A0 80 E0 A0 80 E0 A0 80",
-            requested: 24,
-            refused: &[FULL, "61 ED A0 BD E0 A0 80"],
-        },
-    ]
+) -> Build<'a> {
+    match call {
+        Call::Unit(unit) => Build::Push(CodePoint::from_unit(unit)),
+        Call::Point(c) => Build::Push(CodePoint::from_char(c)),
+        Call::Char(c) => Build::PushChar(c),
+        Call::Str(text) => Build::PushStr(text),
+        Call::View(text) => Build::PushWtf8(Wtf8::from_str(text)),
+        Call::Trails => Build::PushWtf8(trails),
+        Call::Joining => Build::Extend(joining),
+        Call::Points => Build::Extend(points),
+        Call::Reserve(additional) => Build::Reserve(additional),
+    }
 }
 
 /// Fails unless a trail surrogate is refused after "a" and D83D, an empty text is not, and the string is unchanged after
@@ -180,7 +209,7 @@ fn expect_change(
     alloc: Global,
     heap: Lent<'_>,
     change: Change<'_>,
-    row: Row<'_>,
+    row: Row,
     refusal: Option<Refusal>,
 ) -> Result<(), Failed> {
     match refusal {
@@ -196,11 +225,12 @@ fn expect_change(
 fn expect_row(
     alloc: Global,
     heap: Lent<'_>,
-    row: Row<'_>,
+    call: Build<'_>,
+    row: Row,
     refusal: Option<Refusal>,
 ) -> Result<(), Failed> {
-    expect_change(alloc, heap, Change::Method(row.call), row, refusal)?;
-    expect_change(alloc, heap, Change::Apply(row.call), row, refusal)
+    expect_change(alloc, heap, Change::Method(call), row, refusal)?;
+    expect_change(alloc, heap, Change::Apply(call), row, refusal)
 }
 
 /// Fails unless each row's call does what `expect_row` requires. `trails` has the units DCA9, DCA9 and 62.
@@ -213,8 +243,9 @@ fn expect_rows(
     let joining = [CodePoint::from_unit(0xDCA9), CodePoint::from_unit(0x62)];
     let points = [CodePoint::from_unit(0x0800); 3];
     let mut index = 0usize;
-    for row in rows(trails, &joining, &points) {
-        if let Err(failed) = expect_row(alloc, heap, row, refusal) {
+    for row in &ROWS {
+        let call = build_of(row.call, trails, &joining, &points);
+        if let Err(failed) = expect_row(alloc, heap, call, *row, refusal) {
             return in_row(index, Err(failed));
         }
         index = index.wrapping_add(1);

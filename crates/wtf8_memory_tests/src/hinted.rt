@@ -196,52 +196,50 @@ struct Upper {
 }
 
 /// The requests are for the lower hint, then for at least eight bytes and twice the capacity each time.
-fn upper_rows() -> [Upper; 6] {
-    [
-        Upper {
-            left: 0,
-            lower: 0,
-            upper: 1000,
-            requests: 0,
-            bytes: 0,
-        },
-        Upper {
-            left: 1,
-            lower: 0,
-            upper: 1000,
-            requests: 1,
-            bytes: 8,
-        },
-        Upper {
-            left: 1,
-            lower: 1,
-            upper: 1000,
-            requests: 1,
-            bytes: 8,
-        },
-        Upper {
-            left: 10,
-            lower: 10,
-            upper: 100_000,
-            requests: 3,
-            bytes: 10 + 20 + 40,
-        },
-        Upper {
-            left: 10,
-            lower: 9,
-            upper: usize::MAX,
-            requests: 3,
-            bytes: 9 + 18 + 36,
-        },
-        Upper {
-            left: 10,
-            lower: 100,
-            upper: usize::MAX,
-            requests: 1,
-            bytes: 100,
-        },
-    ]
-}
+static UPPER_ROWS: [Upper; 6] = [
+    Upper {
+        left: 0,
+        lower: 0,
+        upper: 1000,
+        requests: 0,
+        bytes: 0,
+    },
+    Upper {
+        left: 1,
+        lower: 0,
+        upper: 1000,
+        requests: 1,
+        bytes: 8,
+    },
+    Upper {
+        left: 1,
+        lower: 1,
+        upper: 1000,
+        requests: 1,
+        bytes: 8,
+    },
+    Upper {
+        left: 10,
+        lower: 10,
+        upper: 100_000,
+        requests: 3,
+        bytes: 10 + 20 + 40,
+    },
+    Upper {
+        left: 10,
+        lower: 9,
+        upper: usize::MAX,
+        requests: 3,
+        bytes: 9 + 18 + 36,
+    },
+    Upper {
+        left: 10,
+        lower: 100,
+        upper: usize::MAX,
+        requests: 1,
+        bytes: 100,
+    },
+];
 
 /// The items of a row.
 fn items_of(row: Upper, taken: &Cell<u32>) -> Hinted<'_> {
@@ -281,7 +279,8 @@ fn no_room_is_reserved_for_the_upper_hint(rt: HostRuntime) -> Result<(), Failed>
     let taken = Cell::new(0);
     let heap = Refusing::new(rt.alloc(), 0);
     let mut index = 0usize;
-    for row in upper_rows() {
+    for row in &UPPER_ROWS {
+        let row = *row;
         if let Err(failed) = expect_upper(&heap, None, row, &taken) {
             return in_row(index, Err(failed));
         }

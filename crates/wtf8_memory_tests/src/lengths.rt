@@ -6,24 +6,22 @@ use std::alloc::{AllocError, Global};
 use wtf8_tests::wrong::{Failed, Wrong, in_row};
 
 /// Eight units that repeat in a string: of one kind alone, or mixed, without lone surrogates and with some.
-fn kinds() -> [[u16; 8]; 8] {
+static KINDS: [[u16; 8]; 8] = [
+    [0x0061; 8],
+    [0x00E9; 8],
+    [0x3042; 8],
+    [0xD83D; 8],
+    [0xDCA9; 8],
     [
-        [0x0061; 8],
-        [0x00E9; 8],
-        [0x3042; 8],
-        [0xD83D; 8],
-        [0xDCA9; 8],
-        [
-            0xD83D, 0xDCA9, 0xD83D, 0xDCA9, 0xD83D, 0xDCA9, 0xD83D, 0xDCA9,
-        ],
-        [
-            0x0061, 0x00E9, 0x3042, 0xD83D, 0xDCA9, 0x07FF, 0xE000, 0x0020,
-        ],
-        [
-            0x0061, 0x00E9, 0x3042, 0xD83D, 0xDCA9, 0xDCA9, 0x0020, 0xD83D,
-        ],
-    ]
-}
+        0xD83D, 0xDCA9, 0xD83D, 0xDCA9, 0xD83D, 0xDCA9, 0xD83D, 0xDCA9,
+    ],
+    [
+        0x0061, 0x00E9, 0x3042, 0xD83D, 0xDCA9, 0x07FF, 0xE000, 0x0020,
+    ],
+    [
+        0x0061, 0x00E9, 0x3042, 0xD83D, 0xDCA9, 0xDCA9, 0x0020, 0xD83D,
+    ],
+];
 
 /// The number of lengths that `length_at` has.
 const LENGTHS: usize = 305;
@@ -40,7 +38,7 @@ fn length_at(index: usize) -> usize {
 }
 
 /// A unit, and lengths in units at which a string of it has about 4,096 or 65,536 bytes.
-const ABOUT_POWERS: [(u16, &[usize]); 3] = [
+static ABOUT_POWERS: [(u16, &[usize]); 3] = [
     (0x0061, &[4095, 4096, 4097, 65_535, 65_536, 65_537]),
     (0x00E9, &[2047, 2048, 2049, 32_767, 32_768, 32_769]),
     (0x3042, &[1365, 1366, 21_845, 21_846]),
@@ -69,28 +67,26 @@ fn sample_of<'a>(
     sample_with(alloc, heap, units)
 }
 
-fn calls() -> [Call; 18] {
-    [
-        Call::WithCapacity,
-        Call::FromStr,
-        Call::FromUnits,
-        Call::FromIter,
-        Call::Clone,
-        Call::Reserve,
-        Call::PushEach,
-        Call::PushStr,
-        Call::PushWtf8,
-        Call::JoinWtf8,
-        Call::Extend,
-        Call::ApplyExtend,
-        Call::ApplyAll,
-        Call::ToStringLossy,
-        Call::HexDump,
-        Call::AppendHexDump,
-        Call::AppendUnits,
-        Call::AppendUnitsTwice,
-    ]
-}
+static CALLS: [Call; 18] = [
+    Call::WithCapacity,
+    Call::FromStr,
+    Call::FromUnits,
+    Call::FromIter,
+    Call::Clone,
+    Call::Reserve,
+    Call::PushEach,
+    Call::PushStr,
+    Call::PushWtf8,
+    Call::JoinWtf8,
+    Call::Extend,
+    Call::ApplyExtend,
+    Call::ApplyAll,
+    Call::ToStringLossy,
+    Call::HexDump,
+    Call::AppendHexDump,
+    Call::AppendUnits,
+    Call::AppendUnitsTwice,
+];
 
 /// A model of the memory of a growing string: its length and capacity in bytes, and the number of requests and of the
 /// bytes in them. It grows to the greatest of eight bytes, twice its capacity and what is needed.
@@ -272,7 +268,8 @@ fn expect_granted<'a>(
 
 /// Fails unless each call on a sample succeeds if all is granted, with the expected number of requests and of bytes.
 fn expect_calls<'a>(heap: Lent<'a>, sample: &Sample<Lent<'a>>) -> Result<(), Failed> {
-    for call in calls() {
+    for call in &CALLS {
+        let call = *call;
         expect_granted(heap, call, sample)?;
     }
     Ok(())
@@ -295,7 +292,7 @@ fn expect_done(
 fn each_call_is_done_at_each_length(rt: HostRuntime) -> Result<(), Failed> {
     let alloc = rt.alloc();
     let heap = Refusing::new(alloc, 0);
-    for kind in &kinds() {
+    for kind in &KINDS {
         for index in 0..LENGTHS {
             let length = length_at(index);
             if let Err(failed) = expect_done(alloc, &heap, kind, length) {
@@ -310,9 +307,9 @@ fn each_call_is_done_at_each_length(rt: HostRuntime) -> Result<(), Failed> {
 fn each_call_is_done_about_powers_of_two(rt: HostRuntime) -> Result<(), Failed> {
     let alloc = rt.alloc();
     let heap = Refusing::new(alloc, 0);
-    for (unit, lengths) in ABOUT_POWERS {
-        for length in lengths {
-            if let Err(failed) = expect_done(alloc, &heap, &[unit; 8], *length) {
+    for (unit, lengths) in &ABOUT_POWERS {
+        for length in *lengths {
+            if let Err(failed) = expect_done(alloc, &heap, &[*unit; 8], *length) {
                 return in_row(*length, Err(failed));
             }
         }
@@ -322,7 +319,8 @@ fn each_call_is_done_about_powers_of_two(rt: HostRuntime) -> Result<(), Failed> 
 
 /// Fails unless each call on a sample fails at each request that is refused.
 fn expect_refusals<'a>(heap: Lent<'a>, sample: &Sample<Lent<'a>>) -> Result<(), Failed> {
-    for call in calls() {
+    for call in &CALLS {
+        let call = *call;
         let requests = expect_granted(heap, call, sample)?;
         expect_refused(heap, call, sample, requests)?;
     }
@@ -343,16 +341,15 @@ fn expect_failures(
 }
 
 /// The lengths in units at which each request is refused in turn.
-fn refused() -> [usize; 15] {
-    [0, 1, 2, 3, 8, 15, 16, 17, 31, 32, 33, 64, 100, 300, 1000]
-}
+static REFUSED: [usize; 15] = [0, 1, 2, 3, 8, 15, 16, 17, 31, 32, 33, 64, 100, 300, 1000];
 
 #[test]
 fn each_call_fails_at_each_refusal(rt: HostRuntime) -> Result<(), Failed> {
     let alloc = rt.alloc();
     let heap = Refusing::new(alloc, 0);
-    for kind in &kinds() {
-        for length in refused() {
+    for kind in &KINDS {
+        for length in &REFUSED {
+            let length = *length;
             if let Err(failed) = expect_failures(alloc, &heap, kind, length) {
                 return in_row(length, Err(failed));
             }

@@ -25,34 +25,32 @@ struct Stop {
 
 /// `every_call` makes four requests for memory: for the first push, which grows to eight bytes, for the character, for
 /// the second code point of the extension, and for the reserved 30 bytes.
-fn stops() -> [Stop; 4] {
-    [
-        Stop {
-            granted: 0,
-            done: 0,
-            taken: 0,
-            dump: "",
-        },
-        Stop {
-            granted: 1,
-            done: 4,
-            taken: 0,
-            dump: "F0 9F 92 A9 62 C3 A9 20",
-        },
-        Stop {
-            granted: 2,
-            done: 5,
-            taken: 1,
-            dump: "F0 9F 92 A9 62 C3 A9 20 F0 9F 92 A9 E0 A0 80",
-        },
-        Stop {
-            granted: 3,
-            done: 6,
-            taken: 0,
-            dump: "F0 9F 92 A9 62 C3 A9 20 F0 9F 92 A9 E0 A0 80 E0 A0 80 E0 A0 80",
-        },
-    ]
-}
+static STOPS: [Stop; 4] = [
+    Stop {
+        granted: 0,
+        done: 0,
+        taken: 0,
+        dump: "",
+    },
+    Stop {
+        granted: 1,
+        done: 4,
+        taken: 0,
+        dump: "F0 9F 92 A9 62 C3 A9 20",
+    },
+    Stop {
+        granted: 2,
+        done: 5,
+        taken: 1,
+        dump: "F0 9F 92 A9 62 C3 A9 20 F0 9F 92 A9 E0 A0 80",
+    },
+    Stop {
+        granted: 3,
+        done: 6,
+        taken: 0,
+        dump: "F0 9F 92 A9 62 C3 A9 20 F0 9F 92 A9 E0 A0 80 E0 A0 80 E0 A0 80",
+    },
+];
 
 /// Appends the first `taken` code points of the call, if it is an extension.
 fn extend_by<A: Allocator>(
@@ -103,7 +101,8 @@ fn expect_stop(
 /// Fails unless the list stops at each of its requests, refused for good or once, with the bytes of the calls before.
 fn expect_stops(alloc: Global, heap: Lent<'_>, calls: &[Build<'_>]) -> Result<(), Failed> {
     let mut row = 0usize;
-    for stop in stops() {
+    for stop in &STOPS {
+        let stop = *stop;
         if let Err(failed) = expect_made(alloc, before(alloc, calls, stop), stop.dump) {
             return in_row(row, Err(failed));
         }

@@ -20,121 +20,119 @@ struct Row {
 
 /// A growing string requests the greatest of eight bytes, twice its capacity and what is needed. A string made of units
 /// requests just its bytes, or, if there are 32 units or more and the first is ASCII, one for each unit first.
-fn rows() -> [Row; 18] {
-    [
-        Row {
-            call: Call::WithCapacity,
-            units: &[0x0061],
-            requests: 1,
-            bytes: 1,
-        },
-        Row {
-            call: Call::WithCapacity,
-            units: &[0x0061; 1000],
-            requests: 1,
-            bytes: 1000,
-        },
-        Row {
-            call: Call::FromStr,
-            units: &[0x0061],
-            requests: 1,
-            bytes: 1,
-        },
-        Row {
-            call: Call::FromUnits,
-            units: &[0x0061, 0x0062],
-            requests: 1,
-            bytes: 2,
-        },
-        Row {
-            call: Call::FromUnits,
-            units: &[0xE000, 0xE000],
-            requests: 1,
-            bytes: 6,
-        },
-        Row {
-            call: Call::FromUnits,
-            units: &[0xD83D, 0xDCA9, 0x0061],
-            requests: 1,
-            bytes: 5,
-        },
-        Row {
-            call: Call::FromUnits,
-            units: &[0xE000; 8],
-            requests: 1,
-            bytes: 24,
-        },
-        Row {
-            call: Call::FromUnits,
-            units: &[0xE000; 9],
-            requests: 1,
-            bytes: 27,
-        },
-        Row {
-            call: Call::FromUnits,
-            units: &[0xE000; 16],
-            requests: 1,
-            bytes: 48,
-        },
-        Row {
-            call: Call::FromUnits,
-            units: &[0xE000; 17],
-            requests: 1,
-            bytes: 51,
-        },
-        Row {
-            call: Call::FromUnits,
-            units: &[0x00E9; 8],
-            requests: 1,
-            bytes: 16,
-        },
-        Row {
-            call: Call::FromUnits,
-            units: &[0x00E9; 16],
-            requests: 1,
-            bytes: 32,
-        },
-        Row {
-            call: Call::FromUnits,
-            units: &[
-                0x0061, 0xE000, 0x0061, 0xE000, 0x0061, 0xE000, 0x0061, 0xE000, 0x0061, 0xE000,
-                0x0061, 0xE000, 0x0061, 0xE000, 0x0061, 0xE000,
-            ],
-            requests: 1,
-            bytes: 32,
-        },
-        Row {
-            call: Call::FromIter,
-            units: &[0xE000, 0xE000],
-            requests: 1,
-            bytes: 8,
-        },
-        Row {
-            call: Call::FromIter,
-            units: &[0xE000, 0xE000, 0xE000],
-            requests: 2,
-            bytes: 8 + 16,
-        },
-        Row {
-            call: Call::Clone,
-            units: &[0x0061, 0xD83D],
-            requests: 1,
-            bytes: 4,
-        },
-        Row {
-            call: Call::ToStringLossy,
-            units: &[0x0061, 0xD83D],
-            requests: 1,
-            bytes: 4,
-        },
-        Row {
-            call: Call::HexDump,
-            units: &[0x0061, 0xD83D],
-            requests: 1,
-            bytes: 12,
-        },
-    ]
-}
+static ROWS: [Row; 18] = [
+    Row {
+        call: Call::WithCapacity,
+        units: &[0x0061],
+        requests: 1,
+        bytes: 1,
+    },
+    Row {
+        call: Call::WithCapacity,
+        units: &[0x0061; 1000],
+        requests: 1,
+        bytes: 1000,
+    },
+    Row {
+        call: Call::FromStr,
+        units: &[0x0061],
+        requests: 1,
+        bytes: 1,
+    },
+    Row {
+        call: Call::FromUnits,
+        units: &[0x0061, 0x0062],
+        requests: 1,
+        bytes: 2,
+    },
+    Row {
+        call: Call::FromUnits,
+        units: &[0xE000, 0xE000],
+        requests: 1,
+        bytes: 6,
+    },
+    Row {
+        call: Call::FromUnits,
+        units: &[0xD83D, 0xDCA9, 0x0061],
+        requests: 1,
+        bytes: 5,
+    },
+    Row {
+        call: Call::FromUnits,
+        units: &[0xE000; 8],
+        requests: 1,
+        bytes: 24,
+    },
+    Row {
+        call: Call::FromUnits,
+        units: &[0xE000; 9],
+        requests: 1,
+        bytes: 27,
+    },
+    Row {
+        call: Call::FromUnits,
+        units: &[0xE000; 16],
+        requests: 1,
+        bytes: 48,
+    },
+    Row {
+        call: Call::FromUnits,
+        units: &[0xE000; 17],
+        requests: 1,
+        bytes: 51,
+    },
+    Row {
+        call: Call::FromUnits,
+        units: &[0x00E9; 8],
+        requests: 1,
+        bytes: 16,
+    },
+    Row {
+        call: Call::FromUnits,
+        units: &[0x00E9; 16],
+        requests: 1,
+        bytes: 32,
+    },
+    Row {
+        call: Call::FromUnits,
+        units: &[
+            0x0061, 0xE000, 0x0061, 0xE000, 0x0061, 0xE000, 0x0061, 0xE000, 0x0061, 0xE000, 0x0061,
+            0xE000, 0x0061, 0xE000, 0x0061, 0xE000,
+        ],
+        requests: 1,
+        bytes: 32,
+    },
+    Row {
+        call: Call::FromIter,
+        units: &[0xE000, 0xE000],
+        requests: 1,
+        bytes: 8,
+    },
+    Row {
+        call: Call::FromIter,
+        units: &[0xE000, 0xE000, 0xE000],
+        requests: 2,
+        bytes: 8 + 16,
+    },
+    Row {
+        call: Call::Clone,
+        units: &[0x0061, 0xD83D],
+        requests: 1,
+        bytes: 4,
+    },
+    Row {
+        call: Call::ToStringLossy,
+        units: &[0x0061, 0xD83D],
+        requests: 1,
+        bytes: 4,
+    },
+    Row {
+        call: Call::HexDump,
+        units: &[0x0061, 0xD83D],
+        requests: 1,
+        bytes: 12,
+    },
+];
 
 /// Fails unless the call succeeds if all is granted, with the requests and bytes of the row.
 fn expect_granted<'a>(heap: Lent<'a>, row: Row, sample: &Sample<Lent<'a>>) -> Result<(), Failed> {
@@ -182,8 +180,8 @@ fn expect_row(alloc: Global, heap: Lent<'_>, row: Row, is_refused: bool) -> Resu
 fn expect_rows(alloc: Global, is_refused: bool) -> Result<(), Failed> {
     let heap = Refusing::new(alloc, 0);
     let mut index = 0usize;
-    for row in rows() {
-        if let Err(failed) = expect_row(alloc, &heap, row, is_refused) {
+    for row in &ROWS {
+        if let Err(failed) = expect_row(alloc, &heap, *row, is_refused) {
             return in_row(index, Err(failed));
         }
         index = index.wrapping_add(1);

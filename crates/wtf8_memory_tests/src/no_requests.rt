@@ -16,7 +16,7 @@ const TRAIL: u16 = 0xDCA9;
 const PAIR_DUMP: &str = "F0 9F 92 A9";
 
 /// The numbers of requests granted: none, or nine.
-const GRANTS: [u64; 2] = [0, 9];
+static GRANTS: [u64; 2] = [0, 9];
 
 /// Fails if `outcome` did, or unless `grants` requests are still granted, so that none was made.
 fn expect_left(heap: Lent<'_>, grants: u64, outcome: Result<(), Failed>) -> Result<(), Failed> {
@@ -111,7 +111,8 @@ fn expect_quiet(alloc: Global, heap: Lent<'_>, quiet: Quiet) -> Result<(), Faile
 fn nothing_and_borrowed_texts_make_no_request(rt: HostRuntime) -> Result<(), Failed> {
     let alloc = rt.alloc();
     let heap = Refusing::new(alloc, 0);
-    for grants in GRANTS {
+    for grants in &GRANTS {
+        let grants = *grants;
         heap.grant(grants);
         for quiet in [Quiet::Nothing, Quiet::Made, Quiet::Borrowed] {
             expect_left(&heap, grants, expect_quiet(alloc, &heap, quiet))?;
@@ -168,7 +169,8 @@ fn expect_room_for_pair(
 /// Fails unless the pair of `expect_room_for_pair` is appended without a request.
 fn expect_quiet_pair(alloc: Global, is_list: bool) -> Result<(), Failed> {
     let heap = Refusing::new(alloc, 0);
-    for grants in GRANTS {
+    for grants in &GRANTS {
+        let grants = *grants;
         let outcome = expect_room_for_pair(alloc, &heap, grants, is_list);
         expect_left(&heap, grants, outcome)?;
     }
@@ -380,7 +382,8 @@ fn expect_text(alloc: Global, heap: Lent<'_>, has_lead: bool, grants: u64) -> Re
 fn texts_of_a_string_make_no_request(rt: HostRuntime) -> Result<(), Failed> {
     let alloc = rt.alloc();
     let heap = Refusing::new(alloc, 0);
-    for grants in GRANTS {
+    for grants in &GRANTS {
+        let grants = *grants;
         for has_lead in [false, true] {
             let outcome = expect_text(alloc, &heap, has_lead, grants);
             expect_left(&heap, grants, outcome)?;

@@ -9,16 +9,16 @@ use wtf8_tests::unit_lists::{lists, long_list};
 use wtf8_tests::wrong::{Failed, Wrong, expect, in_row};
 
 /// A lead and its trail, by which a split between them joins.
-const PAIR: [u16; 2] = [0xD83D, 0xDCA9];
+static PAIR: [u16; 2] = [0xD83D, 0xDCA9];
 
 /// Units of three bytes with a pair among them, then units of two bytes: a block of sixteen and six units more.
-const WIDE: [u16; 22] = [
+static WIDE: [u16; 22] = [
     0x3042, 0x3042, 0x3042, 0x3042, 0x3042, 0x3042, 0x3042, 0x3042, 0x3042, 0xD83D, 0xDCA9, 0x3042,
     0x00E9, 0x00E9, 0x00E9, 0x00E9, 0x00E9, 0x00E9, 0x00E9, 0x00E9, 0x00E9, 0xDC00,
 ];
 
 /// "a" and 17 units of three bytes. At most 12 units take a path of their own.
-const FEW: [u16; 18] = [
+static FEW: [u16; 18] = [
     0x0061, 0x3042, 0x3042, 0x3042, 0x3042, 0x3042, 0x3042, 0x3042, 0x3042, 0x3042, 0x3042, 0x3042,
     0x3042, 0x3042, 0x3042, 0x3042, 0x3042, 0x3042,
 ];
@@ -205,60 +205,58 @@ struct Row {
 
 /// A trail that joins requests a byte. The bytes of other units are requested at once. Each request is for the greatest of
 /// eight bytes, twice the capacity and what is needed.
-fn rows() -> [Row; 8] {
-    [
-        Row {
-            units: &[],
-            dump: FULL,
-            requests: 0,
-            bytes: 0,
-        },
-        Row {
-            units: &[0x0061],
-            dump: "61 ED A0 BD 61",
-            requests: 1,
-            bytes: 8,
-        },
-        Row {
-            units: &[0xDCA9],
-            dump: "61 F0 9F 92 A9",
-            requests: 1,
-            bytes: 8,
-        },
-        Row {
-            units: &[0xD83D],
-            dump: "61 ED A0 BD ED A0 BD",
-            requests: 1,
-            bytes: 8,
-        },
-        Row {
-            units: &[0xDCA9, 0xDCA9],
-            dump: "61 F0 9F 92 A9 ED B2 A9",
-            requests: 1,
-            bytes: 8,
-        },
-        Row {
-            units: &[0xDCA9, 0xE000, 0xE000],
-            dump: "61 F0 9F 92 A9 EE 80 80 EE 80 80",
-            requests: 2,
-            bytes: 8 + 16,
-        },
-        Row {
-            units: &[
-                0xE000, 0xE000, 0xE000, 0xE000, 0xE000, 0xE000, 0xE000, 0xE000, 0xE000,
-            ],
-            dump: "61 ED A0 BD EE 80 80 EE 80 80 EE 80 80 EE 80 80 EE 80 80 EE 80 80 EE 80 80 EE 80 80 EE 80 80",
-            requests: 1,
-            bytes: 31,
-        },
-        Row {
-            units: &[0xE000; 17],
-            dump: "61 ED A0 BD EE 80 80 EE 80 80 EE 80 80 EE 80 80 EE 80 80 EE 80 80 EE 80 80 EE 80 80 EE 80 80 EE 80 80 EE 80 80 EE 80 80 EE 80 80 EE 80 80 EE 80 80 EE 80 80 EE 80 80",
-            requests: 1,
-            bytes: 55,
-        },
-    ]
-}
+static ROWS: [Row; 8] = [
+    Row {
+        units: &[],
+        dump: FULL,
+        requests: 0,
+        bytes: 0,
+    },
+    Row {
+        units: &[0x0061],
+        dump: "61 ED A0 BD 61",
+        requests: 1,
+        bytes: 8,
+    },
+    Row {
+        units: &[0xDCA9],
+        dump: "61 F0 9F 92 A9",
+        requests: 1,
+        bytes: 8,
+    },
+    Row {
+        units: &[0xD83D],
+        dump: "61 ED A0 BD ED A0 BD",
+        requests: 1,
+        bytes: 8,
+    },
+    Row {
+        units: &[0xDCA9, 0xDCA9],
+        dump: "61 F0 9F 92 A9 ED B2 A9",
+        requests: 1,
+        bytes: 8,
+    },
+    Row {
+        units: &[0xDCA9, 0xE000, 0xE000],
+        dump: "61 F0 9F 92 A9 EE 80 80 EE 80 80",
+        requests: 2,
+        bytes: 8 + 16,
+    },
+    Row {
+        units: &[
+            0xE000, 0xE000, 0xE000, 0xE000, 0xE000, 0xE000, 0xE000, 0xE000, 0xE000,
+        ],
+        dump: "61 ED A0 BD EE 80 80 EE 80 80 EE 80 80 EE 80 80 EE 80 80 EE 80 80 EE 80 80 EE 80 80 EE 80 80",
+        requests: 1,
+        bytes: 31,
+    },
+    Row {
+        units: &[0xE000; 17],
+        dump: "61 ED A0 BD EE 80 80 EE 80 80 EE 80 80 EE 80 80 EE 80 80 EE 80 80 EE 80 80 EE 80 80 EE 80 80 EE 80 80 EE 80 80 EE 80 80 EE 80 80 EE 80 80 EE 80 80 EE 80 80 EE 80 80",
+        requests: 1,
+        bytes: 55,
+    },
+];
 
 /// A push of the units, by `push_unit` if there is one and `is_single`.
 fn push_of(units: &[u16], is_single: bool) -> Change<'_> {
@@ -298,7 +296,8 @@ fn a_push_of_units_fails_at_each_refusal_and_changes_nothing(
     let alloc = rt.alloc();
     let heap = Refusing::new(alloc, 0);
     let mut index = 0usize;
-    for row in rows() {
+    for row in &ROWS {
+        let row = *row;
         if let Err(failed) = expect_row(alloc, &heap, row, true) {
             return in_row(index, Err(failed));
         }

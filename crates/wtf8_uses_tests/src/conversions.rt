@@ -92,28 +92,25 @@ fn lone_surrogates_are_mended(rt: HostRuntime) -> Result<(), Failed> {
 const REQUESTS: u64 = 3;
 
 /// Units, and their JSON text as an engine's `JSON.stringify` returns it.
-fn json_rows() -> [(&'static [u16], &'static str); 6] {
-    [
-        (&[], "\"\""),
-        (
-            &[0x0061, 0x0022, 0x0062, 0x005C, 0x0063, 0x002F],
-            "\"a\\\"b\\\\c/\"",
-        ),
-        (
-            &[
-                0x0000, 0x0007, 0x0008, 0x0009, 0x000A, 0x000B, 0x000C, 0x000D, 0x001F, 0x0020,
-                0x007F,
-            ],
-            "\"\\u0000\\u0007\\b\\t\\n\\u000b\\f\\r\\u001f \u{7F}\"",
-        ),
-        (&[LEAD, TRAIL], "\"💩\""),
-        (&[TRAIL, LEAD], "\"\\udca9\\ud83d\""),
-        (
-            &[0x0061, 0xD800, 0x00E9, 0xDFFF, 0x2028],
-            "\"a\\ud800é\\udfff\u{2028}\"",
-        ),
-    ]
-}
+static JSON_ROWS: [(&[u16], &str); 6] = [
+    (&[], "\"\""),
+    (
+        &[0x0061, 0x0022, 0x0062, 0x005C, 0x0063, 0x002F],
+        "\"a\\\"b\\\\c/\"",
+    ),
+    (
+        &[
+            0x0000, 0x0007, 0x0008, 0x0009, 0x000A, 0x000B, 0x000C, 0x000D, 0x001F, 0x0020, 0x007F,
+        ],
+        "\"\\u0000\\u0007\\b\\t\\n\\u000b\\f\\r\\u001f \u{7F}\"",
+    ),
+    (&[LEAD, TRAIL], "\"💩\""),
+    (&[TRAIL, LEAD], "\"\\udca9\\ud83d\""),
+    (
+        &[0x0061, 0xD800, 0x00E9, 0xDFFF, 0x2028],
+        "\"a\\ud800é\\udfff\u{2028}\"",
+    ),
+];
 
 /// Fails unless the JSON text is `text`, and the one of "a" and a tab is appended to it.
 fn expect_appended<A: Allocator>(json: &mut String<A>, text: &str) -> Result<(), Failed> {
@@ -214,7 +211,7 @@ fn refused_json_text_is_cut_off(rt: HostRuntime) -> Result<(), Failed> {
 fn json_texts_are_those_of_an_engine(rt: HostRuntime) -> Result<(), Failed> {
     let alloc = rt.alloc();
     let mut row = 0usize;
-    for (units, text) in json_rows() {
+    for (units, text) in &JSON_ROWS {
         if let Err(failed) = expect_json(alloc, units, text) {
             return in_row(row, Err(failed));
         }
@@ -260,15 +257,13 @@ fn an_environment_is_one_block(rt: HostRuntime) -> Result<(), Failed> {
 }
 
 /// Two texts, and whether they are equal if the case of ASCII letters is ignored.
-fn cases() -> [(&'static str, &'static str, bool); 5] {
-    [
-        ("aZé[@", "Azé[@", true),
-        ("é", "É", false),
-        ("@", "`", false),
-        ("[", "{", false),
-        ("", "", true),
-    ]
-}
+static CASES: [(&str, &str, bool); 5] = [
+    ("aZé[@", "Azé[@", true),
+    ("é", "É", false),
+    ("@", "`", false),
+    ("[", "{", false),
+    ("", "", true),
+];
 
 /// Fails unless `is_equal` says whether `text` equals the string of `units` if the case of ASCII letters is ignored.
 fn expect_case(alloc: Global, text: Wtf8<'_>, units: &[u16], is_equal: bool) -> Result<(), Failed> {
@@ -279,12 +274,12 @@ fn expect_case(alloc: Global, text: Wtf8<'_>, units: &[u16], is_equal: bool) -> 
     expect(is_found == is_equal, Wrong::Outcome)
 }
 
-/// Fails unless each row of `cases` has two texts that are equal, or not, if the case of ASCII letters is ignored.
+/// Fails unless each row of `CASES` has two texts that are equal, or not, if the case of ASCII letters is ignored.
 fn expect_cases() -> Result<(), Failed> {
     let mut row = 0usize;
-    for (text, other, is_equal) in cases() {
+    for (text, other, is_equal) in &CASES {
         let found = eq_ignore_ascii_case(Wtf8::from_str(text), Wtf8::from_str(other));
-        if let Err(failed) = expect(found == is_equal, Wrong::Outcome) {
+        if let Err(failed) = expect(found == *is_equal, Wrong::Outcome) {
             return in_row(row, Err(failed));
         }
         row = row.wrapping_add(1);

@@ -19,21 +19,20 @@ fn moved(position: usize) -> Option<(usize, usize, usize)> {
 /// A byte position, and the place to which `moved` moves.
 type Row = (usize, Option<(usize, usize, usize)>);
 
-fn rows() -> [Row; 7] {
-    [
-        (0, Some((0, 0, 7))),
-        (1, Some((1, 1, 6))),
-        (4, Some((1, 1, 6))),
-        (5, Some((5, 3, 2))),
-        (6, Some((5, 3, 2))),
-        (7, Some((7, 4, 0))),
-        (8, None),
-    ]
-}
+static ROWS: [Row; 7] = [
+    (0, Some((0, 0, 7))),
+    (1, Some((1, 1, 6))),
+    (4, Some((1, 1, 6))),
+    (5, Some((5, 3, 2))),
+    (6, Some((5, 3, 2))),
+    (7, Some((7, 4, 0))),
+    (8, None),
+];
 
 #[test]
 fn places_are_at_boundaries() -> Result<(), Failed> {
-    for (position, place) in rows() {
+    for row in &ROWS {
+        let (position, place) = *row;
         let is_there = moved(position) == place;
         if let Err(failed) = expect(is_there, Wrong::Outcome) {
             return in_row(position, Err(failed));

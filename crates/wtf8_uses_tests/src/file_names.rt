@@ -6,7 +6,7 @@ use wtf8_tests::wrong::{Failed, Wrong, expect, expect_bytes, in_row};
 use wtf8_uses::file_names;
 
 /// The path `C:\a/b<lone trail>.tar.gz`.
-const PATH: [u16; 14] = [
+static PATH: [u16; 14] = [
     0x43, 0x3A, 0x5C, 0x61, 0x2F, 0x62, TRAIL, 0x2E, 0x74, 0x61, 0x72, 0x2E, 0x67, 0x7A,
 ];
 
@@ -198,90 +198,88 @@ struct WindowsPath {
     is_relative: bool,
 }
 
-fn windows_paths() -> [WindowsPath; 10] {
-    [
-        WindowsPath {
-            folder: "C:\\a",
-            name: "b.tar.gz",
-            whole: "C:\\a\\b.tar.gz",
-            extension: Some("gz"),
-            front: "C:/a",
-            is_relative: true,
-        },
-        WindowsPath {
-            folder: "C:\\",
-            name: "b",
-            whole: "C:\\b",
-            extension: None,
-            front: "C:\\c",
-            is_relative: false,
-        },
-        WindowsPath {
-            folder: "a\\",
-            name: "b.c d",
-            whole: "a\\b.c d",
-            extension: Some("c d"),
-            front: "a",
-            is_relative: true,
-        },
-        WindowsPath {
-            folder: "a",
-            name: "bc",
-            whole: "a\\bc",
-            extension: None,
-            front: "a/b",
-            is_relative: false,
-        },
-        WindowsPath {
-            folder: "\\\\server\\share",
-            name: "..a",
-            whole: "\\\\server\\share\\..a",
-            extension: Some("a"),
-            front: "\\\\server\\share\\..a",
-            is_relative: true,
-        },
-        WindowsPath {
-            folder: "💩",
-            name: "é.💩",
-            whole: "💩\\é.💩",
-            extension: Some("💩"),
-            front: "💩/é",
-            is_relative: false,
-        },
-        WindowsPath {
-            folder: "a\\b",
-            name: "c",
-            whole: "a\\b\\c",
-            extension: None,
-            front: "a\\b\\c\\d",
-            is_relative: false,
-        },
-        WindowsPath {
-            folder: "a\\b",
-            name: "c",
-            whole: "a\\b\\c",
-            extension: None,
-            front: "b",
-            is_relative: false,
-        },
-        WindowsPath {
-            folder: "a\\b\\",
-            name: "c.d",
-            whole: "a\\b\\c.d",
-            extension: Some("d"),
-            front: "a/b/c.d",
-            is_relative: true,
-        },
-        WindowsPath {
-            folder: "C:\\Program Files",
-            name: "x",
-            whole: "C:\\Program Files\\x",
-            extension: None,
-            front: "C:/Program Files",
-            is_relative: true,
-        },
-    ]
-}
+static WINDOWS_PATHS: [WindowsPath; 10] = [
+    WindowsPath {
+        folder: "C:\\a",
+        name: "b.tar.gz",
+        whole: "C:\\a\\b.tar.gz",
+        extension: Some("gz"),
+        front: "C:/a",
+        is_relative: true,
+    },
+    WindowsPath {
+        folder: "C:\\",
+        name: "b",
+        whole: "C:\\b",
+        extension: None,
+        front: "C:\\c",
+        is_relative: false,
+    },
+    WindowsPath {
+        folder: "a\\",
+        name: "b.c d",
+        whole: "a\\b.c d",
+        extension: Some("c d"),
+        front: "a",
+        is_relative: true,
+    },
+    WindowsPath {
+        folder: "a",
+        name: "bc",
+        whole: "a\\bc",
+        extension: None,
+        front: "a/b",
+        is_relative: false,
+    },
+    WindowsPath {
+        folder: "\\\\server\\share",
+        name: "..a",
+        whole: "\\\\server\\share\\..a",
+        extension: Some("a"),
+        front: "\\\\server\\share\\..a",
+        is_relative: true,
+    },
+    WindowsPath {
+        folder: "💩",
+        name: "é.💩",
+        whole: "💩\\é.💩",
+        extension: Some("💩"),
+        front: "💩/é",
+        is_relative: false,
+    },
+    WindowsPath {
+        folder: "a\\b",
+        name: "c",
+        whole: "a\\b\\c",
+        extension: None,
+        front: "a\\b\\c\\d",
+        is_relative: false,
+    },
+    WindowsPath {
+        folder: "a\\b",
+        name: "c",
+        whole: "a\\b\\c",
+        extension: None,
+        front: "b",
+        is_relative: false,
+    },
+    WindowsPath {
+        folder: "a\\b\\",
+        name: "c.d",
+        whole: "a\\b\\c.d",
+        extension: Some("d"),
+        front: "a/b/c.d",
+        is_relative: true,
+    },
+    WindowsPath {
+        folder: "C:\\Program Files",
+        name: "x",
+        whole: "C:\\Program Files\\x",
+        extension: None,
+        front: "C:/Program Files",
+        is_relative: true,
+    },
+];
 
 /// Whether the extension of `name` is `extension`.
 fn is_extension(name: &str, extension: Option<&str>) -> bool {
@@ -309,8 +307,8 @@ fn is_windows_path(alloc: Global, row: WindowsPath) -> Result<bool, AllocError> 
 fn paths_are_those_of_windows(rt: HostRuntime) -> Result<(), Failed> {
     let alloc = rt.alloc();
     let mut index = 0usize;
-    for row in windows_paths() {
-        let Ok(is_right) = is_windows_path(alloc, row) else {
+    for row in &WINDOWS_PATHS {
+        let Ok(is_right) = is_windows_path(alloc, *row) else {
             return Err(Failed::by(Wrong::Memory));
         };
         if let Err(failed) = expect(is_right, Wrong::Outcome) {
@@ -322,20 +320,18 @@ fn paths_are_those_of_windows(rt: HostRuntime) -> Result<(), Failed> {
 }
 
 /// Units, and the bytes of the name that they are up to the first 0.
-fn ended_rows() -> [(&'static [u16], &'static str); 4] {
-    [
-        (&[0x0061, TRAIL, 0, 0x0062, 0], "61 ED B2 A9"),
-        (&[0, 0x0061], ""),
-        (&[], ""),
-        (&[LEAD], "ED A0 BD"),
-    ]
-}
+static ENDED_ROWS: [(&[u16], &str); 4] = [
+    (&[0x0061, TRAIL, 0, 0x0062, 0], "61 ED B2 A9"),
+    (&[0, 0x0061], ""),
+    (&[], ""),
+    (&[LEAD], "ED A0 BD"),
+];
 
 #[test]
 fn a_name_ends_at_a_zero(rt: HostRuntime) -> Result<(), Failed> {
     let alloc = rt.alloc();
     let mut row = 0usize;
-    for (units, dump) in ended_rows() {
+    for (units, dump) in &ENDED_ROWS {
         let name = file_names::before_zero(alloc, units);
         if let Err(failed) = expect_made(alloc, name, dump) {
             return in_row(row, Err(failed));

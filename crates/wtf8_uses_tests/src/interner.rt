@@ -43,21 +43,19 @@ fn expect_numbers(interner: &mut Interner, first: Wtf8<'_>) -> Result<(), Failed
 }
 
 /// The bytes of each number's string, up to a number that has none.
-fn dumps() -> [Option<&'static str>; 5] {
-    [
-        Some("ED A0 BD"),
-        Some(""),
-        Some("41 61"),
-        Some("42 42"),
-        None,
-    ]
-}
+static DUMPS: [Option<&str>; 5] = [
+    Some("ED A0 BD"),
+    Some(""),
+    Some("41 61"),
+    Some("42 42"),
+    None,
+];
 
-/// Fails unless the interner has the strings of `dumps`.
+/// Fails unless the interner has the strings of `DUMPS`.
 fn expect_strings(alloc: Global, interner: &Interner) -> Result<(), Failed> {
     let mut number = 0usize;
-    for dump in dumps() {
-        if let Err(failed) = expect_string(alloc, interner, number, dump) {
+    for dump in &DUMPS {
+        if let Err(failed) = expect_string(alloc, interner, number, *dump) {
             return in_row(number, Err(failed));
         }
         number = number.wrapping_add(1);

@@ -8,69 +8,65 @@ use wtf8_tests::wrong::{Failed, Wrong, expect, in_row};
 use wtf8_uses::json_reader::{JsonCause, JsonError, read_json_string};
 
 /// A text, the units of the JSON string at its front, and the text after it.
-fn strings() -> [(&'static str, &'static [u16], &'static str); 11] {
-    [
-        ("\"\"", &[], ""),
-        ("\"a/é💩\" \"", &[0x0061, 0x002F, 0x00E9, LEAD, TRAIL], " \""),
-        (
-            "\"\\\"\\\\\\/\\b\\f\\n\\r\\t\"",
-            &[
-                0x0022, 0x005C, 0x002F, 0x0008, 0x000C, 0x000A, 0x000D, 0x0009,
-            ],
-            "",
-        ),
-        (
-            "\"\\u0000\\u001f\\u0020\\u00Ff\\uABCD\\uefEF\"",
-            &[0x0000, 0x001F, 0x0020, 0x00FF, 0xABCD, 0xEFEF],
-            "",
-        ),
-        ("\"\\ud83d\\udca9\"", &[LEAD, TRAIL], ""),
-        ("\"\\udca9\\ud83d\"", &[TRAIL, LEAD], ""),
-        ("\"\\uD83Dx\\uDca9\"", &[LEAD, 0x0078, TRAIL], ""),
-        ("\"💩\\udca9\"", &[LEAD, TRAIL, TRAIL], ""),
-        ("\" \u{7F}\u{2028}\"", &[0x0020, 0x007F, 0x2028], ""),
-        ("\"\\\\\"\"", &[0x005C], "\""),
-        ("\"\\u0041B\"é", &[0x0041, 0x0042], "é"),
-    ]
-}
+static STRINGS: [(&str, &[u16], &str); 11] = [
+    ("\"\"", &[], ""),
+    ("\"a/é💩\" \"", &[0x0061, 0x002F, 0x00E9, LEAD, TRAIL], " \""),
+    (
+        "\"\\\"\\\\\\/\\b\\f\\n\\r\\t\"",
+        &[
+            0x0022, 0x005C, 0x002F, 0x0008, 0x000C, 0x000A, 0x000D, 0x0009,
+        ],
+        "",
+    ),
+    (
+        "\"\\u0000\\u001f\\u0020\\u00Ff\\uABCD\\uefEF\"",
+        &[0x0000, 0x001F, 0x0020, 0x00FF, 0xABCD, 0xEFEF],
+        "",
+    ),
+    ("\"\\ud83d\\udca9\"", &[LEAD, TRAIL], ""),
+    ("\"\\udca9\\ud83d\"", &[TRAIL, LEAD], ""),
+    ("\"\\uD83Dx\\uDca9\"", &[LEAD, 0x0078, TRAIL], ""),
+    ("\"💩\\udca9\"", &[LEAD, TRAIL, TRAIL], ""),
+    ("\" \u{7F}\u{2028}\"", &[0x0020, 0x007F, 0x2028], ""),
+    ("\"\\\\\"\"", &[0x005C], "\""),
+    ("\"\\u0041B\"é", &[0x0041, 0x0042], "é"),
+];
 
 /// A text, the byte at which it is malformed, and the cause.
-fn malformed() -> [(&'static str, usize, JsonCause); 32] {
-    [
-        ("", 0, JsonCause::NotOpened),
-        ("a", 0, JsonCause::NotOpened),
-        ("'a'", 0, JsonCause::NotOpened),
-        ("é\"", 0, JsonCause::NotOpened),
-        ("\"", 1, JsonCause::NotClosed),
-        ("\"a", 2, JsonCause::NotClosed),
-        ("\"\\\"", 3, JsonCause::NotClosed),
-        ("\"💩\\ud83d", 11, JsonCause::NotClosed),
-        ("\"é\\", 3, JsonCause::Escape),
-        ("\"\\u", 1, JsonCause::Escape),
-        ("\"\\u12", 1, JsonCause::Escape),
-        ("\"\\u123", 1, JsonCause::Escape),
-        ("\"\\u123g\"", 1, JsonCause::Escape),
-        ("\"\\u 123\"", 1, JsonCause::Escape),
-        ("\"\\u+123\"", 1, JsonCause::Escape),
-        ("\"\\x41\"", 1, JsonCause::Escape),
-        ("\"\\U0041\"", 1, JsonCause::Escape),
-        ("\"\\\u{0}\"", 1, JsonCause::Escape),
-        ("\"\\v\"", 1, JsonCause::Escape),
-        ("\"\\1\"", 1, JsonCause::Escape),
-        ("\"\\'\"", 1, JsonCause::Escape),
-        ("\"\\ud83d\\u\"", 7, JsonCause::Escape),
-        ("\"\\ud83d\\", 7, JsonCause::Escape),
-        ("\"\\u00\\u0041\"", 1, JsonCause::Escape),
-        ("\"\\uD83\"", 1, JsonCause::Escape),
-        ("\"\\u004１\"", 1, JsonCause::Escape),
-        ("\"\\/\\é\"", 3, JsonCause::Escape),
-        ("\"a\n\"", 2, JsonCause::ControlCharacter),
-        ("\"\u{0}\"", 1, JsonCause::ControlCharacter),
-        ("\"\u{1F}\"", 1, JsonCause::ControlCharacter),
-        ("\"\t", 1, JsonCause::ControlCharacter),
-        ("\"💩\r", 5, JsonCause::ControlCharacter),
-    ]
-}
+static MALFORMED: [(&str, usize, JsonCause); 32] = [
+    ("", 0, JsonCause::NotOpened),
+    ("a", 0, JsonCause::NotOpened),
+    ("'a'", 0, JsonCause::NotOpened),
+    ("é\"", 0, JsonCause::NotOpened),
+    ("\"", 1, JsonCause::NotClosed),
+    ("\"a", 2, JsonCause::NotClosed),
+    ("\"\\\"", 3, JsonCause::NotClosed),
+    ("\"💩\\ud83d", 11, JsonCause::NotClosed),
+    ("\"é\\", 3, JsonCause::Escape),
+    ("\"\\u", 1, JsonCause::Escape),
+    ("\"\\u12", 1, JsonCause::Escape),
+    ("\"\\u123", 1, JsonCause::Escape),
+    ("\"\\u123g\"", 1, JsonCause::Escape),
+    ("\"\\u 123\"", 1, JsonCause::Escape),
+    ("\"\\u+123\"", 1, JsonCause::Escape),
+    ("\"\\x41\"", 1, JsonCause::Escape),
+    ("\"\\U0041\"", 1, JsonCause::Escape),
+    ("\"\\\u{0}\"", 1, JsonCause::Escape),
+    ("\"\\v\"", 1, JsonCause::Escape),
+    ("\"\\1\"", 1, JsonCause::Escape),
+    ("\"\\'\"", 1, JsonCause::Escape),
+    ("\"\\ud83d\\u\"", 7, JsonCause::Escape),
+    ("\"\\ud83d\\", 7, JsonCause::Escape),
+    ("\"\\u00\\u0041\"", 1, JsonCause::Escape),
+    ("\"\\uD83\"", 1, JsonCause::Escape),
+    ("\"\\u004１\"", 1, JsonCause::Escape),
+    ("\"\\/\\é\"", 3, JsonCause::Escape),
+    ("\"a\n\"", 2, JsonCause::ControlCharacter),
+    ("\"\u{0}\"", 1, JsonCause::ControlCharacter),
+    ("\"\u{1F}\"", 1, JsonCause::ControlCharacter),
+    ("\"\t", 1, JsonCause::ControlCharacter),
+    ("\"💩\r", 5, JsonCause::ControlCharacter),
+];
 
 /// Whether the text begins with a JSON string of `units`, and `rest` follows it.
 fn is_read(alloc: Global, text: Wtf8<'_>, units: &[u16], rest: &str) -> bool {
@@ -95,10 +91,10 @@ fn is_refused(alloc: Global, text: &str, position: usize, cause: JsonCause) -> b
     }
 }
 
-/// Fails unless each row of `strings` is read.
+/// Fails unless each row of `STRINGS` is read.
 fn expect_all_read(alloc: Global) -> Result<(), Failed> {
     let mut row = 0usize;
-    for (text, units, rest) in strings() {
+    for (text, units, rest) in &STRINGS {
         let is_read = is_read(alloc, Wtf8::from_str(text), units, rest);
         if let Err(failed) = expect(is_read, Wrong::Outcome) {
             return in_row(row, Err(failed));
@@ -123,8 +119,8 @@ fn strings_are_read_as_an_engine_does(rt: HostRuntime) -> Result<(), Failed> {
 fn malformed_strings_are_refused(rt: HostRuntime) -> Result<(), Failed> {
     let alloc = rt.alloc();
     let mut row = 0usize;
-    for (text, position, cause) in malformed() {
-        let is_refused = is_refused(alloc, text, position, cause);
+    for (text, position, cause) in &MALFORMED {
+        let is_refused = is_refused(alloc, text, *position, *cause);
         if let Err(failed) = expect(is_refused, Wrong::Outcome) {
             return in_row(row, Err(failed));
         }

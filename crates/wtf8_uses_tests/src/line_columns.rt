@@ -9,45 +9,42 @@ use wtf8_uses::line_columns::{LineColumns, line_column_at, lines_of, mark_at_col
 const TEXT: &str = "a\n\u{1F4A9}b\n\n\u{E9}";
 
 /// A line, a column, and the byte position and the number of units there, if there is one.
-fn columns() -> [(usize, usize, Option<(usize, usize)>); 12] {
-    [
-        (0, 0, Some((0, 0))),
-        (0, 1, Some((1, 1))),
-        (1, 0, Some((2, 2))),
-        (1, 1, Some((2, 2))),
-        (1, 2, Some((6, 4))),
-        (1, 3, Some((7, 5))),
-        (2, 0, Some((8, 6))),
-        (3, 0, Some((9, 7))),
-        (3, 1, Some((11, 8))),
-        (3, 2, None),
-        (4, 0, None),
-        (0, usize::MAX, None),
-    ]
-}
+static COLUMNS: [(usize, usize, Option<(usize, usize)>); 12] = [
+    (0, 0, Some((0, 0))),
+    (0, 1, Some((1, 1))),
+    (1, 0, Some((2, 2))),
+    (1, 1, Some((2, 2))),
+    (1, 2, Some((6, 4))),
+    (1, 3, Some((7, 5))),
+    (2, 0, Some((8, 6))),
+    (3, 0, Some((9, 7))),
+    (3, 1, Some((11, 8))),
+    (3, 2, None),
+    (4, 0, None),
+    (0, usize::MAX, None),
+];
 
 /// A byte position, and the line and the column there.
-fn positions() -> [(usize, usize, usize); 10] {
-    [
-        (0, 0, 0),
-        (1, 0, 1),
-        (2, 1, 0),
-        (5, 1, 0),
-        (6, 1, 2),
-        (7, 1, 3),
-        (8, 2, 0),
-        (9, 3, 0),
-        (10, 3, 0),
-        (11, 3, 1),
-    ]
-}
+static POSITIONS: [(usize, usize, usize); 10] = [
+    (0, 0, 0),
+    (1, 0, 1),
+    (2, 1, 0),
+    (5, 1, 0),
+    (6, 1, 2),
+    (7, 1, 3),
+    (8, 2, 0),
+    (9, 3, 0),
+    (10, 3, 0),
+    (11, 3, 1),
+];
 
 /// The number of requests for a vector that grows to ten marks.
 const REQUESTS: u64 = 3;
 
 /// Whether each line and column has its position and number of units.
 fn has_columns(lines: &LineColumns<'_, Global>) -> bool {
-    for (line, column, expected) in columns() {
+    for row in &COLUMNS {
+        let (line, column, expected) = *row;
         let mark = mark_at_column(lines, line, column);
         if mark.map(|mark| (mark.position, mark.units)) != expected {
             return false;
@@ -58,7 +55,8 @@ fn has_columns(lines: &LineColumns<'_, Global>) -> bool {
 
 /// Whether each byte position has its line and column.
 fn has_positions(lines: &LineColumns<'_, Global>) -> bool {
-    for (position, line, column) in positions() {
+    for row in &POSITIONS {
+        let (position, line, column) = *row;
         if lines.text.len() < position {
             return false;
         }

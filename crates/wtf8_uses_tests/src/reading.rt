@@ -55,16 +55,14 @@ fn expect_told<A: Allocator>(
 }
 
 /// Input bytes, and the hex dump of the string that is read, or the name of the error.
-fn rows() -> [(&'static [u8], &'static str); 6] {
-    [
-        (b"", ""),
-        (b"\x61\x00\x3D\xD8\xA9\xDC", "61 F0 9F 92 A9"),
-        (b"\xA9\xDC\x3D\xD8", "ED B2 A9 ED A0 BD"),
-        (b"\xFF\xFE\x61\x00", "EF BB BF 61"),
-        (b"\x61", "half unit"),
-        (b"\x61\x00\x3D", "half unit"),
-    ]
-}
+static ROWS: [(&[u8], &str); 6] = [
+    (b"", ""),
+    (b"\x61\x00\x3D\xD8\xA9\xDC", "61 F0 9F 92 A9"),
+    (b"\xA9\xDC\x3D\xD8", "ED B2 A9 ED A0 BD"),
+    (b"\xFF\xFE\x61\x00", "EF BB BF 61"),
+    (b"\x61", "half unit"),
+    (b"\x61\x00\x3D", "half unit"),
+];
 
 /// Fails unless reading pieces of at most `most` bytes, with one interruption, gives `expected` in `calls` calls.
 fn expect_read(
@@ -99,7 +97,7 @@ fn expect_read_in_pieces(alloc: Global, bytes: &[u8], expected: &str) -> Result<
 fn pieces_of_any_size_are_one_input(rt: HostRuntime) -> Result<(), Failed> {
     let alloc = rt.alloc();
     let mut row = 0usize;
-    for (bytes, expected) in rows() {
+    for (bytes, expected) in &ROWS {
         if let Err(failed) = expect_read_in_pieces(alloc, bytes, expected) {
             return in_row(row, Err(failed));
         }
@@ -124,14 +122,12 @@ fn is_handed_on(
 }
 
 /// The number of bytes not read when the reader fails, the number of its calls, and the result of reading the rest.
-fn failing_rows() -> [(usize, u32, &'static str); 4] {
-    [
-        (6, 1, "61 62 63"),
-        (5, 2, "half unit"),
-        (2, 5, "63"),
-        (0, 7, ""),
-    ]
-}
+static FAILING_ROWS: [(usize, u32, &str); 4] = [
+    (6, 1, "61 62 63"),
+    (5, 2, "half unit"),
+    (2, 5, "63"),
+    (0, 7, ""),
+];
 
 /// Fails unless the error is returned after `calls` calls, with `failing` bytes unread, which then give `left`.
 fn expect_handed_on(
@@ -154,15 +150,15 @@ fn expect_handed_on(
     expect_told(alloc, read_utf16(alloc, &mut reader), left)
 }
 
-/// Fails unless the error is returned in each of `failing_rows`.
+/// Fails unless the error is returned in each of `FAILING_ROWS`.
 fn expect_all_handed_on(
     alloc: Global,
     error: io::Error,
     number: Option<i32>,
 ) -> Result<(), Failed> {
     let mut index = 0usize;
-    for row in failing_rows() {
-        if let Err(failed) = expect_handed_on(alloc, error, number, row) {
+    for row in &FAILING_ROWS {
+        if let Err(failed) = expect_handed_on(alloc, error, number, *row) {
             return in_row(index, Err(failed));
         }
         index = index.wrapping_add(1);
