@@ -41,7 +41,8 @@ const REPEATED: [(&[u16], usize); 8] = [
 /// Numbers of repetitions: up to several blocks, then more than are added up at once.
 fn times() -> [usize; 26] {
     [
-        0, 1, 2, 3, 4, 5, 6, 7, 8, 9, 10, 11, 15, 16, 17, 18, 20, 21, 31, 32, 33, 34, 65, 16_384, 16_385, 40_000,
+        0, 1, 2, 3, 4, 5, 6, 7, 8, 9, 10, 11, 15, 16, 17, 18, 20, 21, 31, 32, 33, 34, 65, 16_384,
+        16_385, 40_000,
     ]
 }
 
@@ -70,12 +71,7 @@ fn each_kind_of_unit_is_counted(_rt: HostRuntime) -> Result<(), Failed> {
 }
 
 /// Fails unless the repetitions have the number of bytes that they must, after up to three letters.
-fn expect_repeated(
-    alloc: Global,
-    units: &[u16],
-    len: usize,
-    times: usize,
-) -> Result<(), Failed> {
+fn expect_repeated(alloc: Global, units: &[u16], len: usize, times: usize) -> Result<(), Failed> {
     for front in 0..4_usize {
         let all = made(repeated(alloc, front, units, times))?;
         let whole = front.wrapping_add(len.wrapping_mul(times));

@@ -128,8 +128,8 @@ impl<A: Allocator> Wtf8Buf<A> {
         Ok(from_well_formed(bytes, Utf8Prefix::ALL))
     }
 
-    /// Makes the string with the code units `v`, paired or not. Reserves a byte for each unit first, and does not
-    /// allocate if `v` is empty. Linear in the number of units.
+    /// Makes the string with the code units `v`, paired or not, without spare capacity. Requests memory at most twice,
+    /// and does not allocate if `v` is empty. Linear in the number of units.
     ///
     /// ```
     /// use std::alloc::{AllocError, Global};
@@ -321,8 +321,8 @@ impl<A: Allocator> Wtf8Buf<A> {
     }
 
     /// Appends 16-bit code units, paired or not. A trail surrogate at their front completes a lead surrogate at the
-    /// end. If memory is refused, the string is unchanged. Reserves a byte for each unit first; grows like `push` from
-    /// there on. Amortized linear in the number of units.
+    /// end. If memory is refused, the string is unchanged. Units that do not fit are counted, so that their bytes are
+    /// reserved at once. Amortized linear in the number of units.
     #[inline(always)]
     pub fn push_ill_formed_utf16(&mut self, v: &[u16]) -> Result<(), AllocError>
         ensures ok { OnOk result (AppendsUnits self.old v.now self.new) }
