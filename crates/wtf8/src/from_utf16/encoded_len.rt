@@ -6,14 +6,10 @@ ghost use Rattle.wtf8.specs.private.EncodedLengths.{more_bytes, IsCounted};
 ghost use Rattle.wtf8.specs.private.Prefixes.{HasRoomAfter};
 
 use crate::codec::code_point::{LEAD_KIND, SURROGATES_PER_HALF, TRAIL_KIND};
+use crate::from_utf16::{BLOCK_UNITS, QUARTER_BLOCK};
 use crate::vec::spare_capacity;
 use std::alloc::{AllocError, Allocator};
 use std::simd::prelude::*;
-
-/// The units that are counted at once, and fewer at the end.
-const BLOCK: usize = 16;
-
-const LAST_BLOCK: usize = 4;
 
 /// The most units whose lanes are added before they are summed up: a unit adds at most 2 to a sum of 16 bits.
 const SUMMED_UNITS: usize = 16384;
@@ -92,11 +88,11 @@ pub fn encoded_len(units: &[u16]) -> usize
     ensures { (w : List ℕ) → IsForm w units.now → result ≡ length w }
 {
     let mut counted = Counted { at: 0, len: 0 };
-    while BLOCK < units.len() - counted.at {
-        counted = count_blocks::<BLOCK>(units, counted);
+    while BLOCK_UNITS < units.len() - counted.at {
+        counted = count_blocks::<BLOCK_UNITS>(units, counted);
     }
-    if LAST_BLOCK < units.len() - counted.at {
-        counted = count_blocks::<LAST_BLOCK>(units, counted);
+    if QUARTER_BLOCK < units.len() - counted.at {
+        counted = count_blocks::<QUARTER_BLOCK>(units, counted);
     }
     while counted.at < units.len() {
         counted = Counted {

@@ -23,19 +23,9 @@ ghost use Rattle.wtf8.specs.private.PackedUnits.{tagged_units, tagged_block, sca
 
 use crate::codec::code_point::{FIRST_LEAD, LEAD_KIND, SURROGATES_PER_HALF, TRAIL_KIND};
 use crate::from_utf16::encoded_len::{Growth, make_room};
-use crate::from_utf16::shuffle_table;
+use crate::from_utf16::{BLOCK_UNITS, HALF_BLOCK, QUARTER_BLOCK, shuffle_table};
 use std::alloc::{AllocError, Allocator};
 use std::simd::prelude::*;
-
-/// The number of units that are encoded together: the 16-bit lanes of a vector of 32 bytes, or of two of 16.
-pub(crate) const BLOCK_UNITS: usize = 16;
-
-const HALF_BLOCK: usize = BLOCK_UNITS / 2;
-
-const QUARTER_BLOCK: usize = BLOCK_UNITS / 4;
-
-/// The least number of the last units, fewer than a block, that are encoded as one.
-pub(crate) const LAST_UNITS: usize = QUARTER_BLOCK;
 
 /// The bytes that a block needs in the scratch buffer: at most 12 for each of three quarters, then a store of 16.
 pub(crate) const MIN_SPARE: usize = 52;
@@ -254,7 +244,7 @@ fn copy_by_ends<const N: usize>(units: &[u16], block: &mut [u16])
 
 #[inline(always)]
 fn padded(units: &[u16]) -> u16x16
-    requires least { LAST_UNITS ≤ length units.now }
+    requires least { QUARTER_BLOCK ≤ length units.now }
     requires most { length units.now < BLOCK_UNITS }
     ensures { result ≡ units.now ++ replicate (16 - length units.now) 0 }
 {
@@ -271,7 +261,7 @@ fn padded(units: &[u16]) -> u16x16
 /// zero, which is left out. Returns the index after the other bytes, and whether no unit is a lone surrogate.
 #[inline(always)]
 fn write_last_block(units: &[u16], scratch: &mut [u8], len: usize) -> (usize, bool)
-    requires least { LAST_UNITS ≤ length units.now }
+    requires least { QUARTER_BLOCK ≤ length units.now }
     requires most { length units.now < BLOCK_UNITS }
     requires room { len + MIN_SPARE ≤ length scratch.old }
     ensures within { result.0 ≤ len + MAX_BLOCK_BYTES }
@@ -283,10 +273,10 @@ fn write_last_block(units: &[u16], scratch: &mut [u8], len: usize) -> (usize, bo
 }
 
 /// Encodes the number of blocks that has units and room whatever the units are, so that no turn compares either, then
-/// `LAST_UNITS` or more that are left at the end. Returns the number of bytes, and how far units are encoded.
+/// `QUARTER_BLOCK` or more that are left at the end. Returns the number of bytes, and how far units are encoded.
 #[inline(always)]
 fn write_blocks(v: &[u16], at: usize, scratch: &mut [u8]) -> (usize, Progress)
-    requires units { at + LAST_UNITS ≤ length v.now }
+    requires units { at + QUARTER_BLOCK ≤ length v.now }
     requires room { MIN_SPARE ≤ length scratch.old }
     ensures order { at < result.1.at }
     ensures within { result.0 ≤ length scratch.new }
@@ -304,7 +294,7 @@ fn write_blocks(v: &[u16], at: usize, scratch: &mut [u8]) -> (usize, Progress)
         to.is_utf8 &= written.is_utf8;
     }
     let left = v.len() - to.at;
-    if LAST_UNITS <= left && left < BLOCK_UNITS && len + MIN_SPARE <= scratch.len() {
+    if QUARTER_BLOCK <= left && left < BLOCK_UNITS && len + MIN_SPARE <= scratch.len() {
         let (end, is_utf8) = write_last_block(&v[to.at..], scratch, len);
         let all = Progress {
             at: v.len(),
@@ -315,7 +305,7 @@ fn write_blocks(v: &[u16], at: usize, scratch: &mut [u8]) -> (usize, Progress)
     (len, to)
 }
 
-/// Appends blocks through a scratch buffer, until fewer than `LAST_UNITS` are left or ASCII follows a full buffer. A
+/// Appends blocks through a scratch buffer, until fewer than `QUARTER_BLOCK` are left or ASCII follows a full buffer. A
 /// full buffer is appended and filled again, without being zeroed anew.
 #[inline(always)]
 pub(crate) fn append_blocks<const SCRATCH: usize, A: Allocator>(
@@ -325,7 +315,7 @@ pub(crate) fn append_blocks<const SCRATCH: usize, A: Allocator>(
     growth: Growth,
 ) -> Result<Progress, AllocError>
     requires room { (MIN_SPARE ≤ SCRATCH) × (SCRATCH < 2 ^ 16) }
-    requires within { from.at + LAST_UNITS ≤ length v.now }
+    requires within { from.at + QUARTER_BLOCK ≤ length v.now }
     ensures order { IfOk result (λ to. (from.at < to.at) × (to.at ≤ length v.now)) }
     ensures read { IfOk result (λ to. ReadsOn bytes.old.items bytes.new.items v.now from.at from.is_utf8 to.at to.is_utf8) }
     ensures begins { take (length bytes.old.items) bytes.new.items ≡ bytes.old.items }
@@ -341,7 +331,7 @@ pub(crate) fn append_blocks<const SCRATCH: usize, A: Allocator>(
         bytes.extend_from_slice(&scratch[..len])?;
         read.at = to.at;
         read.is_utf8 &= to.is_utf8;
-        if v.len() - read.at < LAST_UNITS || v[read.at] < 0x80 {
+        if v.len() - read.at < QUARTER_BLOCK || v[read.at] < 0x80 {
             return Ok(read);
         }
     }

@@ -1,36 +1,27 @@
-// Encodes code units in steps, by what the next units are: an ASCII run of up to 32, 16, 8 or 4 units and the code
-// point after it, blocks of `kernel`, or one code point. `decode_utf16` decodes the last ones, fewer than `LAST_UNITS`.
+// Encodes code units in steps, by what the next units are: an ASCII run and the code point after it, blocks of `kernel`,
+// or one code point. `decode_utf16` decodes the last ones, fewer than `QUARTER_BLOCK`.
 ghost use Rattle.std.specs.Prelude.{◌≡◌, ℕ, Bool, List, [], ◌++◌, ◌+◌, ◌^◌, ◌<◌, ◌≤◌, length, take, map, min, vec_capacity, IfOk, IsOk};
 ghost use Rattle.wtf8.specs.private.Prefixes.{IsKnownForm, IsReadTo, ReadsOn, HasRoomFrom};
 
 use crate::codec::code_point::CodePoint;
 use crate::codec::encoding;
-use crate::from_utf16::decode;
 use crate::from_utf16::encoded_len::{Growth, make_room};
 use crate::from_utf16::few::{self, FEW_UNITS};
-use crate::from_utf16::kernel::{self, LAST_UNITS, MIN_SPARE, Progress};
+use crate::from_utf16::kernel::{self, MIN_SPARE, Progress};
+use crate::from_utf16::{BLOCK_UNITS, HALF_BLOCK, QUARTER_BLOCK, TWO_BLOCKS, decode};
 use crate::lanes::ascii::first_not_ascii;
 use crate::vec::spare_capacity;
 use std::alloc::{AllocError, Allocator};
 use std::simd::prelude::*;
 
-/// The number of units that are searched for an ASCII run at once while that number is left; below, while fewer are.
-const LONG_RUN: usize = 32;
-
-const MEDIUM_RUN: usize = LONG_RUN / 2;
-
-const SMALL_RUN: usize = MEDIUM_RUN / 2;
-
-const SHORT_RUN: usize = SMALL_RUN / 2;
-
-/// With at least this number of `LONG_RUN` units not ASCII, blocks are cheaper than runs. With 5 in place of 4, text with
+/// With at least this number of `TWO_BLOCKS` units not ASCII, blocks are cheaper than runs. With 5 in place of 4, text with
 /// an accent in seven letters takes three times as long and French 1.1 to 1.3, emoji in ASCII 0.93 to 0.97.
 const MANY_LETTERS: u32 = 4;
 
-/// The size in bytes of the kernel's scratch buffer while `LONG_RUN` or more units are left: room for ten blocks.
+/// The size in bytes of the kernel's scratch buffer while `TWO_BLOCKS` or more units are left: room for ten blocks.
 const SCRATCH_BYTES: usize = 512;
 
-/// The scratch buffer's size while fewer than `LONG_RUN` units are left: room for these, since it is zeroed first.
+/// The scratch buffer's size while fewer than `TWO_BLOCKS` units are left: room for these, since it is zeroed first.
 const SHORT_SCRATCH_BYTES: usize = 112;
 
 /// The most bytes of a code point.
@@ -140,7 +131,7 @@ fn append_ascii_run<const N: usize, A: Allocator>(
     append_point(bytes, v, to, growth)
 }
 
-/// Takes a step while `LONG_RUN` or more units are left.
+/// Takes a step while `TWO_BLOCKS` or more units are left.
 #[inline(always)]
 fn append_next<A: Allocator>(
     bytes: &mut Vec<u8, A>,
@@ -148,7 +139,7 @@ fn append_next<A: Allocator>(
     from: Progress,
     growth: Growth,
 ) -> Result<Progress, AllocError>
-    requires within { from.at + LONG_RUN ≤ length v.now }
+    requires within { from.at + TWO_BLOCKS ≤ length v.now }
     ensures order { IfOk result (λ to. (from.at < to.at) × (to.at ≤ length v.now)) }
     ensures read { IfOk result (λ to. ReadsOn bytes.old.items bytes.new.items v.now from.at from.is_utf8 to.at to.is_utf8) }
     ensures begins { take (length bytes.old.items) bytes.new.items ≡ bytes.old.items }
@@ -159,15 +150,15 @@ fn append_next<A: Allocator>(
     let mut to = from;
     if v[at] < 0x80 {
         // With this test in `append_front` alone, emoji in ASCII take 5% more instructions.
-        if spare_capacity(bytes) < LONG_RUN {
+        if spare_capacity(bytes) < TWO_BLOCKS {
             return append_point(bytes, v, from, growth);
         }
-        let (front, letters) = append_front::<LONG_RUN, A>(bytes, v, from)?;
+        let (front, letters) = append_front::<TWO_BLOCKS, A>(bytes, v, from)?;
         to = front;
-        if to.at == at + LONG_RUN {
+        if to.at == at + TWO_BLOCKS {
             return Ok(to);
         }
-        if letters.count_ones() < MANY_LETTERS || v.len() - to.at < LAST_UNITS {
+        if letters.count_ones() < MANY_LETTERS || v.len() - to.at < QUARTER_BLOCK {
             return append_point(bytes, v, to, growth);
         }
     } else if v[at + 1] < 0x80 || v[at + 2] < 0x80 {
@@ -177,7 +168,7 @@ fn append_next<A: Allocator>(
     kernel::append_blocks::<SCRATCH_BYTES, A>(bytes, v, to, growth)
 }
 
-/// Takes a step while `LAST_UNITS` or more units are left. The last block may have fewer units than others.
+/// Takes a step while `QUARTER_BLOCK` or more units are left. The last block may have fewer units than others.
 #[inline(always)]
 fn append_last<A: Allocator>(
     bytes: &mut Vec<u8, A>,
@@ -185,7 +176,7 @@ fn append_last<A: Allocator>(
     from: Progress,
     growth: Growth,
 ) -> Result<Progress, AllocError>
-    requires within { from.at + LAST_UNITS ≤ length v.now }
+    requires within { from.at + QUARTER_BLOCK ≤ length v.now }
     ensures order { IfOk result (λ to. (from.at < to.at) × (to.at ≤ length v.now)) }
     ensures read { IfOk result (λ to. ReadsOn bytes.old.items bytes.new.items v.now from.at from.is_utf8 to.at to.is_utf8) }
     ensures begins { take (length bytes.old.items) bytes.new.items ≡ bytes.old.items }
@@ -194,17 +185,17 @@ fn append_last<A: Allocator>(
 {
     let left = v.len() - from.at;
     let is_ascii = v[from.at] < 0x80;
-    if is_ascii && left < SMALL_RUN {
-        return append_ascii_run::<SHORT_RUN, A>(bytes, v, from, growth);
+    if is_ascii && left < HALF_BLOCK {
+        return append_ascii_run::<QUARTER_BLOCK, A>(bytes, v, from, growth);
     }
     // One ASCII unit is no run: a block that takes it too costs no more than one without it.
     if !is_ascii || 0x80 <= v[from.at + 1] {
         return kernel::append_blocks::<SHORT_SCRATCH_BYTES, A>(bytes, v, from, growth);
     }
-    if left < MEDIUM_RUN {
-        return append_ascii_run::<SMALL_RUN, A>(bytes, v, from, growth);
+    if left < BLOCK_UNITS {
+        return append_ascii_run::<HALF_BLOCK, A>(bytes, v, from, growth);
     }
-    append_ascii_run::<MEDIUM_RUN, A>(bytes, v, from, growth)
+    append_ascii_run::<BLOCK_UNITS, A>(bytes, v, from, growth)
 }
 
 /// With these loops in `append_utf16` itself, 40 units whose ends join take 1.4% more instructions.
@@ -223,10 +214,10 @@ fn append_steps<A: Allocator>(
     ensures capacity { vec_capacity bytes.old ≤ vec_capacity bytes.new }
 {
     let mut read = from;
-    while LONG_RUN <= v.len() - read.at {
+    while TWO_BLOCKS <= v.len() - read.at {
         read = append_next(bytes, v, read, growth)?;
     }
-    while LAST_UNITS <= v.len() - read.at {
+    while QUARTER_BLOCK <= v.len() - read.at {
         read = append_last(bytes, v, read, growth)?;
     }
     Ok(read)
@@ -272,10 +263,10 @@ fn are_ends_ascii<const N: usize>(units: &[u16]) -> bool
 #[inline(always)]
 fn may_be_ascii(units: &[u16]) -> bool {
     match units.len() {
-        0..LAST_UNITS => false,
-        LAST_UNITS..SMALL_RUN => are_ends_ascii::<SHORT_RUN>(units),
-        SMALL_RUN..MEDIUM_RUN => are_ends_ascii::<SMALL_RUN>(units),
-        MEDIUM_RUN..LONG_RUN => are_ends_ascii::<MEDIUM_RUN>(units),
+        0..QUARTER_BLOCK => false,
+        QUARTER_BLOCK..HALF_BLOCK => are_ends_ascii::<QUARTER_BLOCK>(units),
+        HALF_BLOCK..BLOCK_UNITS => are_ends_ascii::<HALF_BLOCK>(units),
+        BLOCK_UNITS..TWO_BLOCKS => are_ends_ascii::<BLOCK_UNITS>(units),
         _ => units[0] < 0x80,
     }
 }

@@ -23,14 +23,14 @@ returns-in_err-extend_from_slice-clause-room g c room =
       c.make_room.new.bytes.ok.0,
     ))))
 
-pub returns-then-v-read-lt-LAST_UNITS-clause-read : goal.returns-then-v-read-lt-LAST_UNITS-clause-read
-returns-then-v-read-lt-LAST_UNITS-clause-read g c front read = rw (c.in_ok-extend_from_slice.ensures.items, c.make_room.ensures.items)
+pub returns-then-v-read-lt-QUARTER_BLOCK-clause-read : goal.returns-then-v-read-lt-QUARTER_BLOCK-clause-read
+returns-then-v-read-lt-QUARTER_BLOCK-clause-read g c front read = rw (c.in_ok-extend_from_slice.ensures.items, c.make_room.ensures.items)
     (c.write_blocks-len.ensures.read c.loop-bytes.bytes.items c.loop-bytes.read.is_utf8 front (c.loop-bytes.invariant.read front read))
 
 pub loop-bytes-preserved : goal.loop-bytes-preserved
 loop-bytes-preserved g c = record {
   order = omega (arith, c.write_blocks-len.ensures.order, c.loop-bytes.invariant.order);
-  within = omega (arith, c.if-v-read-lt-LAST_UNITS.false);
+  within = omega (arith, c.if-v-read-lt-QUARTER_BLOCK.false);
   read = λ front read. rw (c.in_ok-extend_from_slice.ensures.items, c.make_room.ensures.items)
       (c.write_blocks-len.ensures.read c.loop-bytes.bytes.items c.loop-bytes.read.is_utf8 front (c.loop-bytes.invariant.read front read));
   begins = grind (arith, common_steps, c.loop-bytes.invariant.begins, c.in_ok-extend_from_slice.ensures.items, c.make_room.ensures.items);

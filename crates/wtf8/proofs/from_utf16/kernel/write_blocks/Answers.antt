@@ -26,7 +26,7 @@ returns-then-len-scratch-clause-read c w known front read =
     let to = c.loop.to in
     let last = c.write_last_block-end in
     let kept = take c.loop.len c.loop.scratch in
-    let more = last_units-read (before.read w known front read) (omega (arith, c.if-left-ge-LAST_UNITS.true)) last.ensures.form in
+    let more = last_units-read (before.read w known front read) (omega (arith, c.if-left-ge-QUARTER_BLOCK.true)) last.ensures.form in
     subst (λ b. IsReadTo (w ++ take last.result.0 last.new.scratch) front c.args.v.now (length c.args.v.now) b)
     (and_assoc known to.is_utf8 last.result.1)
     (rw last.ensures.bytes (subst (λ v. IsReadTo v front c.args.v.now (length c.args.v.now) ((known && to.is_utf8) && last.result.1))
