@@ -1,4 +1,4 @@
-/* Makes a string of a text ("in"), copies its units out ("out"), empties it and appends an equal one ("append") or its
+/* Makes a string of a text again ("in") or anew ("new"), copies its units out ("out"), empties it and appends an equal one ("append") or its
  * units ("push"), compares it with an equal one by bytes ("equal") or by units ("order"), or with its units ("same",
  * "with"), asks for its length ("length"), for the unit in the middle ("unit"), its position ("at") or the index of that
  * ("before"), or whether 12 units stand there ("starts"), copies 64 units from there ("part") or appends them to an
@@ -28,9 +28,9 @@ static void fill(const char *text, uint16_t *units, size_t n) {
     else for (size_t i = 0; i < n; i++) units[i] = unit_of(text, i);
 }
 
-enum call { IN, OUT, APPEND, EQUAL, ORDER, LENGTH, UNIT, PART, PUSH, SAME, WITH, AT, BEFORE, STARTS, SLICE, NEXT, BACK };
+enum call { IN, OUT, APPEND, EQUAL, ORDER, LENGTH, UNIT, PART, PUSH, SAME, WITH, AT, BEFORE, STARTS, SLICE, NEXT, BACK, NEW };
 static const char *const names[] = {"in", "out", "append", "equal", "order", "length", "unit", "part", "push", "same", "with",
-                                    "at", "before", "starts", "slice", "next", "back"};
+                                    "at", "before", "starts", "slice", "next", "back", "new"};
 
 /* A loop of its own, so that nothing but the call is in it. */
 #define REPEAT(is_bad) for (size_t i = 0; i < rounds; i++) if (is_bad) bad++; break
@@ -48,7 +48,7 @@ int main(void) {
     if (scanf("%63s %zu %zu", text, &count, &rounds) != 3 || count > UNITS) return 1;
     enum call call = IN;
     while (strcmp(word, names[call]) != 0)
-        if (++call > BACK) return 1;
+        if (++call > NEW) return 1;
     fill(text, units, count);
     bad += wtf8_set_units(&string, units, count) != WTF8_OK;
     bad += wtf8_set_units(&equal, units, count) != WTF8_OK;
@@ -57,6 +57,7 @@ int main(void) {
     len = wtf8_byte_len(&string);
     if (is_marked) bad += wtf8_mark(&string) != WTF8_OK;
     switch (call) {
+        case NEW: REPEAT((wtf8_free(&string), wtf8_set_units(&string, units, count) != WTF8_OK));
         case IN: REPEAT(wtf8_set_units(&string, units, count) != WTF8_OK);
         case OUT: REPEAT(wtf8_copy_units(&string, out, count, &len) != WTF8_OK);
         case APPEND: REPEAT((wtf8_clear(&string), wtf8_push_string(&string, &equal) != WTF8_OK));

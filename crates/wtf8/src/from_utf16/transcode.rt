@@ -14,9 +14,9 @@ use crate::vec::spare_capacity;
 use std::alloc::{AllocError, Allocator};
 use std::simd::prelude::*;
 
-/// With at least this number of `TWO_BLOCKS` units not ASCII, blocks are cheaper than runs. With 5 in place of 4, text with
-/// an accent in seven letters takes three times as long and French 1.1 to 1.3, emoji in ASCII 0.93 to 0.97.
-const MANY_LETTERS: u32 = 4;
+/// With at least this number of `TWO_BLOCKS` units not ASCII, blocks are cheaper than runs. With 4 in place of 3, text
+/// with an accent in nine letters takes 2.2 times as long; with 2, a pair in 23 units 1.8 to 2 times.
+const MANY_LETTERS: u32 = 3;
 
 /// The size in bytes of the kernel's scratch buffer while `TWO_BLOCKS` or more units are left: room for ten blocks.
 const SCRATCH_BYTES: usize = 512;
