@@ -1,10 +1,10 @@
-/* Makes a string of a text again ("in") or anew ("new"), copies its units out ("out"), empties it and appends an equal one ("append") or its
- * units ("push"), compares it with an equal one by bytes ("equal") or by units ("order"), or with its units ("same",
- * "with"), asks for its length ("length"), for the unit in the middle ("unit"), its position ("at") or the index of that
- * ("before"), or whether 12 units stand there ("starts"), copies 64 units from there ("part") or appends them to an
- * empty string ("slice"), or walks a step, from the start again after the end ("next"), or back ("back"). "marked" before
- * one of these marks the string. The input says which, for which text or pattern, of how many units, at most 100,000, and
- * how often. c/count, gate/instructions and compare/patterns count what it takes. */
+/* Makes a string of a text again ("in") or anew ("new"), copies its units out ("out"), empties it and appends an equal
+ * one ("append") or its units ("push"), compares it with an equal one by bytes ("equal") or by units ("order"), or
+ * with its units ("same", "with"), asks for its length ("length"), for the unit in the middle ("unit"), its position
+ * ("at") or the index of that ("before"), or whether 12 units stand there ("starts"), copies 64 units from there
+ * ("part") or appends them to an empty string ("slice"), or walks a step, from the start again after the end ("next"),
+ * or back ("back"). "marked" before one of these marks the string. The input says which, for which text or pattern, of
+ * how many units, at most 100,000, and how often. c/count, gate/instructions and compare/patterns count what it takes. */
 #include "../wtf8.h"
 #include "patterns.h"
 
