@@ -3,8 +3,8 @@
 //     Units left              They begin with                 Way
 //     all, `FEW_UNITS`        any, if none completes a lead   one code point at a time, on the stack: `few`
 //     or fewer                before them
-//     `TWO_BLOCKS` or more    ASCII                           the ASCII run in `TWO_BLOCKS`; then blocks, if
-//                                                             `MANY_LETTERS` of these are not ASCII, else a code point
+//     `TWO_BLOCKS` or more    ASCII                           the ASCII run in `TWO_BLOCKS`; then blocks, if these have
+//                                                             `SOME_GROUPS` groups of others, else one code point
 //                             another, then ASCII soon        one code point
 //                             others                          blocks of `BLOCK_UNITS`: `kernel`
 //     `QUARTER_BLOCK`         two ASCII, or one of fewer      the ASCII run in `BLOCK_UNITS`, `HALF_BLOCK` or

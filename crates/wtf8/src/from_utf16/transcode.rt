@@ -14,14 +14,18 @@ use crate::vec::spare_capacity;
 use std::alloc::{AllocError, Allocator};
 use std::simd::prelude::*;
 
-/// With at least this number of `TWO_BLOCKS` units not ASCII, blocks are cheaper than runs. With 4 in place of 3, text
-/// with an accent in nine letters takes 2.2 times as long; with 2, a pair in 23 units 1.8 to 2 times.
-const MANY_LETTERS: u32 = 3;
+/// With at least this number of groups of letters among `TWO_BLOCKS` units, blocks are cheaper than runs; a group is units
+/// side by side that are not ASCII. With 3 in place of 2, an accent in 13 letters takes 1.3 to 1.5 of the time. If a pair
+/// counted as two, one in 23 units would take twice the time.
+const SOME_GROUPS: u32 = 2;
+
+/// From this number of groups on, blocks go on behind these units in the large scratch buffer.
+const MANY_GROUPS: u32 = 3;
 
 /// The size in bytes of the kernel's scratch buffer while `TWO_BLOCKS` or more units are left: room for ten blocks.
 const SCRATCH_BYTES: usize = 512;
 
-/// The scratch buffer's size while fewer than `TWO_BLOCKS` units are left: room for these, since it is zeroed first.
+/// The scratch buffer's size for fewer than `TWO_BLOCKS` units, or few groups: room for two blocks, since it is zeroed first.
 const SHORT_SCRATCH_BYTES: usize = 112;
 
 /// The most bytes of a code point.
@@ -158,8 +162,12 @@ fn append_next<A: Allocator>(
         if to.at == at + TWO_BLOCKS {
             return Ok(to);
         }
-        if letters.count_ones() < MANY_LETTERS || v.len() - to.at < QUARTER_BLOCK {
+        let groups = (letters & !(letters << 1)).count_ones();
+        if groups < SOME_GROUPS || v.len() - to.at < QUARTER_BLOCK {
             return append_point(bytes, v, to, growth);
+        }
+        if groups < MANY_GROUPS {
+            return kernel::append_blocks::<SHORT_SCRATCH_BYTES, A>(bytes, v, to, growth);
         }
     } else if v[at + 1] < 0x80 || v[at + 2] < 0x80 {
         // ASCII that follows soon is most often a run: encode one code point, and leave the run to a later step.
