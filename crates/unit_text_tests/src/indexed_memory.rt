@@ -520,12 +520,20 @@ enum Make {
 /// Calls that make a buffer, and the number of their requests. A buffer of six units of three bytes first has room for
 /// six bytes, then for the 18 of their block. One of 17 such units first has room for 17 bytes, then for the 48 of a
 /// block of sixteen, then for twice that number.
-static MAKES: [(Make, u64); 6] = [
+static MAKES: [(Make, u64); 7] = [
     (Make::Capacity(0), 0),
     (Make::Capacity(8), 1),
     (Make::Units(&[]), 0),
-    (Make::Units(&[0xE000; 6]), 2),
-    (Make::Units(&[0xE000; 17]), 3),
+    (Make::Units(&[0xE000; 6]), 1),
+    (Make::Units(&[0xE000; 17]), 1),
+    (
+        Make::Units(&[
+            0x0061, 0x0061, 0x0061, 0x0061, 0x0061, 0x0061, 0x0061, 0x0061, 0x0061, 0x0061, 0x0061,
+            0x0061, 0x0061, 0x0061, 0x0061, 0x0061, 0x0061, 0x0061, 0x0061, 0x0061, 0x0061, 0x0061,
+            0x0061, 0x0061, 0x0061, 0x0061, 0x0061, 0x0061, 0x0061, 0x0061, 0x0061, 0x0061, 0xE000,
+        ]),
+        2,
+    ),
     (Make::Clone, 1),
 ];
 
@@ -673,8 +681,7 @@ static COPY: [Made; 1] = [Made {
     bytes: 4,
 }];
 
-/// Units pushed to a text with a capacity of eight bytes, for which a byte each is requested first and then what they
-/// need, and no units.
+/// Units pushed to a text with a capacity of eight bytes, which need more than twice that, and no units.
 static PUSHED: [Appended; 2] = [
     Appended {
         units: &[0x0061, 0xD83D],
@@ -683,8 +690,8 @@ static PUSHED: [Appended; 2] = [
         unit_len: 8,
         front: 3,
         front_dump: "61 ED A0 BD EE 80 80",
-        requests: 2,
-        bytes: 16 + 32,
+        requests: 1,
+        bytes: 22,
     },
     Appended {
         units: &[0x0061, 0xD83D],

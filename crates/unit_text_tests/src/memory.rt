@@ -209,24 +209,23 @@ fn a_slice_asks_for_what_it_needs(rt: HostRuntime) {
     }
 }
 
-/// Texts of units. A byte for each unit is requested first, then what a block of up to sixteen needs, at least twice the
-/// capacity.
+/// Texts of units, whose bytes are requested at once.
 static TEXTS: [Made; 2] = [
     Made {
         units: &[],
         text: "",
         make: MakeText::FromUnits(&[0xE000; 6]),
         dump: "EE 80 80 EE 80 80 EE 80 80 EE 80 80 EE 80 80 EE 80 80",
-        requests: 2,
-        bytes: 6 + 18,
+        requests: 1,
+        bytes: 18,
     },
     Made {
         units: &[],
         text: "",
         make: MakeText::FromUnits(&[0xE000; 17]),
         dump: "EE 80 80 EE 80 80 EE 80 80 EE 80 80 EE 80 80 EE 80 80 EE 80 80 EE 80 80 EE 80 80 EE 80 80 EE 80 80 EE 80 80 EE 80 80 EE 80 80 EE 80 80 EE 80 80 EE 80 80",
-        requests: 3,
-        bytes: 17 + 48 + 96,
+        requests: 1,
+        bytes: 51,
     },
 ];
 
