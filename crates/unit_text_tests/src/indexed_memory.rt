@@ -517,9 +517,8 @@ enum Make {
     Clone,
 }
 
-/// Calls that make a buffer, and the number of their requests. A buffer of six units of three bytes first has room for
-/// six bytes, then for the 18 of their block. One of 17 such units first has room for 17 bytes, then for the 48 of a
-/// block of sixteen, then for twice that number.
+/// Calls that make a buffer, and the number of their requests. Units request their bytes at once, or, if there are 32 or
+/// more and the first is ASCII, a byte for each first.
 static MAKES: [(Make, u64); 7] = [
     (Make::Capacity(0), 0),
     (Make::Capacity(8), 1),
