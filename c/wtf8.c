@@ -1,9 +1,11 @@
 /* What stands between a C program and the proved calls. It takes the build for the processor's widest vectors, hands a
  * string that a call only asks as a copy of its struct, so that the program's is not written, gives an array of length 0
- * an address, and passes no string twice to one call. */
+ * an address, passes no string twice to one call, and requests memory by the functions that the program names. */
+#define WTF8_SILENT
 #include "wtf8.h"
 
 #include <cpuid.h>
+#include <stdlib.h>
 
 enum { V1, V2, V3 };
 
@@ -76,7 +78,9 @@ DECLARE(wtf8_result, mark, wtf8_string *)
 DECLARE(wtf8_result, push_unit, wtf8_string *, uint16_t)
 DECLARE(wtf8_result, push_code_point, wtf8_string *, uint32_t)
 DECLARE(wtf8_result, push_units, wtf8_string *, const uint16_t *, size_t)
+DECLARE(wtf8_result, push_latin1, wtf8_string *, const uint8_t *, size_t)
 DECLARE(wtf8_result, push_utf8, wtf8_string *, const uint8_t *, size_t, size_t *)
+DECLARE(wtf8_result, push_utf8_part, wtf8_string *, const uint8_t *, size_t, size_t *, size_t *)
 DECLARE(wtf8_result, push_string, wtf8_string *, wtf8_string *)
 DECLARE(wtf8_result, push_slice, wtf8_string *, wtf8_string *, size_t, size_t)
 DECLARE(size_t, unit_len, wtf8_string *)
@@ -93,6 +97,7 @@ DECLARE(int32_t, compare_units, wtf8_string *, wtf8_string *)
 DECLARE(int32_t, compare_code_points, wtf8_string *, wtf8_string *)
 DECLARE(uint64_t, hash, wtf8_string *, uint64_t, uint64_t)
 DECLARE(uint64_t, hash_units, const uint16_t *, size_t, uint64_t, uint64_t)
+DECLARE(wtf8_result, next_surrogate, wtf8_string *, size_t *, uint16_t *)
 DECLARE(wtf8_result, next_code_point, wtf8_string *, size_t *, uint32_t *)
 DECLARE(wtf8_result, previous_code_point, wtf8_string *, size_t *, uint32_t *)
 DECLARE(bool, equal_units, wtf8_string *, const uint16_t *, size_t)
@@ -102,13 +107,44 @@ DECLARE(wtf8_result, truncate_bytes, wtf8_string *, size_t)
 DECLARE(wtf8_result, truncate_units, wtf8_string *, size_t)
 DECLARE(wtf8_result, pop, wtf8_string *, uint32_t *)
 DECLARE(wtf8_result, slice_units, wtf8_string *, wtf8_string *, size_t, size_t)
+DECLARE(wtf8_result, copy_code_points, wtf8_string *, size_t *, uint32_t *, size_t, size_t *)
 DECLARE(wtf8_result, copy_units, wtf8_string *, uint16_t *, size_t, size_t *)
 DECLARE(wtf8_result, copy_slice, wtf8_string *, size_t, size_t, uint16_t *, size_t, size_t *)
 DECLARE(wtf8_result, copy_utf8, wtf8_string *, uint8_t *, size_t, size_t *)
 DECLARE(wtf8_result, copy_lossy, wtf8_string *, uint8_t *, size_t, size_t *)
 
+static struct {
+    void *(*allocate)(size_t);
+    void *(*reallocate)(void *, size_t);
+    void (*release)(void *);
+} memory = {malloc, realloc, free};
+
+void wtf8_use_memory(void *(*allocate)(size_t), void *(*reallocate)(void *, size_t), void (*release)(void *)) {
+    memory.allocate = allocate;
+    memory.reallocate = reallocate;
+    memory.release = release;
+}
+
+/* What the proved code calls as malloc, realloc and free: c/build gives them these names. */
+void *wtf8_own_malloc(size_t size);
+void *wtf8_own_realloc(void *block, size_t size);
+void wtf8_own_free(void *block);
+
+void *wtf8_own_malloc(size_t size) {
+    return memory.allocate(size);
+}
+
+void *wtf8_own_realloc(void *block, size_t size) {
+    return memory.reallocate(block, size);
+}
+
+void wtf8_own_free(void *block) {
+    memory.release(block);
+}
+
 /* What an array of length 0 points to. Nothing is read or written there. */
 static uint16_t nothing[1];
+static uint32_t no_points[1];
 
 wtf8_result wtf8_set_units(wtf8_string *string, const uint16_t *units, size_t n) {
     return PROVED(set_units)(string, n ? units : nothing, n);
@@ -157,9 +193,17 @@ wtf8_result wtf8_push_units(wtf8_string *string, const uint16_t *units, size_t n
     return PROVED(push_units)(string, n ? units : nothing, n);
 }
 
+wtf8_result wtf8_push_latin1(wtf8_string *string, const uint8_t *text, size_t n) {
+    return PROVED(push_latin1)(string, n ? text : (const uint8_t *)nothing, n);
+}
+
 wtf8_result wtf8_push_utf8(wtf8_string *string, const uint8_t *text, size_t n, size_t *valid) {
     size_t unused;
     return PROVED(push_utf8)(string, n ? text : (const uint8_t *)nothing, n, valid ? valid : &unused);
+}
+
+wtf8_result wtf8_push_utf8_part(wtf8_string *string, const uint8_t *text, size_t n, size_t *used, size_t *bad) {
+    return PROVED(push_utf8_part)(string, n ? text : (const uint8_t *)nothing, n, used, bad);
 }
 
 wtf8_result wtf8_push_string(wtf8_string *string, const wtf8_string *other) {
@@ -250,6 +294,11 @@ uint64_t wtf8_hash_units(const uint16_t *units, size_t n, uint64_t seed_0, uint6
     return PROVED(hash_units)(n ? units : nothing, n, seed_0, seed_1);
 }
 
+wtf8_result wtf8_next_surrogate(const wtf8_string *string, size_t *position, uint16_t *unit) {
+    wtf8_string copy = *string;
+    return PROVED(next_surrogate)(&copy, position, unit);
+}
+
 wtf8_result wtf8_next_code_point(const wtf8_string *string, size_t *position, uint32_t *code_point) {
     wtf8_string copy = *string;
     return PROVED(next_code_point)(&copy, position, code_point);
@@ -303,6 +352,11 @@ wtf8_result wtf8_slice_units(wtf8_string *into, const wtf8_string *string, size_
 wtf8_result wtf8_copy_units(const wtf8_string *string, uint16_t *out, size_t size, size_t *len) {
     wtf8_string copy = *string;
     return PROVED(copy_units)(&copy, size ? out : nothing, size, len);
+}
+
+wtf8_result wtf8_copy_code_points(const wtf8_string *string, size_t *position, uint32_t *out, size_t size, size_t *len) {
+    wtf8_string copy = *string;
+    return PROVED(copy_code_points)(&copy, position, size ? out : no_points, size, len);
 }
 
 wtf8_result wtf8_copy_slice(const wtf8_string *string, size_t begin, size_t end, uint16_t *out, size_t size, size_t *len) {

@@ -16,8 +16,8 @@
  *   may use one string at once, in any threads. Changes are ordered before and after them by a lock, a thread's start or
  *   a join.
  * - No call comes from a signal handler, or from the forked child of a process with threads.
- * - malloc, realloc and free of the program come from one allocator, which aligns a block to each power of two up to 16
- *   that divides its size.
+ * - malloc, realloc and free of the program, or what wtf8_use_memory is given, come from one allocator, which aligns a
+ *   block to each power of two up to 16 that divides its size.
  *
  * One string may be passed twice to one call, as to append it to itself.
  *
@@ -82,6 +82,11 @@ const char *wtf8_result_text(wtf8_result code);
 
 /* The version of the library, as WTF8_VERSION. */
 const char *wtf8_version(void);
+
+/* Has the library call these in place of malloc, realloc and free, which each does the work of. This is called while no
+ * string has a buffer, and no other thread uses the library. They may be called in any thread that changes strings, return
+ * to their caller (no exception, no longjmp), and call nothing of this library. */
+void wtf8_use_memory(void *(*allocate)(size_t), void *(*reallocate)(void *, size_t), void (*release)(void *));
 
 /* ---- Making a string ----
  *
@@ -148,8 +153,17 @@ WTF8_CODE wtf8_result wtf8_push_code_point(wtf8_string *string, uint32_t value);
 /* `n` units. Never refused if they fit. Codes: OK, NO_MEMORY. */
 WTF8_CODE wtf8_result wtf8_push_units(wtf8_string *string, const uint16_t *units, size_t n);
 
+/* A text of `n` bytes in Latin-1, each of which is the code point of its value. Never refused if it fits. Codes: OK,
+ * NO_MEMORY. */
+WTF8_CODE wtf8_result wtf8_push_latin1(wtf8_string *string, const uint8_t *text, size_t n);
+
 /* A text of `n` bytes. `valid` is as in wtf8_set_utf8. Never refused if it fits. Codes: OK, NO_MEMORY, NOT_UTF8. */
 WTF8_CODE wtf8_result wtf8_push_utf8(wtf8_string *string, const uint8_t *text, size_t n, size_t *valid);
+
+/* The longest front of `n` bytes that is UTF-8. Its length is written to `*used`, and to `*bad` how many bytes after it are
+ * wrong together, so that one U+FFFD stands for them: 0 if all bytes were taken, or if those left are cut off within a
+ * code point. Never refused if the front fits. Codes: OK, NO_MEMORY. */
+WTF8_CODE wtf8_result wtf8_push_utf8_part(wtf8_string *string, const uint8_t *text, size_t n, size_t *used, size_t *bad);
 
 /* Another string. Never refused if it fits, unless both are one string. Codes: OK, NO_MEMORY. */
 WTF8_CODE wtf8_result wtf8_push_string(wtf8_string *string, const wtf8_string *other);
@@ -176,8 +190,8 @@ size_t wtf8_capacity(const wtf8_string *string);
  * length). */
 WTF8_CODE wtf8_result wtf8_position_at(const wtf8_string *string, size_t index, size_t *position);
 
-/* The number of units before the last boundary at or before `position` in bytes, found by the marks; the length if
- * `position` is after the end. */
+/* The number of units before the last boundary at or before `position` in bytes; the length if `position` is after the
+ * end. Constant in ASCII; else it counts units as wtf8_truncate_bytes does. */
 size_t wtf8_unit_before(const wtf8_string *string, size_t position);
 
 /* Writes the unit at `index`, found by the marks, to `*unit`. Codes: OK, BAD_POSITION (`index` is the length or
@@ -195,6 +209,16 @@ WTF8_CODE wtf8_result wtf8_next_code_point(const wtf8_string *string, size_t *po
 /* The same of the code point before `*position`, which moves back to its start. Constant. Codes: OK, BAD_POSITION
  * (`*position` is not a boundary), END (it is 0). */
 WTF8_CODE wtf8_result wtf8_previous_code_point(const wtf8_string *string, size_t *position, uint32_t *code_point);
+
+/* Writes the first surrogate after the boundary `*position` to `*unit`, and moves `*position` past its 3 bytes: what was
+ * between is text. Any code but OK leaves both numbers as they are. Linear in the bytes that it moves over. Codes: OK,
+ * BAD_POSITION (`*position` is not a boundary), END (no surrogate is after it). */
+WTF8_CODE wtf8_result wtf8_next_surrogate(const wtf8_string *string, size_t *position, uint16_t *unit);
+
+/* Writes the code points after the boundary `*position` to the front of `out` until its `size` elements are full or the
+ * string ends, and their number to `*len`, and moves `*position` past them. Any code but OK writes nothing. Linear in what
+ * it writes. Codes: OK, BAD_POSITION (`*position` is not a boundary), END (it is the length in bytes). */
+WTF8_CODE wtf8_result wtf8_copy_code_points(const wtf8_string *string, size_t *position, uint32_t *out, size_t size, size_t *len);
 
 /* Whether the string holds no surrogate, so that wtf8_copy_utf8 gives its text. Linear in the length. */
 bool wtf8_is_utf8(const wtf8_string *string);
@@ -232,8 +256,8 @@ uint64_t wtf8_hash_units(const uint16_t *units, size_t n, uint64_t seed_0, uint6
 /* Shortens the string to `n` units, found by the marks. A pair that this divides leaves its lead. Codes: OK, BAD_POSITION. */
 WTF8_CODE wtf8_result wtf8_truncate_units(wtf8_string *string, size_t n);
 
-/* Shortens the string to `position` bytes, a boundary. It counts the units before it from a mark, or from the start.
- * Codes: OK, BAD_POSITION. */
+/* Shortens the string to `position` bytes, a boundary. It counts the units from a mark or the start to there, or from there
+ * to the end if that is nearer. Codes: OK, BAD_POSITION. */
 WTF8_CODE wtf8_result wtf8_truncate_bytes(wtf8_string *string, size_t position);
 
 /* Takes the last code point off, and writes it to `*code_point`, a lone surrogate too. Constant. Codes: OK, END (the string
@@ -261,12 +285,29 @@ WTF8_CODE wtf8_result wtf8_copy_slice(const wtf8_string *string, size_t begin, s
 /* The same of the text in UTF-8, `*len` in bytes, if there is no surrogate. Codes: OK, HAS_SURROGATE, ARRAY_TOO_SHORT. */
 WTF8_CODE wtf8_result wtf8_copy_utf8(const wtf8_string *string, uint8_t *out, size_t size, size_t *len);
 
-/* The same of the text with U+FFFD in place of each surrogate. Codes: OK, NO_MEMORY (only if there is one),
- * ARRAY_TOO_SHORT. */
+/* The same of the text with U+FFFD in place of each surrogate. Codes: OK, ARRAY_TOO_SHORT. */
 WTF8_CODE wtf8_result wtf8_copy_lossy(const wtf8_string *string, uint8_t *out, size_t size, size_t *len);
 
 #ifdef __cplusplus
 }
+#endif
+
+/* With a sanitizer, each call tells it what it reads and writes. WTF8_SILENT, defined before, leaves that out. */
+#ifdef __has_feature
+#if __has_feature(address_sanitizer)
+#define WTF8_WITH_ADDRESS
+#elif __has_feature(thread_sanitizer)
+#define WTF8_WITH_THREAD
+#elif __has_feature(memory_sanitizer)
+#define WTF8_WITH_MEMORY
+#endif
+#elif defined(__SANITIZE_ADDRESS__)
+#define WTF8_WITH_ADDRESS
+#elif defined(__SANITIZE_THREAD__)
+#define WTF8_WITH_THREAD
+#endif
+#if !defined(WTF8_SILENT) && (defined(WTF8_WITH_ADDRESS) || defined(WTF8_WITH_THREAD) || defined(WTF8_WITH_MEMORY))
+#include "wtf8_sanitizers.h"
 #endif
 
 #endif

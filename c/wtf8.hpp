@@ -6,18 +6,34 @@
  *
  * Refused memory is std::bad_alloc. An index or a position after the end, or not at a boundary, is std::out_of_range. A
  * number that is not a code point, bytes that are not UTF-8, and a surrogate in what is copied out as UTF-8 are
- * wtf8::error. A call that throws changes nothing.
+ * wtf8::error. A call that throws changes nothing. Without exceptions (-fno-exceptions, in all files of a program or in
+ * none) such a call calls the function that wtf8::on_failure was given, and then std::abort.
  */
 #ifndef WTF8_HPP
 #define WTF8_HPP
 
 #include "wtf8.h"
 
-#include <functional>
+#include <cstdlib>
 #include <new>
 #include <stdexcept>
 #include <string>
 #include <utility>
+#ifdef __cpp_impl_three_way_comparison
+#include <compare>
+#endif
+
+#if 201703L <= __cplusplus
+#define WTF8_NODISCARD [[nodiscard]]
+#else
+#define WTF8_NODISCARD
+#endif
+/* Out of line, so that a call has no more code than a comparison for its failure. */
+#ifdef __GNUC__
+#define WTF8_COLD __attribute__((cold, noinline))
+#else
+#define WTF8_COLD
+#endif
 
 /* Units and texts as arguments: views if the standard has them. */
 #if 201703L <= __cplusplus
@@ -29,6 +45,8 @@ namespace wtf8 { using units_in = const std::u16string &; using text_in = const 
 
 namespace wtf8 {
 
+#if defined(__cpp_exceptions) || defined(__EXCEPTIONS)
+
 /* BAD_CODE_POINT, HAS_SURROGATE, or NOT_UTF8 with the position of the first byte that is not UTF-8. */
 struct error : std::invalid_argument {
     explicit error(wtf8_result code_, size_t position_ = 0)
@@ -37,12 +55,41 @@ struct error : std::invalid_argument {
     size_t position;
 };
 
-/* Throws what the code says, if it is not OK. */
-inline void check(wtf8_result code, size_t position = 0) {
-    if (code == WTF8_OK) return;
+/* Throws what a code other than OK says. */
+[[noreturn]] WTF8_COLD inline void fail(wtf8_result code, size_t position) {
     if (code == WTF8_NO_MEMORY) throw std::bad_alloc();
     if (code == WTF8_BAD_POSITION || code == WTF8_END) throw std::out_of_range(wtf8_result_text(code));
     throw error(code, position);
+}
+
+#else
+
+/* What a failure calls: `position` is that of the first byte that is not UTF-8 with NOT_UTF8, else 0. */
+using failure_handler = void (*)(wtf8_result code, size_t position);
+
+inline failure_handler &the_failure_handler() noexcept {
+    static failure_handler handler = nullptr;
+    return handler;
+}
+
+/* Has failures call `handler`, if it is not null. Returns what they called before. Before other threads are there. */
+inline failure_handler on_failure(failure_handler handler) noexcept {
+    failure_handler before = the_failure_handler();
+    the_failure_handler() = handler;
+    return before;
+}
+
+/* Ends the program, unless the handler does not return. */
+[[noreturn]] WTF8_COLD inline void fail(wtf8_result code, size_t position) {
+    if (the_failure_handler()) the_failure_handler()(code, position);
+    std::abort();
+}
+
+#endif
+
+/* Fails as the code says, if it is not OK. */
+inline void check(wtf8_result code, size_t position = 0) {
+    if (code != WTF8_OK) fail(code, position);
 }
 
 class string {
@@ -50,24 +97,42 @@ public:
     string() noexcept : string_() {}
     string(const char16_t *units, size_t n) : string() { assign(units, n); }
     explicit string(units_in units) : string(units.data(), units.size()) {}
-    static string from_utf8(text_in text) { return std::move(string().assign_utf8(text)); }
-    string clone() const { return std::move(string().assign(*this)); }
-    string slice(size_t begin, size_t end) const { return std::move(string().assign(*this, begin, end)); }
+    WTF8_NODISCARD static string from_utf8(text_in text) { return std::move(string().assign_utf8(text)); }
+    WTF8_NODISCARD string clone() const { return std::move(string().assign(*this)); }
+    WTF8_NODISCARD string slice(size_t begin, size_t end) const {
+        return std::move(string().assign(*this, begin, end));
+    }
 
     string(const string &) = delete;
     string &operator=(const string &) = delete;
     string(string &&other) noexcept : string_(other.string_) { other.string_ = WTF8_EMPTY; }
     string &operator=(string &&other) noexcept { string(std::move(other)).swap(*this); return *this; }
     void swap(string &other) noexcept { std::swap(string_, other.string_); }
-    ~string() { wtf8_free(&string_); }
-    /* For calls of wtf8.h. */
-    wtf8_string *get() noexcept { return &string_; }
-    const wtf8_string *get() const noexcept { return &string_; }
+    ~string() {
+        if (string_.full) wtf8_free(&string_);
+    }
+    /* For calls of wtf8.h. A struct that is adopted is freed by the string, one that is released by wtf8_free. */
+    WTF8_NODISCARD wtf8_string *get() noexcept { return &string_; }
+    WTF8_NODISCARD const wtf8_string *get() const noexcept { return &string_; }
+    WTF8_NODISCARD static string adopt(wtf8_string taken) noexcept {
+        string out;
+        out.string_ = taken;
+        return out;
+    }
+    WTF8_NODISCARD wtf8_string release() noexcept {
+        wtf8_string out = string_;
+        string_ = WTF8_EMPTY;
+        return out;
+    }
 
     /* Replacing. */
     string &assign(const char16_t *units, size_t n) { return done(wtf8_set_units(get(), raw(units), n)); }
     string &assign(units_in units) { return assign(units.data(), units.size()); }
-    string &assign_utf8(text_in text) { return read(wtf8_set_utf8, text); }
+    string &assign_utf8(text_in text) {
+        size_t valid = 0;
+        wtf8_result code = wtf8_set_utf8(get(), raw(text.data()), text.size(), &valid);
+        return done(code, valid);
+    }
     string &assign(const string &other) { return done(wtf8_set_string(get(), other.get())); }
     string &assign(const string &other, size_t begin, size_t end) {
         return done(wtf8_slice_units(get(), other.get(), begin, end));
@@ -78,16 +143,33 @@ public:
     string &append_code_point(char32_t value) { return done(wtf8_push_code_point(get(), value)); }
     string &append(const char16_t *units, size_t n) { return done(wtf8_push_units(get(), raw(units), n)); }
     string &append(units_in units) { return append(units.data(), units.size()); }
-    string &append_utf8(text_in text) { return read(wtf8_push_utf8, text); }
+    string &append_latin1(text_in text) { return done(wtf8_push_latin1(get(), raw(text.data()), text.size())); }
+    string &append_utf8(text_in text) {
+        size_t valid = 0;
+        wtf8_result code = wtf8_push_utf8(get(), raw(text.data()), text.size(), &valid);
+        return done(code, valid);
+    }
+    /* The longest front that is UTF-8. Returns its length; `bad` is as in wtf8_push_utf8_part. */
+    size_t append_utf8_part(text_in text, size_t &bad) {
+        size_t used = 0;
+        check(wtf8_push_utf8_part(get(), raw(text.data()), text.size(), &used, &bad));
+        return used;
+    }
     string &append(const string &other) { return done(wtf8_push_string(get(), other.get())); }
     string &append(const string &other, size_t begin, size_t end) {
         return done(wtf8_push_slice(get(), other.get(), begin, end));
     }
+    string &operator+=(char16_t unit) { return append_unit(unit); }
+    string &operator+=(char32_t value) { return append_code_point(value); }
+    string &operator+=(units_in units) { return append(units); }
+    string &operator+=(const string &other) { return append(other); }
 
     /* Memory, and cutting. */
-    static size_t encoded_len(units_in units) noexcept { return wtf8_encoded_len(raw(units.data()), units.size()); }
+    WTF8_NODISCARD static size_t encoded_len(units_in units) noexcept {
+        return wtf8_encoded_len(raw(units.data()), units.size());
+    }
     void reserve_bytes(size_t additional) { check(wtf8_reserve_bytes(get(), additional)); }
-    size_t capacity() const noexcept { return wtf8_capacity(get()); }
+    WTF8_NODISCARD size_t capacity() const noexcept { return wtf8_capacity(get()); }
     void shrink() noexcept { wtf8_shrink(get()); }
     void mark() { check(wtf8_mark(get())); }
     void clear() noexcept { wtf8_clear(get()); }
@@ -96,51 +178,136 @@ public:
 
     /* Code points. If there is none, each returns false and leaves its arguments as they are. */
     bool pop(char32_t &value) { return found(wtf8_pop(get(), raw(&value))); }
-    bool next(size_t &position, char32_t &value) const {
+    WTF8_NODISCARD bool next(size_t &position, char32_t &value) const {
         return found(wtf8_next_code_point(get(), &position, raw(&value)));
     }
-    bool previous(size_t &position, char32_t &value) const {
+    WTF8_NODISCARD bool previous(size_t &position, char32_t &value) const {
         return found(wtf8_previous_code_point(get(), &position, raw(&value)));
     }
+    /* At most `size` of them. The number written is 0 at the end. */
+    WTF8_NODISCARD size_t copy_code_points(size_t &position, char32_t *out, size_t size) const {
+        size_t n = 0;
+        found(wtf8_copy_code_points(get(), &position, raw(out), size, &n));
+        return n;
+    }
+    WTF8_NODISCARD bool next_surrogate(size_t &position, char16_t &unit) const {
+        return found(wtf8_next_surrogate(get(), &position, raw(&unit)));
+    }
+
+    /* A walk over the code points, lone surrogates too. The string is not changed or moved meanwhile. <string> has the
+     * tags: <iterator> would be 5,000 lines more. */
+    class iterator {
+    public:
+        using iterator_category = std::input_iterator_tag;
+        using iterator_concept = std::bidirectional_iterator_tag;
+        using value_type = char32_t;
+        using difference_type = std::ptrdiff_t;
+        using pointer = void;
+        using reference = char32_t;
+
+        iterator() noexcept : string_(nullptr), position_(0), after_(0), value_(0) {}
+        char32_t operator*() const noexcept { return value_; }
+        iterator &operator++() noexcept { *this = iterator(string_, after_); return *this; }
+        iterator operator++(int) noexcept { iterator before(*this); ++*this; return before; }
+        iterator &operator--() noexcept {
+            size_t before = position_;
+            if (wtf8_previous_code_point(string_, &before, raw(&value_)) == WTF8_OK) after_ = position_;
+            position_ = before;
+            return *this;
+        }
+        iterator operator--(int) noexcept { iterator before(*this); --*this; return before; }
+        bool operator==(const iterator &other) const noexcept { return position_ == other.position_; }
+        bool operator!=(const iterator &other) const noexcept { return position_ != other.position_; }
+        /* The position in bytes of the boundary before the code point. */
+        WTF8_NODISCARD size_t position() const noexcept { return position_; }
+
+    private:
+        friend class string;
+        /* After the last code point there is none, and the walk stays there. */
+        iterator(const wtf8_string *string, size_t position) noexcept
+            : string_(string), position_(position), after_(position), value_(0) {
+            if (wtf8_next_code_point(string, &after_, raw(&value_)) != WTF8_OK) after_ = position;
+        }
+
+        const wtf8_string *string_;
+        size_t position_, after_;
+        char32_t value_;
+    };
+    using const_iterator = iterator;
+    WTF8_NODISCARD iterator begin() const noexcept { return iterator(get(), 0); }
+    WTF8_NODISCARD iterator end() const noexcept { return iterator(get(), byte_len()); }
 
     /* Asking. */
-    bool empty() const noexcept { return byte_len() == 0; }
-    size_t unit_len() const noexcept { return wtf8_unit_len(get()); }
-    size_t byte_len() const noexcept { return wtf8_byte_len(get()); }
-    char16_t at(size_t index) const {
+    WTF8_NODISCARD bool empty() const noexcept { return byte_len() == 0; }
+    WTF8_NODISCARD size_t unit_len() const noexcept { return wtf8_unit_len(get()); }
+    WTF8_NODISCARD size_t byte_len() const noexcept { return wtf8_byte_len(get()); }
+    WTF8_NODISCARD char16_t at(size_t index) const {
         char16_t unit = 0;
         check(wtf8_unit_at(get(), index, raw(&unit)));
         return unit;
     }
-    size_t position_at(size_t index) const {
+    WTF8_NODISCARD char16_t operator[](size_t index) const { return at(index); }
+    WTF8_NODISCARD size_t position_at(size_t index) const {
         size_t position = 0;
         check(wtf8_position_at(get(), index, &position));
         return position;
     }
-    size_t unit_before(size_t position) const noexcept { return wtf8_unit_before(get(), position); }
-    bool is_boundary(size_t position) const noexcept { return wtf8_is_boundary(get(), position); }
-    bool is_utf8() const noexcept { return wtf8_is_utf8(get()); }
-    bool starts_with(const string &other, size_t index = 0) const noexcept {
+    WTF8_NODISCARD size_t unit_before(size_t position) const noexcept { return wtf8_unit_before(get(), position); }
+    WTF8_NODISCARD bool is_boundary(size_t position) const noexcept { return wtf8_is_boundary(get(), position); }
+    WTF8_NODISCARD bool is_utf8() const noexcept { return wtf8_is_utf8(get()); }
+    /* Whether units begin at the index, or are the last. */
+    WTF8_NODISCARD bool starts_with(const string &other, size_t index = 0) const noexcept {
         return wtf8_starts_with(get(), index, other.get());
+    }
+    WTF8_NODISCARD bool starts_with(units_in units, size_t index = 0) const noexcept {
+        return has_units(index, units.data(), units.size());
+    }
+    WTF8_NODISCARD bool ends_with(const string &other) const noexcept {
+        return other.unit_len() <= unit_len() && starts_with(other, unit_len() - other.unit_len());
+    }
+    WTF8_NODISCARD bool ends_with(units_in units) const noexcept {
+        return units.size() <= unit_len() && starts_with(units, unit_len() - units.size());
     }
 
     /* Comparing. */
-    bool equals(const string &other) const noexcept { return wtf8_equal(get(), other.get()); }
-    bool equals(units_in other) const noexcept { return wtf8_equal_units(get(), raw(other.data()), other.size()); }
-    int compare(const string &other) const noexcept { return wtf8_compare_units(get(), other.get()); }
-    int compare(units_in to) const noexcept { return wtf8_compare_with_units(get(), raw(to.data()), to.size()); }
-    int compare_code_points(const string &other) const noexcept { return wtf8_compare_code_points(get(), other.get()); }
+    WTF8_NODISCARD bool equals(const string &other) const noexcept { return wtf8_equal(get(), other.get()); }
+    WTF8_NODISCARD bool equals(units_in other) const noexcept {
+        return wtf8_equal_units(get(), raw(other.data()), other.size());
+    }
+    WTF8_NODISCARD int compare(const string &other) const noexcept { return wtf8_compare_units(get(), other.get()); }
+    WTF8_NODISCARD int compare(units_in to) const noexcept {
+        return wtf8_compare_with_units(get(), raw(to.data()), to.size());
+    }
+    WTF8_NODISCARD int compare_code_points(const string &other) const noexcept {
+        return wtf8_compare_code_points(get(), other.get());
+    }
 
     /* Copying out. */
-    std::u16string units() const { return copy<std::u16string>(wtf8_copy_units, unit_len()); }
-    std::u16string units(size_t begin, size_t end) const {
+    WTF8_NODISCARD std::u16string units() const {
+        std::u16string out(unit_len(), 0);
+        size_t n = 0;
+        check(wtf8_copy_units(get(), raw(&out[0]), out.size(), &n));
+        return out;
+    }
+    WTF8_NODISCARD std::u16string units(size_t begin, size_t end) const {
         std::u16string out(begin <= end && end <= unit_len() ? end - begin : 0, 0);
         size_t n = 0;
         check(wtf8_copy_slice(get(), begin, end, raw(&out[0]), out.size(), &n));
         return out;
     }
-    std::string utf8() const { return copy<std::string>(wtf8_copy_utf8, byte_len()); }
-    std::string lossy() const { return copy<std::string>(wtf8_copy_lossy, byte_len()); }
+    /* Each has as many bytes as the string, since U+FFFD has three, as a surrogate. */
+    WTF8_NODISCARD std::string utf8() const {
+        std::string out(byte_len(), 0);
+        size_t n = 0;
+        check(wtf8_copy_utf8(get(), raw(&out[0]), out.size(), &n));
+        return out;
+    }
+    WTF8_NODISCARD std::string lossy() const {
+        std::string out(byte_len(), 0);
+        size_t n = 0;
+        check(wtf8_copy_lossy(get(), raw(&out[0]), out.size(), &n));
+        return out;
+    }
 
 private:
     friend struct hasher;
@@ -157,16 +324,15 @@ private:
         if (code != WTF8_END) check(code);
         return code != WTF8_END;
     }
-    string &read(wtf8_result (*call)(wtf8_string *, const uint8_t *, size_t, size_t *), text_in text) {
-        size_t valid = 0;
-        wtf8_result code = call(get(), raw(text.data()), text.size(), &valid);
-        return done(code, valid);
-    }
-    template <class Out, class Call> Out copy(Call call, size_t n) const {
-        Out out(n, 0);
-        check(call(get(), raw(&out[0]), out.size(), &n));
-        out.resize(n);
-        return out;
+    /* Whether the units from the index on begin with these, which are compared by parts. */
+    bool has_units(size_t index, const char16_t *units, size_t n) const noexcept {
+        char16_t part[256];
+        for (size_t taken = 0, unused = 0; n != 0; index += taken, units += taken, n -= taken) {
+            taken = n < sizeof part / 2 ? n : sizeof part / 2;
+            if (wtf8_copy_slice(get(), index, index + taken, raw(part), taken, &unused) != WTF8_OK) return false;
+            if (std::char_traits<char16_t>::compare(part, units, taken) != 0) return false;
+        }
+        return true;
     }
 
     wtf8_string string_;
@@ -183,6 +349,10 @@ WTF8_OPERATOR(==, equals, true) WTF8_OPERATOR(!=, equals, true)
 WTF8_OPERATOR(<, compare, 0) WTF8_OPERATOR(<=, compare, 0)
 WTF8_OPERATOR(>, compare, 0) WTF8_OPERATOR(>=, compare, 0)
 #undef WTF8_OPERATOR
+#ifdef __cpp_impl_three_way_comparison
+inline std::strong_ordering operator<=>(const string &a, const string &b) noexcept { return a.compare(b) <=> 0; }
+inline std::strong_ordering operator<=>(const string &a, units_in b) noexcept { return a.compare(b) <=> 0; }
+#endif
 
 /* Hashes under a seed, which should be random if others choose the strings. std::hash has the seed 0. */
 struct hasher {
@@ -197,5 +367,7 @@ struct hasher {
 
 }
 namespace std { template <> struct hash<wtf8::string> : wtf8::hasher {}; }
+#undef WTF8_NODISCARD
+#undef WTF8_COLD
 
 #endif

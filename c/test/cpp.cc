@@ -1,14 +1,24 @@
 /* The class of wtf8.hpp: what it must return is known by hand or by std::u16string. Standard containers hold its strings,
- * and the library's requests for memory are refused in turn. Linked with -Wl,--wrap=malloc,--wrap=realloc,--wrap=free. */
+ * and the library's requests for memory are refused in turn. Without exceptions a call that fails ends a process. Linked
+ * with -Wl,--wrap=malloc,--wrap=realloc,--wrap=free. */
 #include "../wtf8.hpp"
 #include "must.h"
 
 #include <algorithm>
+#include <csignal>
 #include <functional>
 #include <map>
 #include <type_traits>
 #include <unordered_map>
 #include <vector>
+
+#if defined(__cpp_exceptions) || defined(__EXCEPTIONS)
+#define WITH_EXCEPTIONS 1
+#else
+#define WITH_EXCEPTIONS 0
+#include <sys/wait.h>
+#include <unistd.h>
+#endif
 
 using wtf8::string;
 
@@ -54,6 +64,8 @@ void __wrap_free(void *at) {
 static const std::u16string mixed = u"a\xD83D\xDCA9\xDC00";
 static const size_t huge = static_cast<size_t>(-1);
 
+#if WITH_EXCEPTIONS
+
 /* Whether the call throws exactly this. */
 template <class Thrown, class Call> static bool throws(Call call) {
     try {
@@ -75,6 +87,50 @@ template <class Call> static bool fails(Call call, wtf8_result code, size_t posi
     }
     return false;
 }
+
+static bool is_out_of_range(const std::function<void()> &call) { return throws<std::out_of_range>(call); }
+static bool is_bad_alloc(const std::function<void()> &call) { return throws<std::bad_alloc>(call); }
+
+#else
+
+enum { HANDLED = 40, IS_NO_CODE = 99 };
+
+static wtf8_result expected_code;
+static size_t expected_position;
+
+/* Ends the process with HANDLED if the failure is the expected one. */
+static void handle(wtf8_result code, size_t position) {
+    _exit(code == expected_code && position == expected_position ? HANDLED : IS_NO_CODE);
+}
+
+/* How a process ends in which the call is made: its status, as waitpid gives it. */
+template <class Call> static int end_of(Call call) {
+    int status = 0;
+    pid_t child = fork();
+    if (child == 0) {
+        call();
+        _exit(0);
+    }
+    must(waitpid(child, &status, 0) == child, "a process for a call that fails");
+    return status;
+}
+
+/* Whether the call calls the handler with this code and position, and without one ends the program by abort. */
+template <class Call> static bool fails(Call call, wtf8_result code, size_t position = 0) {
+    expected_code = code;
+    expected_position = position;
+    int aborted = end_of(call);
+    must(wtf8::on_failure(handle) == nullptr, "no handler at first");
+    int handled = end_of(call);
+    must(wtf8::on_failure(nullptr) == handle, "the handler that was set");
+    must(WIFSIGNALED(aborted) && WTERMSIG(aborted) == SIGABRT, "abort without a handler");
+    return WIFEXITED(handled) && WEXITSTATUS(handled) == HANDLED;
+}
+
+static bool is_out_of_range(const std::function<void()> &call) { return fails(call, WTF8_BAD_POSITION); }
+static bool is_bad_alloc(const std::function<void()> &call) { return fails(call, WTF8_NO_MEMORY); }
+
+#endif
 
 static void test_parts() {
     string s(u"a\xD83D");
@@ -104,7 +160,8 @@ static void test_building() {
     s.append(nullptr, 0).append(mixed.data(), 2).append(mixed.substr(2));
     must(s.units() == mixed, "append");
     s.append_code_point(0x1F4A9).append_code_point(0xD83D).append_code_point(0xDCA9).append_utf8("\xC3\xA9");
-    must(s.units() == mixed + u"\xD83D\xDCA9\xD83D\xDCA9\xE9", "append_code_point, append_utf8");
+    s.append_latin1("\xE9z");
+    must(s.units() == mixed + u"\xD83D\xDCA9\xD83D\xDCA9\xE9\xE9z", "append_code_point, append_utf8, append_latin1");
     s.assign(mixed).append(s, 2, 4).append(string(u"z")).append(s);
     must(s.units() == mixed + u"\xDCA9\xDC00z" + mixed + u"\xDCA9\xDC00z", "append of strings");
     must(s.assign_utf8("\xE4\xB8\xAD").units() == u"\x4E2D" && s.assign(string(u"ab")).units() == u"ab", "assign");
@@ -119,6 +176,74 @@ static void test_building() {
     s.clear();
     s.shrink();
     must(s.capacity() == 0 && s.append(mixed).units() == mixed, "shrink of an empty string");
+}
+
+static void test_operators() {
+    string s;
+    s += u"a";
+    s += char16_t(0xD83D);
+    s += std::u16string(u"\xDCA9");
+    s += char32_t(0xDC00);
+    must(s == mixed && s[0] == u'a' && s[2] == 0xDCA9 && s[3] == 0xDC00, "+= of units, and []");
+    s += U'\U0001F4A9';
+    s += string(u"z");
+    s += s;
+    must(s.units() == mixed + u"\xD83D\xDCA9z" + mixed + u"\xD83D\xDCA9z", "+= of a code point and of strings");
+}
+
+/* Fronts and ends of 0 to 700 units, the last unit also another: two or three parts are compared. */
+static void test_starts_and_ends() {
+    const std::u16string units = std::u16string(254, u'x') + mixed + std::u16string(300, u'\x4E2D') + mixed;
+    string s(units);
+    for (int is_marked = 0; is_marked < 2; is_marked++) {
+        for (size_t n = 0; n <= units.size(); n++) {
+            std::u16string front = units.substr(0, n), end = units.substr(units.size() - n);
+            must(s.starts_with(front) && s.ends_with(end), "a front and an end");
+            must(s.starts_with(end, units.size() - n), "an end by its index");
+            must(s.starts_with(string(front)) && s.ends_with(string(end)), "a front and an end that are strings");
+            if (n == 0) continue;
+            front[n - 1] ^= 1;
+            end[0] ^= 1;
+            must(!s.starts_with(front) && !s.ends_with(end) && !s.ends_with(string(end)), "another front and end");
+        }
+        s.mark();
+    }
+    must(!s.starts_with(units + u"x") && !s.ends_with(u"x" + units), "longer ones");
+    must(!s.ends_with(string(u"x" + units)), "a longer string");
+    must(!s.starts_with(u"x", huge) && !s.starts_with(u"x", units.size()) && s.starts_with(u"", huge), "after the end");
+    must(string().ends_with(u"") && string().ends_with(string()) && !string().starts_with(u"x"), "of an empty string");
+}
+
+static void test_iteration() {
+    const string s(mixed);
+    const std::vector<char32_t> points = {U'a', 0x1F4A9, 0xDC00};
+    std::vector<char32_t> seen;
+    for (char32_t point : s) seen.push_back(point);
+    must(seen == points && std::vector<char32_t>(s.begin(), s.end()) == points, "code points");
+    string::iterator it = s.end();
+    must((--it).position() == 5 && *it == 0xDC00 && *--it == 0x1F4A9, "backwards");
+    must(*it-- == 0x1F4A9 && it == s.begin(), "to the start");
+    must(*it++ == U'a' && *it == 0x1F4A9 && ++it != s.end() && ++it == s.end() && it.position() == 8, "forwards");
+    must(string().begin() == string().end(), "no code points");
+    must(std::find(s.begin(), s.end(), char32_t(0x1F4A9)).position() == 1, "a code point that is found");
+#ifdef __cpp_lib_concepts
+    static_assert(std::bidirectional_iterator<string::iterator>);
+#endif
+}
+
+/* A struct of the C library that a class takes over and gives back. */
+static void test_adoption() {
+    wtf8_string plain = WTF8_EMPTY;
+    must(wtf8_set_units(&plain, nullptr, 0) == WTF8_OK && wtf8_push_unit(&plain, 'a') == WTF8_OK, "a struct");
+    string s = string::adopt(plain);
+    s += u"b";
+    must(s == u"ab", "a string that was adopted");
+    plain = s.release();
+    must(s.empty() && s.capacity() == 0 && wtf8_unit_len(&plain) == 2, "a string that was released");
+    wtf8_free(&plain);
+    must(s.append(u"c") == u"c", "a string after its release");
+    plain = string().release();
+    must(wtf8_unit_len(&plain) == 0 && string::adopt(plain).empty(), "an empty string");
 }
 
 static void test_cuts() {
@@ -149,25 +274,39 @@ static void test_walks() {
         must(s.previous(position, point) && point == points[i - 1] && position == positions[i - 1], "previous");
     must(!s.previous(position, point) && point == U'a' && position == 0, "previous at the start");
     position = 2;
-    must(throws<std::out_of_range>([&] { s.next(position, point); }), "next off a boundary");
-    must(throws<std::out_of_range>([&] { s.previous(position, point); }), "previous off a boundary");
+    must(is_out_of_range([&] { (void)s.next(position, point); }), "next off a boundary");
+    must(is_out_of_range([&] { (void)s.previous(position, point); }), "previous off a boundary");
     must(position == 2 && point == U'a', "a step off a boundary changes no argument");
+    char16_t unit = 0;
+    must(is_out_of_range([&] { (void)s.next_surrogate(position, unit); }), "next_surrogate off a boundary");
+    position = 1;
+    must(s.next_surrogate(position, unit) && unit == 0xDC00 && position == 8, "next_surrogate");
+    must(!s.next_surrogate(position, unit) && unit == 0xDC00 && position == 8, "next_surrogate at the end");
+    char32_t copied[2] = {0, 0};
+    position = 0;
+    must(s.copy_code_points(position, copied, 2) == 2 && copied[1] == 0x1F4A9 && position == 5, "copy_code_points");
+    must(s.copy_code_points(position, copied, 2) == 1 && copied[0] == 0xDC00 && position == 8, "the last code points");
+    must(s.copy_code_points(position, copied, 2) == 0 && position == 8, "copy_code_points at the end");
 }
 
-static void test_throws() {
+static void test_failures() {
     string s(mixed), other(u"xy");
     const std::vector<std::function<void()>> out_of_range = {
-        [&] { s.at(4); },           [&] { s.at(huge); },           [&] { s.position_at(5); },    [&] { s.slice(2, 1); },
-        [&] { s.slice(0, 5); },     [&] { s.units(2, 1); },        [&] { s.units(5, 5); },       [&] { s.append(other, 0, 3); },
-        [&] { s.append(s, 3, 2); }, [&] { s.assign(other, 2, 3); }, [&] { s.truncate_units(5); }, [&] { s.truncate_bytes(2); },
-        [&] { s.truncate_bytes(9); }};
-    for (const auto &call : out_of_range) must(throws<std::out_of_range>(call) && s.units() == mixed, "out_of_range");
+        [&] { (void)s.at(4); },           [&] { (void)s.at(huge); },       [&] { (void)s[4]; },
+        [&] { (void)s.position_at(5); },  [&] { (void)s.slice(2, 1); },    [&] { (void)s.slice(0, 5); },
+        [&] { (void)s.units(2, 1); },     [&] { (void)s.units(5, 5); },    [&] { s.append(other, 0, 3); },
+        [&] { s.append(s, 3, 2); },       [&] { s.assign(other, 2, 3); },  [&] { s.truncate_units(5); },
+        [&] { s.truncate_bytes(2); },     [&] { s.truncate_bytes(9); }};
+    for (const auto &call : out_of_range) must(is_out_of_range(call) && s.units() == mixed, "out_of_range");
     must(fails([&] { s.append_code_point(0x110000); }, WTF8_BAD_CODE_POINT) && s.units() == mixed, "BAD_CODE_POINT");
     must(fails([&] { s.append_utf8("ab\xFF"); }, WTF8_NOT_UTF8, 2) && s.units() == mixed, "NOT_UTF8");
+    size_t bad = 77;
+    must(s.append_utf8_part("z\xE4\xB8z", bad) == 1 && bad == 2 && s.units() == mixed + u"z", "append_utf8_part");
+    s.truncate_units(mixed.size());
     must(fails([&] { s.assign_utf8("\xC3\xA9\xED\xA0\x80"); }, WTF8_NOT_UTF8, 2) && s.units() == mixed, "NOT_UTF8");
-    must(fails([] { string::from_utf8("\xC3"); }, WTF8_NOT_UTF8, 0), "NOT_UTF8");
-    must(fails([&] { s.utf8(); }, WTF8_HAS_SURROGATE) && s.units() == mixed, "HAS_SURROGATE");
-    must(throws<std::bad_alloc>([&] { s.reserve_bytes(huge); }) && s.units() == mixed, "more bytes than a block can have");
+    must(fails([] { (void)string::from_utf8("\xC3"); }, WTF8_NOT_UTF8, 0), "NOT_UTF8");
+    must(fails([&] { (void)s.utf8(); }, WTF8_HAS_SURROGATE) && s.units() == mixed, "HAS_SURROGATE");
+    must(is_bad_alloc([&] { s.reserve_bytes(huge); }) && s.units() == mixed, "more bytes than a block can have");
 }
 
 /* Strings that the two orders and equality divide. */
@@ -187,6 +326,9 @@ static void test_order() {
         for (const auto &y : keys) {
             const string a(x), b(y);
             must(agree(a, b, x, y) && agree(a, y, x, y) && agree(x, b, x, y), "operators");
+#ifdef __cpp_lib_three_way_comparison
+            must((a <=> b) == (x <=> y) && (a <=> y) == (x <=> y) && (x <=> b) == (x <=> y), "<=>");
+#endif
             must((a.compare(b) < 0) == (x < y) && (a.compare(y) == 0) == (x == y) && a.equals(b) == a.equals(y), "compare");
         }
     }
@@ -270,24 +412,28 @@ static string a_full_string() {
     return s;
 }
 
+#if WITH_EXCEPTIONS
+
 /* Each call that takes memory, with the first requests granted and the next refused, until it is done. */
 static void test_refusals() {
     const string other(std::u16string(100, u'\x4E2D') + mixed);
     const std::vector<std::function<void(string &)>> calls = {
         [](string &) { string(mixed.data(), 4); },
-        [](string &) { string::from_utf8("text"); },
+        [](string &) { (void)string::from_utf8("text"); },
         [](string &) { string().mark(); },
-        [](string &s) { s.clone(); },
-        [](string &s) { s.slice(1, 2); },
-        [](string &s) { s.lossy(); },
+        [](string &s) { (void)s.clone(); },
+        [](string &s) { (void)s.slice(1, 2); },
         [](string &s) { s.assign(std::u16string(1000, u'y')); },
         [](string &s) { s.assign_utf8(std::string(1000, 'y')); },
         [&](string &s) { s.assign(other); },
         [&](string &s) { s.assign(other, 1, 102); },
         [](string &s) { s.append(u"y"); },
+        [](string &s) { s += u"y"; },
         [](string &s) { s.append_unit(u'y'); },
         [](string &s) { s.append_code_point(0x1F4A9); },
         [](string &s) { s.append_utf8("y"); },
+        [](string &s) { s.append_latin1("\xE9"); },
+        [](string &s) { size_t bad; s.append_utf8_part("y\xFF", bad); },
         [](string &s) { s.append(s); },
         [&](string &s) { s.append(other); },
         [&](string &s) { s.append(other, 1, 102); },
@@ -309,27 +455,41 @@ static void test_refusals() {
         }
         must(0 < granted_first, "a call that takes memory is refused it");
     }
+}
+
+#endif
+
+static void test_without_memory() {
     string a = a_full_string(), b;
     refuse_after = 0;
     b = std::move(a);
     a.swap(b);
     a.shrink();
     a.append(u"").truncate_units(4);
-    must(a.units() == mixed && a == mixed && a.assign(u"b").units() == u"b", "calls without memory");
+    must(a.units() == mixed && a == mixed && a.lossy() == "a\xF0\x9F\x92\xA9\xEF\xBF\xBD", "the lossy text without memory");
+    must(a.assign(u"b").units() == u"b", "calls without memory");
+    must(a.starts_with(u"b") && a.ends_with(u"b") && *a.begin() == U'b', "questions without memory");
     refuse_after = -1;
 }
 
 int main() {
     test_parts();
     test_building();
+    test_operators();
+    test_starts_and_ends();
+    test_iteration();
+    test_adoption();
     test_cuts();
     test_walks();
-    test_throws();
+    test_failures();
     test_order();
     test_maps();
     test_vectors();
     test_moves();
+#if WITH_EXCEPTIONS
     test_refusals();
+#endif
+    test_without_memory();
     must(blocks == 0, "each block is freed");
-    std::printf("cpp: no difference with C++ of %ld\n", __cplusplus);
+    std::printf("cpp: no difference with C++ of %ld, with%s exceptions\n", __cplusplus, WITH_EXCEPTIONS ? "" : "out");
 }

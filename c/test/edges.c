@@ -61,9 +61,9 @@ static const struct {
 
 /* Texts after `front` letters, set and pushed, and bytes that are none, before as many letters. */
 static void utf8_after(size_t front) {
-    uint8_t text[128];
-    uint16_t units[128];
-    wtf8_string string = WTF8_EMPTY;
+    uint8_t text[192];
+    uint16_t units[192];
+    wtf8_string string = WTF8_EMPTY, part = WTF8_EMPTY;
     memcpy(text, letters, front);
     for (size_t i = 0; i < sizeof texts / sizeof texts[0]; i++) {
         size_t len = front + texts[i].len, n = front + texts[i].n;
@@ -76,7 +76,12 @@ static void utf8_after(size_t front) {
         must(wtf8_set_utf8(&string, len ? array : NULL, len, &valid) == WTF8_OK && valid == 77, "a text is set");
         must_have(&string, units, n, "a text that was set");
         must(wtf8_push_utf8(&string, len ? array : NULL, len, NULL) == WTF8_OK, "a text is pushed");
+        size_t used = 77, bad = 77;
+        must(wtf8_push_utf8_part(&part, len ? array : NULL, len, &used, &bad) == WTF8_OK, "a text as a part");
+        must(used == len && bad == 0, "a part that is all of a text");
         must_begin(array, len, text, len, "the text itself");
+        must_have(&part, units, n, "a text that was pushed as a part");
+        wtf8_clear(&part);
         must_have(&string, units, 2 * n, "a text that was pushed");
         must(wtf8_byte_len(&string) == 2 * len && wtf8_is_utf8(&string), "a text's length");
         for (size_t k = 0; k < NO_TEXTS; k++) {
@@ -91,6 +96,11 @@ static void utf8_after(size_t front) {
                 must(set == front && pushed == front, "the first byte that is not UTF-8");
                 must(wtf8_set_utf8(&string, array, len, NULL) == WTF8_NOT_UTF8, "no text is set");
                 must(wtf8_push_utf8(&string, array, len, NULL) == WTF8_NOT_UTF8, "no text is pushed");
+                used = bad = 77;
+                must(wtf8_push_utf8_part(&part, array, len, &used, &bad) == WTF8_OK, "the front of no text");
+                must(used == front && wtf8_byte_len(&part) == front, "the length of the front that is a text");
+                must(bad == (back ? no_texts[k].before_letter : no_texts[k].at_end), "the bytes that are wrong together");
+                wtf8_clear(&part);
                 must_begin(array, len, text, len, "bytes that are no text");
                 if (front == 0) break;
             }
@@ -98,6 +108,7 @@ static void utf8_after(size_t front) {
         must_have(&string, units, 2 * n, "a text after bytes that are none");
     }
     wtf8_free(&string);
+    wtf8_free(&part);
 }
 
 /* As CPython 3.11 hashes the seeds' 16 bytes, the string's and FE, by SipHash-1-3, if its key is 0:
@@ -513,6 +524,113 @@ static void walks(void) {
     }
     must(wtf8_previous_code_point(&all, &at, &value) == WTF8_END && at == 0, "the end of a walk back");
     wtf8_free(&all);
+}
+
+/* Each surrogate of a string is found, after texts of each length, whose last letter begins with the lead byte of surrogates
+ * too, and none is found in a text or within a pair. */
+static void surrogates(void) {
+    enum { LONG = 140, FOUND = 4 };
+    static const uint16_t back[] = {0xDC00, 0x4E2D, 0xD83D, 0xDCA9, 0xD7FF, 0xDBFF, 0xE000, 0xDFFF, 0xD800};
+    static const uint16_t units[FOUND] = {0xDC00, 0xDBFF, 0xDFFF, 0xD800};
+    static const size_t ends[FOUND] = {3, 16, 22, 25};
+    wtf8_string none = WTF8_EMPTY;
+    size_t at = 0;
+    uint16_t unit = 77;
+    must(wtf8_next_surrogate(&none, &at, &unit) == WTF8_END && at == 0 && unit == 77, "a surrogate of nothing");
+    for (size_t n = 0; n < LONG; n++) {
+        wtf8_string string = WTF8_EMPTY;
+        must(wtf8_push_utf8(&string, letters, n, NULL) == WTF8_OK && wtf8_push_unit(&string, 0xD7FF) == WTF8_OK,
+             "a text before surrogates");
+        at = 0;
+        must(wtf8_next_surrogate(&string, &at, &unit) == WTF8_END && at == 0 && unit == 77, "a surrogate of a text");
+        must(wtf8_push_units(&string, back, sizeof back / sizeof back[0]) == WTF8_OK, "surrogates");
+        for (size_t i = 0; i < FOUND; i++) {
+            size_t again = n + 3 + ends[i] - 3;
+            must(wtf8_next_surrogate(&string, &at, &unit) == WTF8_OK && unit == units[i] && at == n + 3 + ends[i],
+                 "the next surrogate");
+            must(wtf8_next_surrogate(&string, &again, &unit) == WTF8_OK && unit == units[i] && again == at,
+                 "the surrogate at a position");
+            again = at - 1;
+            must(wtf8_next_surrogate(&string, &again, &unit) == WTF8_BAD_POSITION && again == at - 1 && unit == units[i],
+                 "a surrogate after a position within one");
+        }
+        must(wtf8_next_surrogate(&string, &at, &unit) == WTF8_END && at == n + 28, "no further surrogate");
+        at = SIZE_MAX;
+        must(wtf8_next_surrogate(&string, &at, &unit) == WTF8_BAD_POSITION && at == SIZE_MAX, "a surrogate after the end");
+        unit = 77;
+        wtf8_free(&string);
+    }
+}
+
+/* Code points of each kind are copied out from a boundary on, as many at once as the array has elements, and none at the
+ * end or after it. */
+static void copied_points(void) {
+    enum { POINTS = sizeof points / sizeof points[0], LONG = 400 };
+    static const size_t sizes[] = {0, 1, 2, 7, 8, 9, 63, 127, 128, 129, 255, 399, 400};
+    static const uint32_t kinds[] = {'a', 0xE9, 0x4E2D, 0x1F4A9, 0xD800};
+    for (size_t kind = 0; kind <= sizeof kinds / sizeof kinds[0]; kind++) {
+        wtf8_string string = WTF8_EMPTY;
+        uint32_t values[LONG];
+        size_t ends[LONG + 1] = {0};
+        for (size_t i = 0; i < LONG; i++) {
+            /* Leads alone, or all code points in turn with letters between. */
+            if (kind < sizeof kinds / sizeof kinds[0]) values[i] = kinds[kind];
+            else values[i] = i % 2 ? 'a' : points[i / 2 % POINTS].value;
+            must(wtf8_push_code_point(&string, values[i]) == WTF8_OK, "a code point to copy");
+            ends[i + 1] = wtf8_byte_len(&string);
+        }
+        for (size_t k = 0; k < sizeof sizes / sizeof sizes[0]; k++) {
+            for (size_t begin = 0; begin < LONG; begin += 57) {
+                size_t n = sizes[k], at = ends[begin], len = 77, count = LONG - begin < n ? LONG - begin : n;
+                uint32_t *out = an_array(4 * n);
+                must(wtf8_copy_code_points(&string, &at, n ? out : NULL, n, &len) == WTF8_OK, "code points");
+                must(len == count && at == ends[begin + count], "the number of code points");
+                must_begin(out, 4 * n, values + begin, 4 * count, "the code points");
+            }
+        }
+        uint32_t value = 77;
+        size_t at = ends[LONG], len = 77;
+        must(wtf8_copy_code_points(&string, &at, &value, 1, &len) == WTF8_END, "code points at the end");
+        at = SIZE_MAX;
+        must(wtf8_copy_code_points(&string, &at, &value, 1, &len) == WTF8_BAD_POSITION, "code points after the end");
+        must(at == SIZE_MAX && value == 77 && len == 77, "the numbers where nothing is copied");
+        wtf8_free(&string);
+    }
+}
+
+/* Each byte of Latin-1 is the code point of its value, in texts of each length about a multiple of 128, which fit
+ * exactly. */
+static void latin1(void) {
+    enum { LONG = 700 };
+    static uint8_t text[LONG];
+    static uint16_t units[LONG];
+    for (size_t i = 0; i < LONG; i++) units[i] = text[i] = (uint8_t)i;
+    for (size_t n = 0; n <= LONG; n += n % 128 < 2 || n % 128 > 126 ? 1 : 25) {
+        for (size_t begin = 0; begin + n <= LONG && begin < 256; begin += 51) {
+            wtf8_string string = WTF8_EMPTY;
+            size_t bytes = wtf8_encoded_len(units + begin, n);
+            must(wtf8_reserve_bytes(&string, bytes + 1) == WTF8_OK, "room for Latin-1");
+            must(wtf8_push_unit(&string, 'x') == WTF8_OK, "a letter before Latin-1");
+            size_t left = wtf8_capacity(&string) - wtf8_byte_len(&string);
+            long requested = requests;
+            uint8_t *array = array_of(text + begin, n);
+            refuse_after = 0;
+            must(wtf8_push_latin1(&string, n ? array : NULL, n) == WTF8_OK && requests == requested, "Latin-1 that fits");
+            must(wtf8_unit_len(&string) == n + 1 && wtf8_byte_len(&string) == bytes + 1, "the length of Latin-1");
+            wtf8_result code = wtf8_push_latin1(&string, array, n);
+            must(code == (2 * bytes <= left ? WTF8_OK : WTF8_NO_MEMORY), "Latin-1 that does not fit");
+            if (code == WTF8_OK) must(wtf8_truncate_units(&string, n + 1) == WTF8_OK, "Latin-1 that is taken off");
+            refuse_after = -1;
+            must_begin(array, n, text + begin, n, "a text in Latin-1");
+            must(wtf8_byte_len(&string) == bytes + 1, "the string after Latin-1 that does not fit");
+            must(wtf8_push_unit(&string, 'x') == WTF8_OK, "a letter after Latin-1");
+            wtf8_string same = WTF8_EMPTY;
+            must(wtf8_push_unit(&same, 'x') == WTF8_OK && wtf8_push_units(&same, units + begin, n) == WTF8_OK &&
+                 wtf8_push_unit(&same, 'x') == WTF8_OK && wtf8_equal(&string, &same), "the units of Latin-1");
+            wtf8_free(&string);
+            wtf8_free(&same);
+        }
+    }
 }
 
 /* Each part of a string is appended, also from the middle of a pair, and to the string itself. */
@@ -1127,7 +1245,7 @@ static void texts_of_codes(void) {
 int main(void) {
     memset(letters, 'a', LETTERS);
     code_points();
-    for (size_t front = 0; front < 48; front++) utf8_after(front);
+    for (size_t front = 0; front <= 70; front++) utf8_after(front);
     sip_vectors();
     hash();
     asked_units();
@@ -1137,6 +1255,9 @@ int main(void) {
     lengths();
     each_unit();
     walks();
+    surrogates();
+    latin1();
+    copied_points();
     pushed_slices();
     indexes();
     long_strings();

@@ -156,6 +156,18 @@ static inline wtf8_result next_point(const struct pair *p, size_t *position, uin
     return WTF8_OK;
 }
 
+/* The same of the first surrogate after a position. */
+static inline wtf8_result next_surrogate(const struct pair *p, size_t *position, uint16_t *unit) {
+    size_t at = *position;
+    uint32_t value = 0;
+    wtf8_result code;
+    while ((code = next_point(p, &at, &value)) == WTF8_OK && (value < 0xD800 || value > 0xDFFF)) {}
+    if (code != WTF8_OK) return code;
+    *position = at;
+    *unit = (uint16_t)value;
+    return WTF8_OK;
+}
+
 /* The same of the code point before a position. */
 static inline wtf8_result previous_point(const struct pair *p, size_t *position, uint32_t *value) {
     uint8_t bytes[4];

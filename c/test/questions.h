@@ -6,7 +6,7 @@
 
 #include <string.h>
 
-enum { QUESTIONS = 25, SEED_0 = 77, SEED_1 = 88 };
+enum { QUESTIONS = 27, SEED_0 = 77, SEED_1 = 88 };
 
 /* What the calls must answer of one string, and of it and another. */
 struct answers {
@@ -87,6 +87,19 @@ static inline int is_right(unsigned kind, size_t number, const struct pair *p, c
         case 23:
             wtf8_clear(own);
             return wtf8_push_slice(own, s, begin, end) == WTF8_OK && has_units(own, p->units + begin, end - begin);
+        case 24: {
+            uint16_t surrogate = 0, must_be_surrogate = 0;
+            code = wtf8_next_surrogate(s, &at, &surrogate);
+            return code == next_surrogate(p, &must_be_at, &must_be_surrogate) && at == must_be_at && surrogate == must_be_surrogate;
+        }
+        case 25: {
+            uint32_t points[MOST];
+            code = wtf8_copy_code_points(s, &at, points, number / 3 % MOST, &len);
+            for (size_t i = 0; i < len; i++)
+                if (next_point(p, &must_be_at, &must_be) != WTF8_OK || points[i] != must_be) return 0;
+            if (code != WTF8_OK) return code == next_point(p, &must_be_at, &must_be) && at == position && len == 0;
+            return at == must_be_at && (len == number / 3 % MOST || at == a->byte_len);
+        }
         default:
             wtf8_clear(own);
             return wtf8_push_string(own, s) == WTF8_OK && has_units(own, p->units, p->n);

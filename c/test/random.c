@@ -7,12 +7,12 @@
 #include "requests.h"
 
 enum call {
-    SET_UNITS, SET_UTF8, SET_STRING, CLEAR, FREE, RESERVE, PUSH_UNIT, PUSH_POINT, PUSH_UNITS, PUSH_UTF8, PUSH_STRING,
-    PUSH_SLICE, MARK, FILL, SHRINK, TRUNCATE_UNITS, TRUNCATE_BYTES, POP, SLICE, ALIKE,
+    SET_UNITS, SET_UTF8, SET_STRING, CLEAR, FREE, RESERVE, PUSH_UNIT, PUSH_POINT, PUSH_UNITS, PUSH_LATIN1, PUSH_UTF8,
+    PUSH_PART, PUSH_STRING, PUSH_SLICE, MARK, FILL, SHRINK, TRUNCATE_UNITS, TRUNCATE_BYTES, POP, SLICE, ALIKE,
     /* Calls that only read. */
-    UNIT_LEN, CAPACITY, POSITION_AT, UNIT_BEFORE, UNIT_AT, IS_BOUNDARY, NEXT, PREVIOUS, IS_UTF8, EQUAL, ORDER_UNITS,
-    ORDER_POINTS, HASH, HASH_UNITS, EQUAL_UNITS, ORDER_WITH_UNITS, STARTS_WITH, COPY_UNITS, COPY_SLICE, COPY_UTF8,
-    COPY_LOSSY, CALLS
+    UNIT_LEN, CAPACITY, POSITION_AT, UNIT_BEFORE, UNIT_AT, IS_BOUNDARY, NEXT, PREVIOUS, NEXT_SURROGATE, IS_UTF8, EQUAL,
+    ORDER_UNITS, ORDER_POINTS, HASH, HASH_UNITS, EQUAL_UNITS, ORDER_WITH_UNITS, STARTS_WITH, COPY_UNITS, COPY_POINTS, COPY_SLICE,
+    COPY_UTF8, COPY_LOSSY, CALLS
 };
 
 enum { STRINGS = 4, CODES = WTF8_END + 1, TEXT_LONGEST = 4 * LONGEST + 2 * LONGEST_NO_TEXT };
@@ -46,9 +46,12 @@ static size_t a_text(uint8_t *text, uint16_t *units, size_t *n, size_t *at) {
     return len;
 }
 
+/* The index of the bytes that were put last. */
+static size_t spoiled_by;
+
 /* Puts bytes that are not UTF-8 at a position of the text. The result is the length then. */
 static size_t spoiled(uint8_t *text, size_t len, size_t at) {
-    size_t k = below(NO_TEXTS);
+    size_t k = spoiled_by = below(NO_TEXTS);
     memmove(text + at + no_texts[k].len, text + at, len - at);
     memcpy(text + at, no_texts[k].bytes, no_texts[k].len);
     return len + no_texts[k].len;
@@ -246,6 +249,21 @@ static void step(enum call call, struct pair *p, struct pair *q) {
             else if (code == WTF8_OK) append(p, units, n);
             break;
         }
+        case PUSH_PART: {
+            len = a_text(text, units, &n, &at);
+            if (is_bad) len = spoiled(text, len, len);
+            size_t front = is_bad ? len - no_texts[spoiled_by].len : len, left = is_bad ? no_texts[spoiled_by].at_end : 0;
+            needs_none = refuse_if_units_fit(p, units, n);
+            bytes = array_of(text, len);
+            written = an_array(sizeof *written);
+            size_t *used = an_array(sizeof *used);
+            code = wtf8_push_utf8_part(&p->string, len || below(2) ? bytes : NULL, len, used, written);
+            must_begin(bytes, len, text, len, "the text of a part");
+            must_begin(used, sizeof front, &front, code == WTF8_OK ? sizeof front : 0, "the length of the part");
+            must_begin(written, sizeof left, &left, code == WTF8_OK ? sizeof left : 0, "the bad bytes after the part");
+            if (code == WTF8_OK) append(p, units, n);
+            break;
+        }
         case SET_STRING:
             needs_none = p == q || is_set_in_place(p, byte_len(q));
             if (p == q && below(2)) refuse_after = 0;
@@ -294,6 +312,16 @@ static void step(enum call call, struct pair *p, struct pair *q) {
             must_begin(array, 2 * n, units, 2 * n, "push_units, array");
             if (code == WTF8_OK) append(p, units, n);
             break;
+        case PUSH_LATIN1: {
+            uint32_t kind = below(2) ? 0x80 : 0x100;
+            for (size_t i = 0; i < n; i++) units[i] = text[i] = (uint8_t)below(kind);
+            needs_none = refuse_if_units_fit(p, units, n);
+            bytes = array_of(text, n);
+            code = wtf8_push_latin1(&p->string, n || below(2) ? bytes : NULL, n);
+            must_begin(bytes, n, text, n, "push_latin1, text");
+            if (code == WTF8_OK) append(p, units, n);
+            break;
+        }
         case PUSH_STRING:
             needs_none = p != q && refuse_if_units_fit(p, q->units, q->n);
             code = wtf8_push_string(&p->string, &q->string);
@@ -402,6 +430,18 @@ static void step(enum call call, struct pair *p, struct pair *q) {
             must_begin(point, sizeof value, &value, code == WTF8_OK ? sizeof value : 0, "the code point of a walk");
             break;
         }
+        case NEXT_SURROGATE: {
+            at = an_index(byte_len(p));
+            uint16_t must_be = 77;
+            written = array_of(&at, sizeof at);
+            array = an_array(sizeof *array);
+            refuse_after = 0;
+            code = wtf8_next_surrogate(&p->string, written, array);
+            must(code == next_surrogate(p, &at, &must_be), "next_surrogate");
+            must_begin(written, sizeof at, &at, sizeof at, "where a search is");
+            must_begin(array, 2, &must_be, code == WTF8_OK ? 2 : 0, "the surrogate that is found");
+            break;
+        }
         case IS_UTF8: must(wtf8_is_utf8(&p->string) == is_utf8(p), "is_utf8"); break;
         case EQUAL: must(wtf8_equal(&p->string, &q->string) == (compare_units(p, q) == 0), "equal"); break;
         case ORDER_UNITS: must(wtf8_compare_units(&p->string, &q->string) == compare_units(p, q), "compare_units"); break;
@@ -459,6 +499,25 @@ static void step(enum call call, struct pair *p, struct pair *q) {
             must_begin(written, sizeof len, &p->n, sizeof len, "copy_units, length");
             must_begin(array, 2 * n, p->units, code == WTF8_OK ? 2 * p->n : 0, "copy_units, array");
             break;
+        case COPY_POINTS: {
+            static uint32_t points[MOST];
+            size_t begin = an_index(byte_len(p)), count = 0;
+            at = begin;
+            n = below(4) ? below(20) : a_size(p->n);
+            uint32_t *out = an_array(4 * n);
+            written = an_array(sizeof *written);
+            size_t *moved = array_of(&at, sizeof at);
+            refuse_after = 0;
+            code = wtf8_copy_code_points(&p->string, moved, n || below(2) ? out : NULL, n, written);
+            wtf8_result must_be = next_point(p, &at, points);
+            at = begin;
+            must(code == must_be, "copy_code_points");
+            while (code == WTF8_OK && count < n && next_point(p, &at, points + count) == WTF8_OK) count++;
+            must_begin(moved, sizeof at, &at, sizeof at, "where a copy of code points is");
+            must_begin(written, sizeof count, &count, code == WTF8_OK ? sizeof count : 0, "copy_code_points, number");
+            must_begin(out, 4 * n, points, 4 * count, "copy_code_points, array");
+            break;
+        }
         case COPY_SLICE: {
             size_t a = below((uint32_t)p->n + 2), b = an_index(p->n);
             int in_range = a <= b && b <= p->n;
@@ -486,23 +545,23 @@ static void step(enum call call, struct pair *p, struct pair *q) {
             n = a_size(needed);
             bytes = an_array(n);
             written = an_array(sizeof *written);
-            needs_none = !has_surrogate && needed <= n;
+            needs_none = (is_lossy || !has_surrogate) && needed <= n;
             if (below(2)) refuse_after = 0;
             code = (is_lossy ? wtf8_copy_lossy : wtf8_copy_utf8)(&p->string, n || below(2) ? bytes : NULL, n, written);
             must((code == WTF8_HAS_SURROGATE) == (!is_lossy && has_surrogate), "copy_utf8, surrogate");
-            must(code != WTF8_NO_MEMORY || (is_lossy && has_surrogate && needed <= n), "copy_lossy, NO_MEMORY");
+            must(code != WTF8_NO_MEMORY, "copy_text, NO_MEMORY");
             must((code == WTF8_ARRAY_TOO_SHORT) == (n < needed && code != WTF8_HAS_SURROGATE), "copy_text, short");
             len = code == WTF8_OK || code == WTF8_ARRAY_TOO_SHORT ? sizeof needed : 0;
             must_begin(written, sizeof needed, &needed, len, "copy_text, length");
             must_begin(bytes, n, right, code == WTF8_OK ? needed : 0, "copy_text, array");
-            must((is_lossy && has_surrogate) || requests == requested, "copy_text requests memory");
+            must(requests == requested, "copy_text requests memory");
             break;
         }
         default: must(0, "no call"); break;
     }
     must(code <= WTF8_END, "code");
     /* Units may be refused after the string has grown for the first of them. */
-    int may_grow = call == PUSH_UNITS || call == PUSH_SLICE;
+    int may_grow = call == PUSH_UNITS || call == PUSH_LATIN1 || call == PUSH_SLICE;
     must(code == WTF8_OK || may_grow || wtf8_capacity(&p->string) == capacity, "the capacity after a code that is not OK");
     must(code != WTF8_NO_MEMORY || refused < refusals || more > PTRDIFF_MAX, "NO_MEMORY, but no request was refused");
     if (UNIT_LEN <= call || (call == SLICE && p != q))
@@ -510,7 +569,7 @@ static void step(enum call call, struct pair *p, struct pair *q) {
     if (p != q && call != FILL && call != SLICE && call != ALIKE && call != STARTS_WITH)
         must(memcmp(other, &q->string, sizeof other) == 0, "the struct of another string");
     if (UNIT_LEN <= call || (CLEAR <= call && call <= FREE) || (TRUNCATE_UNITS <= call && call <= POP)) {
-        must(call == COPY_LOSSY || requests == requested, "a call that cannot be refused requests memory");
+        must(requests == requested, "a call that cannot be refused requests memory");
         must(call == FREE || wtf8_capacity(&p->string) == capacity, "the capacity after a call that does not append");
         counts[call][code]++;
         return;
@@ -551,14 +610,16 @@ int main(int count, char **words) {
     static const int reached[][2] = {
         {SET_UNITS, WTF8_NO_MEMORY}, {SET_UTF8, WTF8_NO_MEMORY}, {SET_UTF8, WTF8_NOT_UTF8}, {SET_STRING, WTF8_NO_MEMORY},
         {RESERVE, WTF8_NO_MEMORY}, {MARK, WTF8_NO_MEMORY}, {PUSH_UNIT, WTF8_NO_MEMORY}, {PUSH_POINT, WTF8_NO_MEMORY},
-        {PUSH_POINT, WTF8_BAD_CODE_POINT}, {PUSH_UNITS, WTF8_NO_MEMORY}, {PUSH_UTF8, WTF8_NO_MEMORY},
-        {PUSH_UTF8, WTF8_NOT_UTF8}, {PUSH_STRING, WTF8_NO_MEMORY}, {PUSH_SLICE, WTF8_NO_MEMORY},
+        {PUSH_POINT, WTF8_BAD_CODE_POINT}, {PUSH_UNITS, WTF8_NO_MEMORY}, {PUSH_LATIN1, WTF8_NO_MEMORY},
+        {PUSH_UTF8, WTF8_NO_MEMORY}, {PUSH_UTF8, WTF8_NOT_UTF8}, {PUSH_PART, WTF8_NO_MEMORY},
+        {PUSH_STRING, WTF8_NO_MEMORY}, {PUSH_SLICE, WTF8_NO_MEMORY},
         {PUSH_SLICE, WTF8_BAD_POSITION}, {POSITION_AT, WTF8_BAD_POSITION}, {UNIT_AT, WTF8_BAD_POSITION},
-        {NEXT, WTF8_BAD_POSITION}, {NEXT, WTF8_END}, {PREVIOUS, WTF8_BAD_POSITION}, {PREVIOUS, WTF8_END},
+        {NEXT_SURROGATE, WTF8_BAD_POSITION}, {NEXT_SURROGATE, WTF8_END}, {NEXT, WTF8_BAD_POSITION}, {NEXT, WTF8_END}, {PREVIOUS, WTF8_BAD_POSITION}, {PREVIOUS, WTF8_END},
         {TRUNCATE_UNITS, WTF8_BAD_POSITION}, {TRUNCATE_BYTES, WTF8_BAD_POSITION}, {POP, WTF8_END}, {SLICE, WTF8_NO_MEMORY},
         {SLICE, WTF8_BAD_POSITION}, {COPY_UNITS, WTF8_ARRAY_TOO_SHORT}, {COPY_SLICE, WTF8_BAD_POSITION},
+        {COPY_POINTS, WTF8_BAD_POSITION}, {COPY_POINTS, WTF8_END},
         {COPY_SLICE, WTF8_ARRAY_TOO_SHORT}, {COPY_UTF8, WTF8_HAS_SURROGATE}, {COPY_UTF8, WTF8_ARRAY_TOO_SHORT},
-        {COPY_LOSSY, WTF8_NO_MEMORY}, {COPY_LOSSY, WTF8_ARRAY_TOO_SHORT}};
+        {COPY_LOSSY, WTF8_ARRAY_TOO_SHORT}};
     for (int call = 0; call < CALLS; call++) must(counts[call][WTF8_OK] > 0 || steps < 25000, "a call is never done");
     for (size_t i = 0; i < sizeof reached / sizeof reached[0]; i++)
         must(counts[reached[i][0]][reached[i][1]] > 0 || steps < 25000, "a code is never reached");

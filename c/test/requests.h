@@ -1,5 +1,6 @@
 /* The program's requests for memory, counted, and refused on demand; arrays of an exact size. Linked with
- * -Wl,--wrap=malloc,--wrap=realloc,--wrap=free. A file that includes this defines _DEFAULT_SOURCE first, for mmap. */
+ * -Wl,--wrap=malloc,--wrap=realloc,--wrap=free, or compiled with USE_MEMORY, and then only the library's requests are
+ * refused. A file that includes this defines _DEFAULT_SOURCE first, for mmap. */
 #ifndef REQUESTS_H
 #define REQUESTS_H
 
@@ -16,9 +17,24 @@ static long requests;
 static long refusals;
 static long blocks; /* the number of blocks that were granted and not freed */
 
+#ifdef USE_MEMORY
+#include "../wtf8.h"
+
+#define __real_malloc malloc
+#define __real_realloc realloc
+#define __real_free free
+void *__wrap_malloc(size_t size);
+void *__wrap_realloc(void *at, size_t size);
+void __wrap_free(void *at);
+
+__attribute__((constructor)) static void use_memory(void) {
+    wtf8_use_memory(__wrap_malloc, __wrap_realloc, __wrap_free);
+}
+#else
 void *__real_malloc(size_t size);
 void *__real_realloc(void *at, size_t size);
 void __real_free(void *at);
+#endif
 
 static int is_refused(void) {
     requests++;

@@ -1,12 +1,12 @@
-"""Two Python threads that push to one string of the page's class and ask its length; then threads with a string that has no
-lock: they push by calls that keep the interpreter's lock, and ask by calls that do not."""
+"""Two Python threads that push to one string of the module's class and ask its length; then threads with a string that
+has no lock: they push by calls that keep the interpreter's lock, and ask by calls that do not."""
 import ctypes
 import pathlib
 import sys
 import threading
 
-sys.path.insert(0, str(pathlib.Path(__file__).resolve().parent.parent / "example"))
-from join import String, Struct, lib
+sys.path.insert(0, str(pathlib.Path(__file__).resolve().parent.parent))
+from wtf8 import String, Struct, lib
 
 FRONT, CALLS, PUSHES, THREADS = 20000, 30000, 20000, 4
 sys.setswitchinterval(1e-5)

@@ -1,4 +1,5 @@
 pub mod Marks
 pub mod Positions
 pub mod Reading
+pub mod Types
 pub mod Written

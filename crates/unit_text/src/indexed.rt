@@ -6,6 +6,7 @@ ghost use Rattle.wtf8.specs.CodePoint.{number};
 ghost use Rattle.wtf8.specs.Form.{IsForm, encoding};
 ghost use Rattle.wtf8.specs.Position.{IsBoundary, IsFront};
 ghost use Rattle.wtf8.specs.Unicode.{units, units_of};
+ghost use Rattle.wtf8.specs.UnitMark.{IsMark};
 ghost use Rattle.wtf8.specs.UnitPosition.{units_of_slice, DividesPair};
 ghost use Rattle.wtf8.specs.UnitString.{UnitString, unit_string_code};
 ghost use Rattle.wtf8.specs.Units.{unread_units};
@@ -237,6 +238,26 @@ impl<A: Allocator> IndexedBuf<A> {
         units
     }
 
+    /// Whether the code units of the string are these. Constant if there are more or fewer, else linear in the equal
+    /// front. Does not allocate.
+    pub fn eq_units(&self, units: &[u16]) -> bool
+        ensures { IsTrue result ↔ (self.now.units ≡ units.now) }
+    {
+        units.len() == self.count && self.text.as_wtf8().starts_with_units(units)
+    }
+
+    /// Whether the code units from index `begin` on begin with the units of `other`. An empty `other` is found
+    /// everywhere, also past the end. Compares bytes, unless an end of the compared part splits a surrogate pair.
+    pub fn starts_with_at<B: Allocator>(&self, begin: usize, other: &IndexedBuf<B>) -> bool
+        ensures { IsTrue result ↔ (take (length other.now.units) (drop begin self.now.units) ≡ other.now.units) }
+    {
+        let begin = begin.min(self.count);
+        if self.count - begin < other.count {
+            return false;
+        }
+        slices::has_units(self.part(begin, other.count), other.as_wtf8())
+    }
+
     /// The byte position of the code point boundary before the code unit at index `i`, or of the end if `i` is the
     /// length, which it must not exceed. If `i` splits a surrogate pair, that is the position of the pair. Constant in
     /// an ASCII string. In others it counts the units from the last mark that is kept, or from the start, or from the
@@ -253,7 +274,8 @@ impl<A: Allocator> IndexedBuf<A> {
     }
 
     /// The number of code units before the last code point boundary at or before the byte `position`; the length if
-    /// `position` is past the end.
+    /// `position` is past the end. Constant in an ASCII string. In others it counts the units from the last mark that is
+    /// kept, or from the start, or from the end if that is nearer.
     pub fn unit_before(&self, position: usize) -> usize
         ensures before { AreUnitsBefore self.now.units position result }
         ensures exact { (v : List ℕ) → IsFront self.now.units position v → result ≡ length v }
@@ -420,8 +442,9 @@ impl<A: Allocator> IndexedBuf<A> {
         self.push_counted(other, other.unit_len())
     }
 
-    /// Appends another string of `count` code units.
-    pub(crate) fn push_counted(&mut self, other: Wtf8<'_>, count: usize) -> Result<(), AllocError>
+    /// Appends another string of `count` code units, and does not count them. If memory is refused, the string is
+    /// unchanged.
+    pub fn push_counted(&mut self, other: Wtf8<'_>, count: usize) -> Result<(), AllocError>
         requires { count ≡ length (view_units other) }
         ensures ok { OnOk result (AppendsUnits self.old (view_units other.entry) self.new) }
         ensures kept { OnErr result (KeepsContents self.old self.new) }
@@ -478,7 +501,25 @@ impl<A: Allocator> IndexedBuf<A> {
         marks::truncate_kept(text, &mut self.marks);
     }
 
-    /// Shortens the string to `new_len` bytes, which must be a code point boundary. Does not allocate.
+    /// Shortens the string to a mark of it, and counts no units: to the part before a last code point of a known length,
+    /// for example. Does not allocate. Constant.
+    pub fn truncate_at(&mut self, mark: UnitMark)
+        requires { IsMark self.old.bytes self.old.units mark.position mark.units }
+        ensures units { self.new.units ≡ take mark.units self.old.units }
+        ensures bytes { self.new.bytes ≡ take mark.position self.old.bytes }
+        ensures capacity { self.new.capacity ≡ self.old.capacity }
+    {
+        laws::law_mark(self.text.as_wtf8(), mark);
+        self.text.truncate_units_at(mark, mark.units);
+        self.count = mark.units;
+        laws::law_marks();
+        laws::law_one_form();
+        let text = CountedView::new(&self.text, self.count);
+        marks::truncate_kept(text, &mut self.marks);
+    }
+
+    /// Shortens the string to `new_len` bytes, which must be a code point boundary. Does not allocate. Counts the units
+    /// as `unit_before` does.
     pub fn truncate(&mut self, new_len: usize)
         requires { IsBoundary self.old.units new_len }
         ensures units { IsFront self.old.units new_len self.new.units }

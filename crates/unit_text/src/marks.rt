@@ -191,6 +191,21 @@ pub(crate) fn mark_from_end(text: CountedView<'_>, units: usize) -> UnitMark
     text.view.mark_back(text.end_mark(), units)
 }
 
+/// The mark at the last code point boundary at or before the byte `position`, found by the number of units after it.
+/// Not inlined, so that a text whose marks are nearer costs little.
+#[inline(never)]
+fn mark_before_from_end(text: CountedView<'_>, position: usize) -> UnitMark
+    requires { position ≤ length text.view.bytes.now }
+    ensures mark { IsMarkOf text.entry.view result }
+    ensures before { result.position ≤ position }
+    ensures last { (k : ℕ) → IsBoundary (view_units text.entry.view) k → k ≤ position → k ≤ result.position }
+{
+    laws::law_fronts();
+    let position = text.view.boundary_before(position);
+    let units = text.count - text.view.slice_from(position).unit_len();
+    UnitMark { position, units }
+}
+
 impl<'a> MarkedView<'a> {
     /// The view with these marks, or with none.
     #[inline(always)]
@@ -304,6 +319,9 @@ impl<'a> MarkedView<'a> {
             };
         }
         let from = self.kept_mark_before(position);
+        if self.text.view.len() - position < position - from.position {
+            return mark_before_from_end(self.text, position);
+        }
         self.text.view.mark_before(from, position)
     }
 

@@ -223,13 +223,7 @@ impl<A: Allocator> UnitText<A> {
     pub fn starts_with_at<B: Allocator>(&self, position: usize, other: &UnitText<B>) -> bool
         ensures { IsTrue result ↔ (take (length other.now) (drop position self.now) ≡ other.now) }
     {
-        let len = self.unit_len();
-        let begin = position.min(len);
-        if len - begin < other.unit_len() {
-            return false;
-        }
-        let part = self.buf.part(begin, other.unit_len());
-        slices::has_units(part, other.as_wtf8())
+        self.buf.starts_with_at(position, &other.buf)
     }
 
     /// Compares by code units, as ECMAScript compares strings: the first units that differ decide, and a prefix comes

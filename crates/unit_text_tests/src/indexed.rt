@@ -409,6 +409,8 @@ fn is_order(alloc: Global, units: &[u16], others: &[u16], order: Ordering) -> bo
     buf.unit_len() == units.len()
         && other.unit_len() == others.len()
         && are_ordered(&buf, &other, order)
+        && buf.eq_units(others) == (order == Ordering::Equal)
+        && buf.starts_with_at(0, &other) == units.starts_with(others)
 }
 
 /// Whether the buffer of the units, which have this number in the list, compares with all others as the number does.
@@ -603,22 +605,32 @@ fn pushed_string(alloc: Global, text: Wtf8<'_>, is_str: bool) -> IndexedBuf<Glob
     buf
 }
 
+/// Whether a buffer with marks has the units of its kind after a string whose units are counted before is pushed.
+fn is_pushed_counted(alloc: Global, text: Wtf8<'_>, units: &[u16], kind: Kind) -> bool {
+    let mut buf = IndexedBuf::new(alloc);
+    buf.mark_units(alloc);
+    let is_pushed = buf.push_counted(text, text.unit_len()).is_ok();
+    is_pushed && is_long(alloc, buf, units, kind)
+}
+
 /// Whether a buffer with marks has the units of its kind after these are pushed as one string and as one text.
 fn is_pushed_string(alloc: Global, units: &[u16], kind: Kind) -> bool {
     let Ok(text) = Wtf8Buf::from_ill_formed_utf16(alloc, units) else {
         return false;
     };
-    is_long(
-        alloc,
-        pushed_string(alloc, text.as_wtf8(), false),
-        units,
-        kind,
-    ) && is_long(
-        alloc,
-        pushed_string(alloc, text.as_wtf8(), true),
-        units,
-        kind,
-    )
+    is_pushed_counted(alloc, text.as_wtf8(), units, kind)
+        && is_long(
+            alloc,
+            pushed_string(alloc, text.as_wtf8(), false),
+            units,
+            kind,
+        )
+        && is_long(
+            alloc,
+            pushed_string(alloc, text.as_wtf8(), true),
+            units,
+            kind,
+        )
 }
 
 /// Whether a copy was made and has the units of its kind.
@@ -726,6 +738,24 @@ fn is_cut_at_position<A: Allocator>(
     is_regrown(alloc, buf, units, kind, units_before(kind, position))
 }
 
+/// Cuts a buffer at the mark of index `n`, or of its pair. Whether it has the units before alone, and all again once the
+/// others are pushed.
+fn is_cut_at_mark<A: Allocator>(
+    alloc: Global,
+    buf: &mut IndexedBuf<A>,
+    units: &[u16],
+    kind: Kind,
+    n: usize,
+) -> bool {
+    if buf.unit_len() < n {
+        return false;
+    }
+    let view = buf.as_wtf8();
+    let mark = view.mark_at(view.start_mark(), n);
+    buf.truncate_at(mark);
+    is_regrown(alloc, buf, units, kind, mark.units)
+}
+
 /// Empties a buffer. Whether it is empty, with the same capacity, and has the units again once they are pushed.
 fn is_cleared<A: Allocator>(
     alloc: Global,
@@ -750,6 +780,7 @@ fn is_shortened<A: Allocator>(
     for n in &INDEXES {
         if !is_cut(alloc, buf, units, kind, *n)
             || !is_cut_at_position(alloc, buf, units, kind, *n)
+            || !is_cut_at_mark(alloc, buf, units, kind, *n)
         {
             return false;
         }

@@ -7,3 +7,4 @@ pub mod Search
 pub mod UnitEnds
 pub mod UnitsInBytes
 pub mod UnitsOut
+pub mod Utf8Bytes

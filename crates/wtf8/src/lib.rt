@@ -14,8 +14,11 @@ mod vec;
 
 pub use buffers::buf::Wtf8Buf;
 pub use buffers::build::{Build, Stopped};
+pub use buffers::text::TextError;
 pub use codec::code_point::CodePoint;
 pub use from_utf16::encoded_len::encoded_len;
+pub use from_utf16::front::{EncodedFront, encode_front};
+pub use lanes::utf8::from_utf8;
 pub use strings::iters::{IllFormedUtf16CodeUnits, Wtf8CodePoints};
 pub use strings::view::Wtf8;
 pub use units::marks::UnitMark;

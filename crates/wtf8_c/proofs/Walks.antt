@@ -1,15 +1,19 @@
 -- Code points between boundaries.
-use Rattle.std.proofs.Common.{◌≡◌, ℕ, ◌+◌, ◌-◌, ◌<◌, ◌≤◌, ◌⊎◌, List, [], ◌∷◌, ◌++◌, length, take, inl, inr, refl, sym, ap, ◌∙◌, subst, arith}
+use Rattle.std.proofs.Common.{◌≡◌, ℕ, ◌+◌, ◌-◌, ◌<◌, ◌≤◌, ◌⊎◌, List, [], ◌∷◌, ◌++◌, length, take, drop, inl, inr, refl, sym, ap, ◌∙◌, subst, arith}
 use Rattle.std.proofs.Common.{length-append, append_assoc}
 use Rattle.std.proofs.lemmas.Bool.{cases_lt}
-use Rattle.std.proofs.lemmas.List.{append-nil, take_at}
+use Rattle.std.proofs.lemmas.List.{append-nil, take_at, take-append-drop}
 use Rattle.wtf8.specs.Form.{IsClean, IsForm, Reads, bytes, encoding}
-use Rattle.wtf8.specs.Position.{Splits, IsBoundary, IsBack}
+use Rattle.wtf8.specs.Position.{Splits, IsBoundary, IsFront, IsBack}
+use Rattle.wtf8.specs.UnitMark.{IsMark}
 use Rattle.wtf8.specs.Unicode.{units, units_of}
+use Rattle.wtf8.specs.View.{view_points, view_units}
+use Rattle.wtf8.specs.declared.strings.view.Wtf8.{Wtf8}
 use Rattle.wtf8.proofs.lemmas.codec.Encoding.{length-encoding_bounds, bytes-append, bytes-pushed}
 use Rattle.wtf8.proofs.lemmas.codec.Readings.{clean-front, nil_from_bytes, reads_same, units-pushed}
-use Rattle.wtf8.proofs.lemmas.strings.Positions.{shorter_is_prefix}
-use Rattle.wtf8_c.specs.Walks.{IsPointBetween}
+use Rattle.wtf8.proofs.lemmas.strings.Positions.{shorter_is_prefix, back_reads}
+use Rattle.wtf8.proofs.lemmas.units.UnitMarks.{boundary_is_mark}
+use Rattle.wtf8_c.specs.Walks.{IsPointBetween, ArePointsBetween}
 
 -- the first code point of those after a boundary
 pub first_after : {u v : List ℕ} {k : ℕ} (b : IsBack u k v) (p : ℕ) (rest : List ℕ) → b.back ≡ p ∷ rest
@@ -116,3 +120,41 @@ before_last {w} {u} {begin} {p} {n} f q e =
       points = points;
       reads = record { clean = clean-front q.front (p ∷ []) (subst IsClean points f.reads.clean); same_units = front };
     }
+
+-- a string has at least the units of its last code point
+pub last_units : {w u : List ℕ} {begin p : ℕ} (f : IsForm w u) → IsPointBetween u begin (length w) p → length (units_of p) ≤ length u
+last_units {w} {u} {begin} {p} f q =
+    let parts : u ≡ units q.front ++ units_of p = sym f.reads.same_units ∙ ap units (last_of f q) ∙ units-pushed q.front p in
+    omega (arith, ap length parts, length-append (units q.front) (units_of p))
+
+-- before the last code point is a mark of the units before it
+pub mark_before_last : {w u : List ℕ} {begin p : ℕ} (f : IsForm w u) → IsPointBetween u begin (length w) p → (n : ℕ)
+    → n + length (units_of p) ≡ length u → IsMark w u begin n
+mark_before_last {w} {u} {begin} {p} f q n e =
+    let parts : u ≡ units q.front ++ units_of p = sym f.reads.same_units ∙ ap units (last_of f q) ∙ units-pushed q.front p in
+    let count : length (units q.front) ≡ n = omega (arith, ap length parts, length-append (units q.front) (units_of p), e) in
+    let front : IsFront u begin (units q.front) =
+    record { front = q.front; back = p ∷ q.back; splits = q.begins; same_units = refl } in
+    subst (λ m. IsMark w u begin m) count (boundary_is_mark w u (units q.front) begin f front)
+
+-- the first code points after a boundary
+pub first_points_after : {u v : List ℕ} {begin : ℕ} (b : IsBack u begin v) (n : ℕ)
+    → ArePointsBetween u begin (begin + length (bytes (take n b.back))) (take n b.back)
+first_points_after {u} b n =
+    let front = take n b.back in
+    let parts : front ++ drop n b.back ≡ b.back = take-append-drop n b.back in
+    let whole : b.front ++ b.back ≡ (b.front ++ front) ++ drop n b.back =
+    ap (λ c. b.front ++ c) (sym parts) ∙ sym (append_assoc b.front front (drop n b.back)) in
+    record {
+      front = b.front;
+      back = drop n b.back;
+      begins = subst (λ c. Splits u _ b.front c) (sym parts) b.splits;
+      ends = record {
+        reads = subst (λ c. Reads c u) whole b.splits.reads;
+        front_len = omega (arith, b.splits.front_len, ap length (bytes-append b.front front), length-append (bytes b.front) (bytes front));
+      };
+    }
+
+-- the code points of a view after a boundary
+pub back_points : {u : List ℕ} {k : ℕ} (view : Wtf8) (b : IsBack u k (view_units view)) → b.back ≡ view_points view
+back_points view b = reads_same (back_reads b) (record { clean = view.well_formed.clean; same_units = refl })

@@ -3,4 +3,5 @@ pub mod Front
 pub mod Halves
 pub mod Hashing
 pub mod Ownership
+pub mod Utf8Front
 pub mod Walks

@@ -9,3 +9,11 @@ pub record IsPointBetween (u : List ℕ) (begin end p : ℕ) : Type 0 where
   pub back : List ℕ
   pub begins : Splits u begin front (p ∷ back)
   pub ends : Splits u end (front ++ p ∷ []) back
+
+-- The code points between the boundaries `begin` and `end` of the units `u` are `c` (Unicode 3.9, boundaries of code unit
+-- sequences).
+pub record ArePointsBetween (u : List ℕ) (begin end : ℕ) (c : List ℕ) : Type 0 where
+  pub front : List ℕ
+  pub back : List ℕ
+  pub begins : Splits u begin front (c ++ back)
+  pub ends : Splits u end (front ++ c) back

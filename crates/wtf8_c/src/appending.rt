@@ -1,17 +1,19 @@
 // Calls that append.
-ghost use Rattle.std.specs.Prelude.{◌≡◌, ◌++◌, ◌∷◌, [], ◌≤◌, ◌⊎◌, ◌↔◌, IsTrue};
+ghost use Rattle.std.specs.Prelude.{◌≡◌, ◌++◌, ◌∷◌, [], ◌≤◌, ◌⊎◌, ◌↔◌, IsTrue, length};
 ghost use Rattle.std.specs.Str.{chars, IsUtf8};
 ghost use Rattle.std.specs.Str.Lossy.{utf8_valid_len};
 ghost use Rattle.wtf8.specs.Appending.{AppendsUnits, KeepsContents, HasRoomFor};
 ghost use Rattle.wtf8.specs.Unicode.{IsCodePoint, units, units_of};
 ghost use Rattle.wtf8_c.specs.Contents.{contents};
+ghost use Rattle.wtf8_c.specs.Utf8Front.{utf8_front, bad_len};
 
 use crate::codes::{BAD_CODE_POINT, NO_MEMORY, NOT_UTF8, OK, code_of};
 use crate::handle::Wtf8String;
-use crate::opening::view;
+use crate::latin1::push_bytes;
+use crate::opening::{unit_len, view};
 use std::alloc::Global;
 use std::str;
-use wtf8::CodePoint;
+use wtf8::{CodePoint, from_utf8};
 
 /// Appends a unit. A trail after a lead completes the pair.
 #[unsafe(no_mangle)]
@@ -68,6 +70,23 @@ pub extern "C" fn wtf8_push_units(alloc: Global, string: &mut Wtf8String, units:
     code_of(pushed)
 }
 
+/// Appends a text in Latin-1: the code points of its bytes.
+#[unsafe(no_mangle)]
+pub extern "C" fn wtf8_push_latin1(alloc: Global, string: &mut Wtf8String, text: &[u8]) -> i32
+    ensures code { (result ≡ OK) ⊎ (result ≡ NO_MEMORY) }
+    ensures ok { result ≡ OK → AppendsUnits (contents string.old) text.now (contents string.new) }
+    ensures kept { result ≡ NO_MEMORY → KeepsContents (contents string.old) (contents string.new) }
+    ensures room { IsTrue string.old.full → HasRoomFor (contents string.old) text.now → result ≡ OK }
+    ensures capacity { (contents string.old).capacity ≤ (contents string.new).capacity }
+{
+    let Ok(mut buf) = string.open(alloc) else {
+        return NO_MEMORY;
+    };
+    let pushed = push_bytes(&mut buf, text);
+    string.put(buf);
+    code_of(pushed)
+}
+
 /// Appends a text, which must be UTF-8. If it is not, the length of its longest front that is UTF-8 is written to
 /// `valid`.
 #[unsafe(no_mangle)]
@@ -86,11 +105,56 @@ pub extern "C" fn wtf8_push_utf8(
     ensures valid_kept { ¬ (result ≡ NOT_UTF8) → valid.new ≡ valid.old }
     ensures capacity { (contents string.old).capacity ≤ (contents string.new).capacity }
 {
-    match str::from_utf8(text) {
+    match from_utf8(text) {
         Ok(text) => push_text(alloc, string, text),
         Err(error) => {
             *valid = error.valid_up_to();
             NOT_UTF8
+        }
+    }
+}
+
+/// Appends the longest front of `text` that is UTF-8. Its length is written to `used`, and the number of bytes after it
+/// that are wrong together to `bad`, which is 0 if none are: `text` was taken whole, or ends within a code point.
+#[unsafe(no_mangle)]
+pub extern "C" fn wtf8_push_utf8_part(
+    alloc: Global,
+    string: &mut Wtf8String,
+    text: &[u8],
+    used: &mut usize,
+    bad: &mut usize,
+) -> i32
+    ensures code { (result ≡ OK) ⊎ (result ≡ NO_MEMORY) }
+    ensures ok { result ≡ OK → AppendsUnits (contents string.old) (units (chars (utf8_front text.now))) (contents string.new) }
+    ensures kept { result ≡ NO_MEMORY → KeepsContents (contents string.old) (contents string.new) }
+    ensures room { IsTrue string.old.full → HasRoomFor (contents string.old) (units (chars (utf8_front text.now))) → result ≡ OK }
+    ensures capacity { (contents string.old).capacity ≤ (contents string.new).capacity }
+    ensures used { result ≡ OK → used.new ≡ utf8_valid_len text.now }
+    ensures bad { result ≡ OK → bad.new ≡ bad_len text.now }
+    ensures used_kept { result ≡ NO_MEMORY → used.new ≡ used.old }
+    ensures bad_kept { result ≡ NO_MEMORY → bad.new ≡ bad.old }
+{
+    let (front, after) = read_front(text);
+    let code = push_text(alloc, string, front);
+    if code == OK {
+        *used = front.len();
+        *bad = after;
+    }
+    code
+}
+
+/// The longest front that is UTF-8, and the number of bytes after it that are wrong together.
+fn read_front(text: &[u8]) -> (&str, usize)
+    ensures front { result.0.now ≡ utf8_front text.now }
+    ensures len { length result.0.now ≡ utf8_valid_len text.now }
+    ensures bad { result.1 ≡ bad_len text.now }
+{
+    match from_utf8(text) {
+        Ok(whole) => (whole, 0),
+        Err(error) => {
+            let (front, _) = text.split_at(error.valid_up_to());
+            let front = unsafe { str::from_utf8_unchecked(front) };
+            (front, error.error_len().unwrap_or(0))
         }
     }
 }
@@ -129,7 +193,7 @@ pub extern "C" fn wtf8_push_string(
         return NO_MEMORY;
     };
     let held = other.take(alloc);
-    let pushed = buf.push_wtf8(view(&held));
+    let pushed = buf.push_counted(view(&held), unit_len(&held));
     other.put_back(held);
     string.put(buf);
     code_of(pushed)

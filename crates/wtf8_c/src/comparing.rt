@@ -1,17 +1,12 @@
 // Calls that compare a string with units, or its units from an index on with another string.
-ghost use Rattle.std.specs.Cmp.Lexicographic.{slice_cmp};
-ghost use Rattle.std.specs.Ordering.{MatchOrdering, is_eq, nat_cmp};
 ghost use Rattle.std.specs.Prelude.{◌≡◌, ◌⊎◌, ◌↔◌, IsTrue, length, take, drop};
 ghost use Rattle.wtf8.specs.Order.{Before};
-ghost use Rattle.wtf8.specs.View.{view_units};
 ghost use Rattle.wtf8_c.specs.Contents.{contents, buffer_contents};
 
 use crate::codes::{AFTER, BEFORE, SAME, code_of_order};
 use crate::handle::Wtf8String;
-use crate::opening::{HeldBuf, unit_len, view};
+use crate::opening::{HeldBuf, view};
 use std::alloc::Global;
-use std::cmp::Ordering;
-use wtf8::Wtf8;
 
 /// Whether the units of the string are these.
 #[unsafe(no_mangle)]
@@ -39,7 +34,7 @@ pub extern "C" fn wtf8_compare_with_units(
     ensures kept { contents string.new ≡ contents string.old }
 {
     let held = string.take(alloc);
-    let order = compare_units(&held, units);
+    let order = view(&held).cmp_with_units(units);
     string.put_back(held);
     code_of_order(order)
 }
@@ -59,7 +54,7 @@ pub extern "C" fn wtf8_starts_with(
 {
     let held = string.take(alloc);
     let others = other.take(alloc);
-    let starts = begins_at(&held, index, view(&others), unit_len(&others));
+    let starts = begins_at(&held, index, &others);
     string.put_back(held);
     other.put_back(others);
     starts
@@ -69,28 +64,21 @@ pub extern "C" fn wtf8_starts_with(
 fn has_units(held: &HeldBuf, units: &[u16]) -> bool
     ensures { IsTrue result ↔ (buffer_contents held.now).units ≡ units.now }
 {
-    unit_len(held) == units.len() && compare_units(held, units).is_eq()
-}
-
-/// The order of the units of the buffer's string and these.
-fn compare_units(held: &HeldBuf, units: &[u16]) -> Ordering
-    ensures order { MatchOrdering result (Before (buffer_contents held.now).units units.now) ((buffer_contents held.now).units ≡ units.now) (Before units.now (buffer_contents held.now).units) }
-    ensures equal { IsTrue (is_eq result) ↔ (buffer_contents held.now).units ≡ units.now }
-{
-    let own = view(held).to_ill_formed_utf16();
-    own.cmp(units.iter().copied())
-}
-
-/// Whether the units of the buffer's string from `index` on begin with the `n` units of `other`.
-fn begins_at(held: &HeldBuf, index: usize, other: Wtf8<'_>, n: usize) -> bool
-    requires { n ≡ length (view_units other) }
-    ensures { IsTrue result ↔ take (length (view_units other.entry)) (drop index (buffer_contents held.now).units) ≡ view_units other.entry }
-{
     match held {
-        Some(buf) => {
-            let part = buf.units_from(index.min(buf.unit_len())).take(n);
-            part.cmp(other.to_ill_formed_utf16()).is_eq()
-        }
-        None => n == 0,
+        Some(buf) => buf.eq_units(units),
+        None => units.is_empty(),
+    }
+}
+
+/// Whether the units of the buffer's string from `index` on begin with the units of the other's.
+fn begins_at(held: &HeldBuf, index: usize, others: &HeldBuf) -> bool
+    ensures { IsTrue result ↔ take (length (buffer_contents others.now).units) (drop index (buffer_contents held.now).units) ≡ (buffer_contents others.now).units }
+{
+    let Some(other) = others else {
+        return true;
+    };
+    match held {
+        Some(buf) => buf.starts_with_at(index, other),
+        None => other.unit_len() == 0,
     }
 }

@@ -13,7 +13,7 @@ use crate::opening::{HeldBuf, unit_len, view};
 use crate::walking::code_point_before;
 use std::alloc::Global;
 use unit_text::IndexedBuf;
-use wtf8::{UnitSlice, Wtf8};
+use wtf8::{UnitMark, UnitSlice, Wtf8};
 
 /// Shortens the string to `n` units.
 #[unsafe(no_mangle)]
@@ -88,8 +88,7 @@ pub extern "C" fn wtf8_pop(alloc: Global, string: &mut Wtf8String, code_point: &
     }
 }
 
-/// Takes the last code point off the buffer, as `wtf8_pop` does off a string. A cut after a number of units is found
-/// from the end, a cut at a position from the start or a mark.
+/// Takes the last code point off the buffer, as `wtf8_pop` does off a string.
 fn pop_of(buf: &mut IndexedBuf<Global>, code_point: &mut u32) -> i32
     ensures code { (result ≡ OK) ⊎ (result ≡ END) }
     ensures end { result ≡ END ↔ buf.old.units ≡ [] }
@@ -99,10 +98,14 @@ fn pop_of(buf: &mut IndexedBuf<Global>, code_point: &mut u32) -> i32
     ensures capacity { buf.new.capacity ≡ buf.old.capacity }
 {
     let text = buf.as_wtf8();
-    match code_point_before(text, text.len()) {
+    let len = text.len();
+    match code_point_before(text, len) {
         Some(last) => {
-            let len = buf.unit_len();
-            buf.truncate_units(len - last.len_utf16());
+            let before = UnitMark {
+                position: len - last.encoded_len(),
+                units: buf.unit_len() - last.len_utf16(),
+            };
+            buf.truncate_at(before);
             *code_point = last.to_u32();
             OK
         }

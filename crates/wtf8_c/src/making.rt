@@ -9,11 +9,10 @@ ghost use Rattle.wtf8_c.specs.Contents.{contents, no_string};
 
 use crate::codes::{NO_MEMORY, NOT_UTF8, OK, code_of};
 use crate::handle::Wtf8String;
-use crate::opening::{HeldBuf, view};
+use crate::opening::{HeldBuf, unit_len, view};
 use std::alloc::{AllocError, Global};
-use std::str;
 use unit_text::IndexedBuf;
-use wtf8::{Wtf8, encoded_len};
+use wtf8::{Wtf8, encoded_len, from_utf8};
 
 /// The most units for which a string that is set again gets the capacity for any units of that number, of which ASCII
 /// takes a third.
@@ -106,7 +105,7 @@ pub extern "C" fn wtf8_set_utf8(
     ensures valid { result ≡ NOT_UTF8 → valid.new ≡ utf8_valid_len text.now }
     ensures valid_kept { ¬ (result ≡ NOT_UTF8) → valid.new ≡ valid.old }
 {
-    match str::from_utf8(text) {
+    match from_utf8(text) {
         Ok(text) => set_view(alloc, string, Wtf8::from_str(text)),
         Err(error) => {
             *valid = error.valid_up_to();
@@ -130,13 +129,30 @@ pub extern "C" fn wtf8_set_string(
     ensures other { contents other.new ≡ contents other.old }
 {
     let held = other.take(alloc);
-    let code = set_view(alloc, string, view(&held));
+    let code = set_counted(alloc, string, view(&held), unit_len(&held));
     other.put_back(held);
     code
 }
 
-/// Replaces the string by a copy of a view, in the buffer's capacity if it fits.
+/// Replaces the string by a copy of a view, whose units are counted.
 pub(crate) fn set_view(alloc: Global, string: &mut Wtf8String, view: Wtf8<'_>) -> i32
+    ensures code { (result ≡ OK) ⊎ (result ≡ NO_MEMORY) }
+    ensures ok { result ≡ OK → (contents string.new).units ≡ view_units view.entry }
+    ensures kept { result ≡ NO_MEMORY → contents string.new ≡ contents string.old }
+    ensures room { IsTrue string.old.full → length view.entry.bytes.now ≤ (contents string.old).capacity → result ≡ OK }
+    ensures capacity { (contents string.old).capacity ≤ (contents string.new).capacity }
+{
+    set_counted(alloc, string, view, view.unit_len())
+}
+
+/// Replaces the string by a copy of a view of `count` units, in the buffer's capacity if it fits.
+pub(crate) fn set_counted(
+    alloc: Global,
+    string: &mut Wtf8String,
+    view: Wtf8<'_>,
+    count: usize,
+) -> i32
+    requires { count ≡ length (view_units view) }
     ensures code { (result ≡ OK) ⊎ (result ≡ NO_MEMORY) }
     ensures ok { result ≡ OK → (contents string.new).units ≡ view_units view.entry }
     ensures kept { result ≡ NO_MEMORY → contents string.new ≡ contents string.old }
@@ -146,13 +162,13 @@ pub(crate) fn set_view(alloc: Global, string: &mut Wtf8String, view: Wtf8<'_>) -
     match string.take_if_fits(alloc, view.len(), 0) {
         Some(mut buf) => {
             buf.clear();
-            let pushed = buf.push_wtf8(view);
+            let pushed = buf.push_counted(view, count);
             string.put(buf);
             code_of(pushed)
         }
         None => {
             let mut made = IndexedBuf::new(alloc);
-            match made.push_wtf8(view) {
+            match made.push_counted(view, count) {
                 Ok(()) => replace(alloc, string, made),
                 Err(_) => NO_MEMORY,
             }

@@ -5,7 +5,7 @@ ghost use Rattle.wtf8.specs.Surrogates.{AreScalar, lossy_points};
 ghost use Rattle.wtf8_c.specs.Contents.{contents, buffer_contents};
 ghost use Rattle.wtf8_c.specs.Front.{with_front};
 
-use crate::codes::{ARRAY_TOO_SHORT, BAD_POSITION, HAS_SURROGATE, NO_MEMORY, OK};
+use crate::codes::{ARRAY_TOO_SHORT, BAD_POSITION, HAS_SURROGATE, OK};
 use crate::handle::Wtf8String;
 use crate::opening::{HeldBuf, unit_len, view};
 use std::alloc::Global;
@@ -94,30 +94,36 @@ pub extern "C" fn wtf8_copy_lossy(
     out: &mut [u8],
     len: &mut usize,
 ) -> i32
-    ensures code { (result ≡ OK) ⊎ ((result ≡ NO_MEMORY) ⊎ (result ≡ ARRAY_TOO_SHORT)) }
-    ensures granted { AreScalar (contents string.old).form.points → ¬ (result ≡ NO_MEMORY) }
+    ensures code { (result ≡ OK) ⊎ (result ≡ ARRAY_TOO_SHORT) }
     ensures short { result ≡ ARRAY_TOO_SHORT ↔ length out.old < length (contents string.old).bytes }
     ensures ok { result ≡ OK → out.new ≡ with_front (bytes (lossy_points (contents string.old).form.points)) out.old }
     ensures out { ¬ (result ≡ OK) → out.new ≡ out.old }
-    ensures len { ¬ (result ≡ NO_MEMORY) → len.new ≡ length (contents string.old).bytes }
-    ensures len_kept { result ≡ NO_MEMORY → len.new ≡ len.old }
+    ensures len { len.new ≡ length (contents string.old).bytes }
     ensures kept { contents string.new ≡ contents string.old }
 {
     let held = string.take(alloc);
-    let text = view(&held);
-    // U+FFFD has the three bytes of a surrogate.
-    let needed = text.len();
-    if out.len() < needed {
-        string.put_back(held);
-        *len = needed;
-        return ARRAY_TOO_SHORT;
-    }
-    let code = match text.to_string_lossy(alloc) {
-        Ok(lossy) => write_text(lossy.as_str().as_bytes(), out, len),
-        Err(_) => NO_MEMORY,
-    };
+    let code = write_lossy(&held, out, len);
     string.put_back(held);
     code
+}
+
+/// Writes the lossy text of the buffer's string at the front of `out` if it fits, and its length in any case.
+fn write_lossy(held: &HeldBuf, out: &mut [u8], len: &mut usize) -> i32
+    ensures code { (result ≡ OK) ⊎ (result ≡ ARRAY_TOO_SHORT) }
+    ensures short { result ≡ ARRAY_TOO_SHORT ↔ length out.old < length (buffer_contents held.now).bytes }
+    ensures ok { result ≡ OK → out.new ≡ with_front (bytes (lossy_points (buffer_contents held.now).form.points)) out.old }
+    ensures out { ¬ (result ≡ OK) → out.new ≡ out.old }
+    ensures len { len.new ≡ length (buffer_contents held.now).bytes }
+{
+    let text = view(held);
+    // U+FFFD has the three bytes of a surrogate.
+    let needed = text.len();
+    *len = needed;
+    if out.len() < needed {
+        return ARRAY_TOO_SHORT;
+    }
+    text.write_lossy(out);
+    OK
 }
 
 /// Writes a text at the front of `out` if it fits, and its length in any case.

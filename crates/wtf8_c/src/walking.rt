@@ -3,6 +3,7 @@ ghost use Rattle.std.specs.Prelude.{◌≡◌, ◌⊎◌, ◌+◌, ◌-◌, ◌�
 ghost use Rattle.wtf8.specs.CodePoint.{number};
 ghost use Rattle.wtf8.specs.Form.{encoding};
 ghost use Rattle.wtf8.specs.Position.{IsBoundary};
+ghost use Rattle.wtf8.specs.SurrogatePosition.{IsNextSurrogate, IsTextFrom};
 ghost use Rattle.wtf8.specs.View.{view_units};
 ghost use Rattle.wtf8_c.specs.Contents.{contents};
 ghost use Rattle.wtf8_c.specs.Walks.{IsPointBetween};
@@ -55,6 +56,51 @@ pub extern "C" fn wtf8_previous_code_point(
     let code = previous_of(view(&held), position, code_point);
     string.put_back(held);
     code
+}
+
+/// Writes the first surrogate after `position` to `unit`, and moves `position` past it.
+#[unsafe(no_mangle)]
+pub extern "C" fn wtf8_next_surrogate(
+    alloc: Global,
+    string: &mut Wtf8String,
+    position: &mut usize,
+    unit: &mut u16,
+) -> i32
+    ensures code { (result ≡ OK) ⊎ ((result ≡ BAD_POSITION) ⊎ (result ≡ END)) }
+    ensures position { result ≡ BAD_POSITION ↔ ¬ (IsBoundary (contents string.old).units position.old) }
+    ensures end { result ≡ END ↔ IsTextFrom (contents string.old).units position.old }
+    ensures ok { result ≡ OK → IsNextSurrogate (contents string.old).units position.old position.new unit.new }
+    ensures position_kept { ¬ (result ≡ OK) → position.new ≡ position.old }
+    ensures unit { ¬ (result ≡ OK) → unit.new ≡ unit.old }
+    ensures kept { contents string.new ≡ contents string.old }
+{
+    let held = string.take(alloc);
+    let code = next_surrogate_of(view(&held), position, unit);
+    string.put_back(held);
+    code
+}
+
+/// The first surrogate of `text` after `position`, as `wtf8_next_surrogate` writes it.
+fn next_surrogate_of(text: Wtf8<'_>, position: &mut usize, unit: &mut u16) -> i32
+    ensures code { (result ≡ OK) ⊎ ((result ≡ BAD_POSITION) ⊎ (result ≡ END)) }
+    ensures position { result ≡ BAD_POSITION ↔ ¬ (IsBoundary (view_units text.entry) position.old) }
+    ensures end { result ≡ END ↔ IsTextFrom (view_units text.entry) position.old }
+    ensures ok { result ≡ OK → IsNextSurrogate (view_units text.entry) position.old position.new unit.new }
+    ensures position_kept { ¬ (result ≡ OK) → position.new ≡ position.old }
+    ensures unit { ¬ (result ≡ OK) → unit.new ≡ unit.old }
+{
+    let begin = *position;
+    if !text.is_code_point_boundary(begin) {
+        return BAD_POSITION;
+    }
+    match text.next_surrogate(begin) {
+        Some((surrogate, end)) => {
+            *position = end;
+            *unit = surrogate.to_u32() as u16;
+            OK
+        }
+        None => END,
+    }
 }
 
 /// The code point of `text` after `position`, as `wtf8_next_code_point` writes it.

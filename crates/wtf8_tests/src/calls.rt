@@ -140,6 +140,19 @@ fn is_copied_text(alloc: Global, view: Wtf8<'_>, text: &str) -> Result<bool, All
     Ok(!matches!(lossy, CowStr::Borrowed(_)) && lossy.as_str() == text)
 }
 
+/// Whether `write_lossy` writes the lossy text of `UNITS` to the front of a slice, and leaves its rest unchanged.
+fn writes_lossy(text: Wtf8<'_>) -> bool {
+    let mut slice = [0x7A; 12];
+    if slice.len() < text.len() {
+        return false;
+    }
+    let count = text.write_lossy(&mut slice);
+    let lossy = [
+        0x61, 0xC3, 0xA9, 0x20, 0xF0, 0x9F, 0x92, 0xA9, 0xEF, 0xBF, 0xBD, 0x7A,
+    ];
+    count == 11 && slice == lossy
+}
+
 #[test]
 fn a_string_without_surrogates_is_a_text(rt: HostRuntime) -> Result<(), Failed> {
     let text = made(String::from_str(rt.alloc(), TEXT))?;
@@ -154,6 +167,7 @@ fn a_lossy_text_has_replacements(rt: HostRuntime) -> Result<(), Failed> {
     let lossy = "aé 💩\u{FFFD}";
     let is_text = made(is_copied_text(rt.alloc(), text.as_wtf8(), lossy))?;
     expect(is_text && text.as_wtf8().as_str().is_none(), Wrong::Bytes)?;
+    expect(writes_lossy(text.as_wtf8()), Wrong::Bytes)?;
     expect(text.into_string_lossy().as_str() == lossy, Wrong::Bytes)
 }
 

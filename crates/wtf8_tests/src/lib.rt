@@ -8,9 +8,13 @@ mod calls;
 #[cfg(test)]
 mod collecting;
 #[cfg(test)]
+mod compared_units;
+#[cfg(test)]
 mod debugging;
 #[cfg(test)]
 mod displaying;
+#[cfg(test)]
+mod encoded_fronts;
 #[cfg(test)]
 mod encoded_lens;
 pub mod examples;
@@ -28,5 +32,7 @@ pub mod sinks;
 #[cfg(test)]
 mod unit_cuts;
 pub mod unit_lists;
+#[cfg(test)]
+mod utf8_bytes;
 pub mod way;
 pub mod wrong;

@@ -1,8 +1,8 @@
 // Marks by positions and by units, and what iterators have left.
 use crate::examples::TEXT;
 use crate::wrong::{Failed, Wrong, expect, expect_bytes, in_row};
-use std::alloc::Global;
-use wtf8::{CodePoint, Wtf8};
+use std::alloc::{AllocError, Global};
+use wtf8::{CodePoint, Wtf8, Wtf8Buf};
 
 /// For each byte position of `TEXT` the last boundary at or before it, and the number of units before that.
 fn marks() -> [(usize, usize); 9] {
@@ -131,6 +131,50 @@ fn last_boundary_before_a_position(rt: HostRuntime) {
     ] {
         assert!(rt; has_boundary_before(text, position, boundary), "{position}");
     }
+}
+
+/// Whether the first surrogate of a text from a boundary on, and the position after it, are these, or there is none.
+fn has_next_surrogate(text: Wtf8<'_>, begin: usize, surrogate: Option<(u32, usize)>) -> bool {
+    if !text.is_code_point_boundary(begin) {
+        return false;
+    }
+    match (text.next_surrogate(begin), surrogate) {
+        (Some((point, end)), Some((number, position))) => {
+            point.to_u32() == number && end == position
+        }
+        (None, None) => true,
+        _ => false,
+    }
+}
+
+/// Whether the surrogates of the string of `SURROGATES_IN_TEXT` are found from each boundary on.
+fn has_next_surrogates(made: Result<Wtf8Buf<Global>, AllocError>) -> bool {
+    let Ok(buf) = made else {
+        return false;
+    };
+    for (begin, surrogate) in [
+        (0, Some((0xDC00, 4))),
+        (1, Some((0xDC00, 4))),
+        (4, Some((0xDBFF, 17))),
+        (7, Some((0xDBFF, 17))),
+        (14, Some((0xDBFF, 17))),
+        (17, None),
+        (18, None),
+    ] {
+        if !has_next_surrogate(buf.as_wtf8(), begin, surrogate) {
+            return false;
+        }
+    }
+    true
+}
+
+/// A letter, a trail, three bytes, a pair, the last code point before the surrogates, a lead, a letter.
+static SURROGATES_IN_TEXT: [u16; 8] = [0x61, 0xDC00, 0x4E2D, 0xD83D, 0xDCA9, 0xD7FF, 0xDBFF, 0x62];
+
+#[test]
+fn next_surrogate_after_a_position(rt: HostRuntime) {
+    let made = Wtf8Buf::from_ill_formed_utf16(rt.alloc(), &SURROGATES_IN_TEXT);
+    assert!(rt; has_next_surrogates(made), "a surrogate");
 }
 
 /// Whether a number is that of a code point of this encoded length.

@@ -8,4 +8,5 @@ pub mod DedupLemmas
 pub mod PartLemmas
 pub mod IndexLemmas
 pub mod RepeatLemmas
+pub mod ReplaceLemmas
 pub mod SplitLemmas

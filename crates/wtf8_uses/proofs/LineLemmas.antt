@@ -4,7 +4,7 @@ use Rattle.std.proofs.Common.{arith, length-append, length-drop, append_assoc}
 use Rattle.std.proofs.lemmas.Bool.Decides.{nat_tests}
 use Rattle.std.proofs.lemmas.List.{drop-drop, map-append, get_or_append_left, get_or_push}
 use Rattle.wtf8.specs.UnitMark.{IsMark}
-use Rattle.wtf8.specs.declared.units.marks.UnitMark.{UnitMark}
+use Rattle.wtf8.specs.Types.{UnitMark}
 use Rattle.wtf8_uses.specs.LineColumns.{AreMarksOf, StartsAtFront, mark_units, starts_after}
 
 -- what is unread after one more unit

@@ -7,7 +7,7 @@ use Rattle.std.proofs.lemmas.List.{length-append, map-append}
 use Rattle.std.proofs.lemmas.List.Splits.{length-slice_split, slice_split_at, slice_split_none}
 use Rattle.std.specs.List.{slice_split}
 use Rattle.wtf8.specs.View.{view_units}
-use Rattle.wtf8.specs.declared.strings.view.Wtf8.{Wtf8}
+use Rattle.wtf8.specs.Types.{Wtf8}
 use Rattle.wtf8_uses.specs.FileName.{BeginsWith, IsEither, HasNeither, is_separator}
 
 -- the components of a path

@@ -2,7 +2,7 @@
 use Rattle.std.specs.Prelude.{◌≡◌, ℕ, ◌+◌, ◌<◌, ◌≤◌, ◌==◌, List, [], ◌∷◌, length, slice_index_or, if◌then◌else◌}
 use Rattle.wtf8.specs.Position.{IsBoundary}
 use Rattle.wtf8.specs.UnitMark.{IsMark}
-use Rattle.wtf8.specs.declared.units.marks.UnitMark.{UnitMark}
+use Rattle.wtf8.specs.Types.{UnitMark}
 
 -- Each mark of the list is one of the bytes `w` and units `u`.
 abbrev pub AreMarksOf : List ℕ → List ℕ → List UnitMark → Type 0

@@ -5,7 +5,7 @@ use Rattle.std.specs.Cmp.Lexicographic.{slice_cmp}
 use Rattle.std.specs.Ordering.{nat_cmp}
 use Rattle.wtf8.specs.UnitString.{UnitString}
 use Rattle.wtf8.specs.View.{view_points}
-use Rattle.wtf8.specs.declared.strings.view.Wtf8.{Wtf8}
+use Rattle.wtf8.specs.Types.{Wtf8}
 
 -- No string is less than the one before it, by code points (Unicode 5.17, "Binary Order").
 abbrev pub AreInPointOrder : List UnitString → Type 0

@@ -1,5 +1,5 @@
 -- Definitions of ECMAScript's string calls, over lists of units.
-use Rattle.std.specs.Prelude.{◌≡◌, ℕ, ◌+◌, ◌-◌, ◌<◌, ◌≤◌, ◌⊎◌, List, length, take, drop, slice_get, slice_index, Option, Some, None}
+use Rattle.std.specs.Prelude.{◌≡◌, ℕ, ◌+◌, ◌-◌, ◌<◌, ◌≤◌, ◌⊎◌, List, ◌++◌, length, take, drop, max, slice_get, slice_index, Option, Some, None}
 use Rattle.std.specs.Prelude.{if◌then◌else◌}
 use Rattle.std.specs.Option.{option_map}
 use Rattle.wtf8.specs.Concatenation.{is_pair}
@@ -32,6 +32,13 @@ pub record IsLastIndex (u s : List ℕ) (position k : ℕ) : Type 0 where
   pub before : k ≤ position
   pub occurs : OccursAt u s k
   pub no_later : (j : ℕ) → k < j → j ≤ position → ¬ (OccursAt u s j)
+
+-- `v` is `u` from index `begin` on, with `other` for each occurrence of `s` that is found from index `from` on, one after
+-- the other (ECMAScript, "String.prototype.replaceAll").
+pub data IsReplaced (u s other : List ℕ) : ℕ → ℕ → List ℕ → Type 0 where
+  none : (begin from : ℕ) → ((k : ℕ) → from ≤ k → ¬ (OccursAt u s k)) → IsReplaced u s other begin from (drop begin u)
+  next : (begin from k : ℕ) (v : List ℕ) → IsFirstIndex u s from k → IsReplaced u s other (k + length s) (k + max 1 (length s)) v
+      → IsReplaced u s other begin from (drop begin (take k u) ++ (other ++ v))
 
 -- `v` is `u` with U+FFFD for each lone surrogate (ECMAScript, "String.prototype.toWellFormed").
 pub record IsMadeWellFormed (u v : List ℕ) : Type 0 where

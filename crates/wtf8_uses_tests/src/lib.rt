@@ -27,6 +27,8 @@ mod reading;
 #[cfg(test)]
 mod refusals;
 #[cfg(test)]
+mod replacing;
+#[cfg(test)]
 mod shared;
 #[cfg(test)]
 mod sorting;

@@ -4,3 +4,4 @@ pub mod PackedUnits
 pub mod ShuffleTable
 pub mod Kernel
 pub mod EncodedLen
+pub mod Front

@@ -5,3 +5,4 @@ pub mod Masks
 pub mod SurrogateLanes
 pub mod UnitCounts
 pub mod ListOrder
+pub mod Utf8Lanes

@@ -4,4 +4,6 @@ pub mod PositionLaws
 pub mod Positions
 pub mod PushedUnits
 pub mod StringLaws
+pub mod SurrogatePositions
 pub mod Surrogates
+pub mod Utf8Texts

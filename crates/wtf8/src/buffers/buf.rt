@@ -502,7 +502,7 @@ impl<A: Allocator> Wtf8Buf<A> {
         let is_utf8 = self.is_utf8();
         let Wtf8Buf { mut bytes, .. } = self;
         if !is_utf8 {
-            replace_surrogates(&mut bytes);
+            replace_surrogates(bytes.as_mut_slice());
         }
         unsafe { String::from_utf8_unchecked(bytes) }
     }

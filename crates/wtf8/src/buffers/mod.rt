@@ -2,3 +2,4 @@
 pub(crate) mod buf;
 pub(crate) mod build;
 pub(crate) mod collect;
+pub(crate) mod text;

@@ -37,6 +37,7 @@ fn write_array<const N: usize>(out: &mut [u8], at: usize, array: [u8; N]) -> usi
 fn write_encoding(out: &mut [u8], at: usize, code_point: CodePoint) -> usize
     requires { at + 4 ≤ length out.old }
     ensures end { result ≡ at + length (encoding (number code_point)) }
+    ensures most { result ≤ at + 4 }
     ensures bytes { take result out.new ≡ take at out.old ++ encoding (number code_point) }
 {
     let value = code_point.to_u32();
@@ -62,6 +63,7 @@ fn write_unit(v: &[u16], from: Progress, out: &mut [u8], len: usize) -> (usize, 
     requires room { len + 4 ≤ length out.old }
     ensures order { (from.at < result.1.at) × (result.1.at ≤ length v.now) }
     ensures end { result.0 ≤ len + 3 * (result.1.at - from.at) }
+    ensures most { result.0 ≤ len + 4 }
     ensures read { (w : List ℕ) → ReadsOn (w ++ take len out.old) (w ++ take result.0 out.new) v.now from.at from.is_utf8 result.1.at result.1.is_utf8 }
 {
     let end = write_encoding(out, len, CodePoint::from_unit(v[from.at]));
@@ -74,11 +76,17 @@ fn write_unit(v: &[u16], from: Progress, out: &mut [u8], len: usize) -> (usize, 
 
 /// Encodes the code point at `from.at` at index `len`. Returns the index after its bytes and how far units are encoded.
 #[inline(always)]
-fn write_point(v: &[u16], from: Progress, out: &mut [u8], len: usize) -> (usize, Progress)
+pub(crate) fn write_point(
+    v: &[u16],
+    from: Progress,
+    out: &mut [u8],
+    len: usize,
+) -> (usize, Progress)
     requires within { from.at < length v.now }
     requires room { len + 4 ≤ length out.old }
     ensures order { (from.at < result.1.at) × (result.1.at ≤ length v.now) }
     ensures end { result.0 ≤ len + 3 * (result.1.at - from.at) }
+    ensures most { result.0 ≤ len + 4 }
     ensures read { (w : List ℕ) → ReadsOn (w ++ take len out.old) (w ++ take result.0 out.new) v.now from.at from.is_utf8 result.1.at result.1.is_utf8 }
 {
     let unit = v[from.at];

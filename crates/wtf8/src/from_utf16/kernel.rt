@@ -275,7 +275,7 @@ fn write_last_block(units: &[u16], scratch: &mut [u8], len: usize) -> (usize, bo
 /// Encodes the number of blocks that has units and room whatever the units are, so that no turn compares either, then
 /// `QUARTER_BLOCK` or more that are left at the end. Returns the number of bytes, and how far units are encoded.
 #[inline(always)]
-fn write_blocks(v: &[u16], at: usize, scratch: &mut [u8]) -> (usize, Progress)
+pub(crate) fn write_blocks(v: &[u16], at: usize, scratch: &mut [u8]) -> (usize, Progress)
     requires units { at + QUARTER_BLOCK ≤ length v.now }
     requires room { MIN_SPARE ≤ length scratch.old }
     ensures order { at < result.1.at }

@@ -14,6 +14,7 @@
 pub(crate) mod decode;
 pub(crate) mod encoded_len;
 pub(crate) mod few;
+pub(crate) mod front;
 pub(crate) mod kernel;
 pub(crate) mod shuffle_table;
 pub(crate) mod transcode;

@@ -19,24 +19,21 @@ use std::simd::prelude::*;
 /// counted as two, one in 23 units would take twice the time.
 const SOME_GROUPS: u32 = 2;
 
-/// From this number of groups on, blocks go on behind these units in the large scratch buffer.
-const MANY_GROUPS: u32 = 3;
-
 /// The size in bytes of the kernel's scratch buffer while `TWO_BLOCKS` or more units are left: room for ten blocks.
 const SCRATCH_BYTES: usize = 512;
 
-/// The scratch buffer's size for fewer than `TWO_BLOCKS` units, or few groups: room for two blocks, since it is zeroed first.
+/// The scratch buffer's size for fewer than `TWO_BLOCKS` units: room for two blocks, since it is zeroed first.
 const SHORT_SCRATCH_BYTES: usize = 112;
 
 /// The most bytes of a code point.
-const MOST_POINT_BYTES: usize = 4;
+pub(crate) const MOST_POINT_BYTES: usize = 4;
 
 /// The most bytes that a code unit adds.
 const MOST_BYTES: usize = 3;
 
 /// Units narrowed to bytes. A unit above 0xFF becomes 0xFF, so that it is not ASCII.
 #[inline(always)]
-fn narrow_saturating<const N: usize>(units: Simd<u16, N>) -> Simd<u8, N>
+pub(crate) fn narrow_saturating<const N: usize>(units: Simd<u16, N>) -> Simd<u8, N>
     ensures { result ≡ map (λ unit. min unit 0xFF) units.entry }
 {
     units.simd_min(Simd::splat(0xFF)).cast::<u8>()
@@ -165,9 +162,6 @@ fn append_next<A: Allocator>(
         let groups = (letters & !(letters << 1)).count_ones();
         if groups < SOME_GROUPS || v.len() - to.at < QUARTER_BLOCK {
             return append_point(bytes, v, to, growth);
-        }
-        if groups < MANY_GROUPS {
-            return kernel::append_blocks::<SHORT_SCRATCH_BYTES, A>(bytes, v, to, growth);
         }
     } else if v[at + 1] < 0x80 || v[at + 2] < 0x80 {
         // ASCII that follows soon is most often a run: encode one code point, and leave the run to a later step.

@@ -1,10 +1,12 @@
-// Bytes compared and searched in SIMD blocks. All that these modules know of WTF-8 is how surrogates are encoded.
+// Bytes compared and searched in SIMD blocks. All that these modules know of WTF-8 is how surrogates are encoded, and
+// which bytes may follow one another in UTF-8.
 ghost use Rattle.std.specs.Prelude.{◌≢◌};
 ghost use Rattle.wtf8.specs.private.Search.{IsFirstSet};
 
 pub(crate) mod ascii;
 pub(crate) mod memcmp;
 pub(crate) mod search;
+pub(crate) mod utf8;
 
 /// The number of bytes in one of the processor's vectors.
 pub(crate) const VECTOR: usize = 16;

@@ -1,10 +1,11 @@
 // `Wtf8`, the borrowed string.
-ghost use Rattle.std.specs.Prelude.{◌≡◌, ℕ, List, [], ◌∷◌, ◌++◌, ◌+◌, ◌*◌, ◌^◌, ◌<◌, ◌≤◌, ◌↔◌, length, take, drop, slice_index, IsTrue, IsSome, IfSome, IfNone, IfOk, IsOk};
+ghost use Rattle.std.specs.Prelude.{◌≡◌, ℕ, List, [], ◌∷◌, ◌++◌, ◌+◌, ◌*◌, ◌^◌, ◌<◌, ◌≤◌, ◌↔◌, length, take, drop, slice_index, IsTrue, IsSome, IsNone, IfSome, IfNone, IfOk, IsOk};
 ghost use Rattle.std.specs.Cow.{cow_str_bytes, IsBorrowedStr};
 ghost use Rattle.std.specs.Str.{chars};
 ghost use Rattle.wtf8.specs.Form.{bytes, IsWellFormed, Reads};
 ghost use Rattle.wtf8.specs.OneForm.{IsWellFormed-prop};
 ghost use Rattle.wtf8.specs.Position.{IsBoundary, IsFront, IsBack, IsMiddle};
+ghost use Rattle.wtf8.specs.SurrogatePosition.{IsNextSurrogate, IsTextFrom};
 ghost use Rattle.wtf8.specs.Surrogates.{AreScalar, lossy_points};
 ghost use Rattle.wtf8.specs.Unicode.{IsLead, IsTrail};
 ghost use Rattle.wtf8.specs.Units.{unread_units};
@@ -188,6 +189,20 @@ impl<'a> Wtf8<'a> {
         }
     }
 
+    /// The first surrogate from `begin` on, which must be a code point boundary, and the position after its three bytes;
+    /// `None` if there is none. What is before it is text. Linear in the bytes up to it.
+    pub fn next_surrogate(&self, begin: usize) -> Option<(CodePoint, usize)>
+        requires { IsBoundary (view_units self.now) begin }
+        ensures some { IfSome result (λ x. IsNextSurrogate (view_units self.now) begin x.1 (number x.0)) }
+        ensures none { IsNone result ↔ IsTextFrom (view_units self.now) begin }
+    {
+        let rest = self.slice_from(begin);
+        let before = search::next_surrogate(rest.bytes, 0)?;
+        let (_, from_surrogate) = rest.bytes.split_at(before);
+        prove!(self.len() <= usize::MAX);
+        Some(encoding::read(from_surrogate, begin + before))
+    }
+
     /// The string as text, with U+FFFD in place of each surrogate; its length in bytes stays the same. Borrowed, and
     /// never refused, if there is no surrogate; else a copy. Linear in the length.
     pub fn to_string_lossy<A: Allocator + Drop>(
@@ -203,8 +218,25 @@ impl<'a> Wtf8<'a> {
             return Ok(CowStr::Borrowed(text));
         }
         let mut bytes = Vec::from_slice(alloc, self.bytes)?;
-        replace_surrogates(&mut bytes);
+        replace_surrogates(bytes.as_mut_slice());
         Ok(CowStr::Owned(unsafe { String::from_utf8_unchecked(bytes) }))
+    }
+
+    /// Writes the string to the front of `out` as text, with U+FFFD in place of each surrogate, and returns its length
+    /// in bytes, which is the string's and for which `out` must have room. The rest of `out` is unchanged. Does not
+    /// allocate. Linear in the length.
+    pub fn write_lossy(&self, out: &mut [u8]) -> usize
+        requires { length self.now.bytes.now ≤ length out.old }
+        ensures text { take result out.new ≡ bytes (lossy_points (view_points self.now)) }
+        ensures rest { drop result out.new ≡ drop result out.old }
+        ensures count { result ≡ length self.now.bytes.now }
+        ensures len { length out.new ≡ length out.old }
+    {
+        let count = self.len();
+        let text = &mut out[..count];
+        text.copy_from_slice(self.bytes);
+        replace_surrogates(text);
+        count
     }
 
     #[inline(always)]

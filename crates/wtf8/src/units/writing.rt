@@ -19,7 +19,7 @@ use crate::lanes::ascii::{ascii_run_len, is_ascii_overlapping};
 use crate::strings::view::Wtf8;
 use crate::units::blocks::{EncodedLength, FourBytes, ThreeBytes, TwoBytes, widen};
 use crate::units::unit_ends::{
-    FIRST_OF_FOUR, POSITIONS, UnitEnds, end_positions, interleave, pack_words, unit_ends,
+    POSITIONS, UnitEnds, end_positions, interleave, pack_words, unit_ends,
 };
 use crate::vec::push_block;
 use std::alloc::{AllocError, Allocator};
@@ -38,9 +38,9 @@ const ENDS_OF_THREES: u64 = 0x2492_4924;
 const ENDS_OF_FOURS: u64 = 0xCCCC_CCCC;
 
 /// From this number of ASCII bytes at the front of a block on it is cheaper to decode them and one code point more than
-/// the whole block by positions. With 4, texts that do not repeat, so that a processor cannot foresee how long a front
-/// is, take longer: French 1.2 to 1.3, one accent in six 1.3 to 1.5 of the time.
-const LEAST_ASCII_FRONT: usize = VECTOR;
+/// the whole block by positions. With 16, emoji in words take 1.2 of the time. With 4, texts that do not repeat, so that
+/// a processor cannot foresee how long a front is, take longer: French 1.2 to 1.3, one accent in six 1.3 to 1.5.
+const LEAST_ASCII_FRONT: usize = 12;
 
 /// The bytes at the end of a string of `COUNTED_FROM` bytes or more whose units `write_units` counts: `POSITIONS` units
 /// or more, since a unit takes at most three. Stores of the bytes before reach no further.
@@ -287,9 +287,7 @@ fn decode_ascii_front<'a>(
 /// Decodes the front of a string, which its first 32 bytes choose the way for:
 ///
 /// - 32 ASCII bytes: widened at once, in 0.78 of the time that blocks of 16 take;
-/// - ASCII bytes before a four-byte code point, or `LEAST_ASCII_FRONT` of them or more before any other, with room for 32
-///   units: these bytes and that code point. Joined in one condition, emoji in ASCII take 1.08 of the instructions; in
-///   the other order, 1.16 of the time;
+/// - `LEAST_ASCII_FRONT` ASCII bytes or more, with room for 32 units: these bytes and the code point after them;
 /// - two-, three- or four-byte code points alone: full blocks of them, and the 32 bytes after these by positions. All by
 ///   positions take 1.7 to 1.9, four-byte ones 3.5 of the instructions. To choose again after the full blocks takes
 ///   Japanese 1.08;
@@ -310,14 +308,8 @@ fn decode_next<'a>(units: &mut [u16], left: Undecoded<'a>) -> Undecoded<'a>
     if count == POSITIONS {
         return write_front(units, left, widen(block), POSITIONS, POSITIONS);
     }
-    if POSITIONS <= units.len() - left.at {
-        // If the first byte is not ASCII, byte 1 is a continuation byte. A test of `0 < count` would be mispredicted.
-        if FIRST_OF_FOUR <= bytes[count.max(1)] {
-            return decode_ascii_front(units, left, block, count);
-        }
-        if LEAST_ASCII_FRONT <= count {
-            return decode_ascii_front(units, left, block, count);
-        }
+    if LEAST_ASCII_FRONT <= count && POSITIONS <= units.len() - left.at {
+        return decode_ascii_front(units, left, block, count);
     }
     let rest = match end_positions(block) {
         ENDS_OF_TWOS => decode_full_blocks::<16, 32, TwoBytes>(units, left),
@@ -333,7 +325,7 @@ fn decode_next<'a>(units: &mut [u16], left: Undecoded<'a>) -> Undecoded<'a>
 
 /// May overwrite up to `POSITIONS` later units. Not inlined, so that all callers share the one loop.
 #[inline(never)]
-fn decode_all(units: &mut [u16], from: usize, view: Wtf8<'_>) -> usize
+pub(crate) fn decode_all(units: &mut [u16], from: usize, view: Wtf8<'_>) -> usize
     requires room { from + length (view_units view) ≤ length units.old }
     ensures units { take result units.new ≡ take from units.old ++ view_units view.entry }
     ensures index { result ≡ from + length (view_units view.entry) }

@@ -7,7 +7,7 @@ mod units;
 mod well_formed;
 
 pub use comparing::{ends_with, is_less, starts_with};
-pub use search::{index_of, last_index_of, replace, split};
+pub use search::{index_of, last_index_of, replace, replace_all, split};
 pub use texts::{pad_start, repeat, substring, trim_ascii};
 pub use units::{at, char_at, char_code_at, code_point_at};
 pub use well_formed::{is_well_formed, to_well_formed};

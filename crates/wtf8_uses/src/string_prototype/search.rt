@@ -1,7 +1,7 @@
 //! Searches for one text or unit in a text.
 ghost use Rattle.std.specs.List.{join_with_byte, slice_split};
-ghost use Rattle.std.specs.Prelude.{All, map, ◌==◌, ◌≢◌, ◌≡◌, ◌+◌, ◌≤◌, ◌++◌, ℕ, length, take, drop, min, IfSome, IfNone, IfOk};
-ghost use Rattle.wtf8_uses.specs.StringPrototype.{IsFirstIndex, IsLastIndex, OccursAt};
+ghost use Rattle.std.specs.Prelude.{All, map, ◌==◌, ◌≢◌, ◌≡◌, ◌+◌, ◌≤◌, ◌++◌, ℕ, length, take, drop, min, max, IfSome, IfNone, IfOk, OnOk};
+ghost use Rattle.wtf8_uses.specs.StringPrototype.{IsFirstIndex, IsLastIndex, IsReplaced, OccursAt};
 
 use super::comparing::{occurs_next, units_from};
 use std::alloc::{AllocError, Allocator};
@@ -72,6 +72,76 @@ pub fn replace<A: Allocator + Copy>(
     let back = text.slice_units(alloc, index + search.unit_len(), len)?;
     whole.concat(&back)?;
     Ok(whole)
+}
+
+/// `replaceAll` with a text as pattern: replaces the occurrences of `search`, found one after the other, by `other`, in
+/// which `$` has no special meaning. An empty `search` occurs before each unit and at the end. In a text without marks
+/// each occurrence is a count from the front.
+pub fn replace_all<A: Allocator + Copy>(
+    alloc: A,
+    text: &UnitText<A>,
+    search: &UnitText<A>,
+    other: &UnitText<A>,
+) -> Result<UnitText<A>, AllocError>
+    ensures { IfOk result (λ t. IsReplaced text.now search.now other.now 0 0 t) }
+{
+    let len = text.unit_len();
+    let gap = gap_after(search);
+    let mut whole = UnitText::new(alloc);
+    let mut begin = 0;
+    let mut skipped = 0;
+    while let Some(index) = index_after(text, search, begin, skipped) {
+        append_part(alloc, &mut whole, text, begin, index)?;
+        whole.concat(other)?;
+        begin = index + search.unit_len();
+        skipped = gap;
+    }
+    append_part(alloc, &mut whole, text, begin, len)?;
+    Ok(whole)
+}
+
+/// The number of units between an occurrence of `search` and where the next one may begin: 1 if it is empty, else 0.
+fn gap_after<A: Allocator>(search: &UnitText<A>) -> usize
+    ensures { length search.now + result ≡ max 1 (length search.now) }
+{
+    match search.unit_len() {
+        0 => 1,
+        _ => 0,
+    }
+}
+
+/// The first index, `skipped` units after index `begin` or later, at which the units of `search` occur, or `None` if
+/// there is none: past the end not even the empty text occurs.
+fn index_after<A: Allocator>(
+    text: &UnitText<A>,
+    search: &UnitText<A>,
+    begin: usize,
+    skipped: usize,
+) -> Option<usize>
+    requires { begin ≤ length text.now }
+    ensures some { IfSome result (λ k. IsFirstIndex text.now search.now (begin + skipped) k) }
+    ensures none { IfNone result ((k : ℕ) → begin + skipped ≤ k → ¬ (OccursAt text.now search.now k)) }
+{
+    if text.unit_len() - begin < skipped {
+        return None;
+    }
+    index_of(text, search, begin + skipped)
+}
+
+/// Appends the units of `text` from index `begin` to index `end`.
+fn append_part<A: Allocator + Copy>(
+    alloc: A,
+    whole: &mut UnitText<A>,
+    text: &UnitText<A>,
+    begin: usize,
+    end: usize,
+) -> Result<(), AllocError>
+    requires order { begin ≤ end }
+    requires within { end ≤ length text.now }
+    ensures { OnOk result (whole.new ≡ whole.old ++ drop begin (take end text.now)) }
+{
+    let part = text.slice_units(alloc, begin, end)?;
+    whole.concat(&part)
 }
 
 /// `split` at one unit: the parts before, between and after the separators. There is one part more than separators, so

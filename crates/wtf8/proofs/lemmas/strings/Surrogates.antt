@@ -4,6 +4,7 @@ use Rattle.wtf8.proofs.Common.{length-append, true, inr, Option, Some, cases_lt,
 use Rattle.wtf8.proofs.Common.{get_or-append-add, IsUtf8, scalar, scalars, IsCodePoint, IsSurrogate, encoding, bytes, IsClean, IsWellFormed}
 use Rattle.wtf8.proofs.Common.{bytes_are_encodes, AreScalar, SurrogateAt, IsLeast, IsFirst, ◌-◌, ◌/◌, ◌%◌, lit≤, lit<, map-append}
 use Rattle.wtf8.proofs.Common.{lossy_points, take, drop, append_cancel_left, take_at, drop_at, low_scalar, replace_surrogate}
+use Rattle.std.proofs.Math.Seq.{take-append_seam}
 use Rattle.wtf8.proofs.lemmas.codec.Encoding.{length-bytes_append, encoding_three, length-encoding_bounds, encoding_cases}
 use Rattle.wtf8.proofs.lemmas.codec.Encoding.{bytes-append, third_row, length-surrogate, bytes-pushed}
 use Rattle.wtf8.proofs.lemmas.codec.Readings.{nil_from_bytes, clean-first, clean-rest, clean-front, clean-back}
@@ -161,6 +162,13 @@ lossy_points-scalar (p ∷ c) s = grind (arith, kind_by_surrogates, lossy_points
 pub length-lossy_points : (c : List ℕ) → length (bytes (lossy_points c)) ≡ length (bytes c)
 length-lossy_points [] = refl
 length-lossy_points (p ∷ c) = grind (arith, length-append, kind_by_surrogates, encoding_three, length-surrogate, length-lossy_points c)
+
+-- the lossy bytes of `w`, written over its `k` bytes
+pub lossy_written : {w v : List ℕ} {k : ℕ} (h : IsWellFormed w) (rest : List ℕ) → v ≡ bytes (lossy_points h.points) → k ≡ length w
+    → take k (v ++ rest) ≡ bytes (lossy_points h.points)
+lossy_written {v = v} h rest is same =
+    let long = same ∙ sym (ap length is ∙ (length-lossy_points h.points ∙ ap length h.encoded)) in
+    ap (λ n. take n (v ++ rest)) long ∙ (take-append_seam v rest ∙ is)
 
 pub scalars-lossy_points : (c : List ℕ) → IsClean c → scalars (lossy_points c) ≡ true
 scalars-lossy_points [] x = refl

@@ -15,7 +15,7 @@ returns-in_default c = record {
   capacity = capacity_same c.in_default.ensures.kept;
 }
 
-code : (c : goal.After-code_of) → IsCodeOf c.push_wtf8-pushed.result (to_z w32 (of_z w32 c.code_of.result))
+code : (c : goal.After-code_of) → IsCodeOf c.push_counted-pushed.result (to_z w32 (of_z w32 c.code_of.result))
 code c = returned c.code_of.type_inv c.code_of.ensures.ok c.code_of.ensures.memory
 
 taken : (c : goal.After-code_of) → Opened (contents c.args.string.now) c.deref_mut.result.now c.args.string.now.full
@@ -29,7 +29,7 @@ pub returns-clause-ok : goal.returns-clause-ok
 returns-clause-ok c = search rules
 
 pub returns-clause-kept : goal.returns-clause-kept
-returns-clause-kept c = kept (code c) (taken c) c.put.ensures.contents c.push_wtf8-pushed.ensures.kept
+returns-clause-kept c = kept (code c) (taken c) c.put.ensures.contents c.push_counted-pushed.ensures.kept
 
 pub returns-clause-other : goal.returns-clause-other
 returns-clause-other c = c.put_back.ensures ∙ c.take-held.ensures.contents
@@ -38,4 +38,4 @@ pub returns-clause-room : goal.returns-clause-room
 returns-clause-room c = search rules
 
 pub returns-clause-capacity : goal.returns-clause-capacity
-returns-clause-capacity c = capacity_kept (taken c) c.put.ensures.contents c.push_wtf8-pushed.ensures.capacity
+returns-clause-capacity c = capacity_kept (taken c) c.put.ensures.contents c.push_counted-pushed.ensures.capacity

@@ -1,12 +1,8 @@
 use Rattle.std.proofs.Common.{rules}
-use Rattle.std.proofs.Common.{◌≡◌, ℕ, ◌*◌, ◌≤◌, List, [], ◌++◌, length, sym, ap, ◌∙◌, subst, refl, arith, IsOk, All, to_z, of_z, w32, pos}
+use Rattle.std.proofs.Common.{◌≡◌, ℕ, List, [], ◌++◌, sym, ap, ◌∙◌, subst, refl, IsOk, to_z, of_z, w32, pos}
 use Rattle.wtf8.specs.Appending.{FitWithin, HasRoomFor}
 use Rattle.wtf8.specs.Form.{IsForm}
-use Rattle.wtf8.specs.Unicode.{IsUnit}
 use Rattle.wtf8.specs.UnitString.{UnitString}
-use Rattle.wtf8.proofs.lemmas.codec.Readings.{lists_have_lengths}
-use Rattle.wtf8.proofs.lemmas.strings.Concatenation.{one_form}
-use Rattle.wtf8.proofs.lemmas.strings.PushedUnits.{are_units}
 use Rattle.wtf8_c.proofs.Outcomes.{other_code, returned}
 use Rattle.wtf8_c.proofs.making.wtf8_set_units.Goals as goal
 

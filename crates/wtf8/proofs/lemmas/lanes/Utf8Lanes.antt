@@ -1,0 +1,178 @@
+-- Lanes that show which bytes may not follow the three before them.
+use Rattle.wtf8.proofs.Common.{◌≡◌, ℕ, zero, suc, ◌+◌, ◌*◌, ◌%◌, ◌^◌, ◌<◌, ◌≤◌, ◌⊎◌, inl, inr, Bool, true, false, not, ◌&&◌, ◌||◌, cond}
+use Rattle.wtf8.proofs.Common.{List, [], ◌∷◌, map, length, get_or, replicate, refl, sym, ◌∙◌, arith, IsTrue, eqb, leb, ltb, bit_and, bit_or}
+use Rattle.wtf8.proofs.Common.{eqb-true, le-leb, lt-ltb, leb-true, and_parts, and_from, true≢false, zip2, sel_l}
+use Rattle.wtf8.proofs.Common.{mask_l, mask_l-mod, top, nat_tests}
+use Rattle.std.proofs.Common.{bit_xor, ltb-true}
+use Rattle.wtf8.proofs.lemmas.lanes.SurrogateLanes.{lane_of_bool}
+use Rattle.wtf8.specs.private.Utf8Bytes.{MayFollow}
+
+abbrev differ : Bool → Bool → Bool
+differ true b = not b
+differ false b = b
+
+or_lanes : (a b : Bool) → bit_or (lane_of_bool a) (lane_of_bool b) ≡ lane_of_bool (a || b)
+or_lanes true true = refl
+or_lanes true false = refl
+or_lanes false b = refl
+
+and_lanes : (a b : Bool) → bit_and (lane_of_bool a) (lane_of_bool b) ≡ lane_of_bool (a && b)
+and_lanes true true = refl
+and_lanes true false = refl
+and_lanes false b = refl
+
+xor_lanes : (a b : Bool) → bit_xor (lane_of_bool a) (lane_of_bool b) ≡ lane_of_bool (differ a b)
+xor_lanes true true = refl
+xor_lanes true false = refl
+xor_lanes false b = refl
+
+set_lane : (a : Bool) → top 7 (lane_of_bool a) ≡ a
+set_lane true = refl
+set_lane false = refl
+
+-- One lane: of the byte `b` after `z`, `y` and `x`.
+
+abbrev asked : ℕ → ℕ → ℕ → ℕ
+asked z y x = bit_or (bit_or (lane_of_bool (leb 0xC0 x)) (lane_of_bool (leb 0xE0 y))) (lane_of_bool (leb 0xF0 z))
+
+abbrev continues : ℕ → ℕ
+continues b = bit_and (lane_of_bool (leb 0x80 b)) (lane_of_bool (ltb b 0xC0))
+
+abbrev leads_nothing : ℕ → ℕ
+leads_nothing b = bit_or (bit_and (lane_of_bool (leb 0xC0 b)) (lane_of_bool (ltb b 0xC2))) (lane_of_bool (leb 0xF5 b))
+
+abbrev out_of_range : ℕ → ℕ → ℕ
+out_of_range x b = bit_or (lane_of_bool (eqb x (cond (top 7 (lane_of_bool (leb 0xA0 b))) 0xED 0xE0)))
+    (lane_of_bool (eqb x (cond (top 7 (lane_of_bool (leb 0x90 b))) 0xF4 0xF0)))
+
+abbrev wrong : ℕ → ℕ → ℕ → ℕ → ℕ
+wrong z y x b = bit_or (bit_or (bit_xor (asked z y x) (continues b)) (leads_nothing b)) (out_of_range x b)
+
+abbrev is_asked : ℕ → ℕ → ℕ → Bool
+is_asked z y x = (leb 0xC0 x || leb 0xE0 y) || leb 0xF0 z
+
+abbrev is_continuation : ℕ → Bool
+is_continuation b = leb 0x80 b && ltb b 0xC0
+
+abbrev is_after_three : ℕ → ℕ → Bool
+is_after_three x b = eqb x (cond (leb 0xA0 b) 0xED 0xE0)
+
+abbrev is_after_four : ℕ → ℕ → Bool
+is_after_four x b = eqb x (cond (leb 0x90 b) 0xF4 0xF0)
+
+wrong_lane : (z y x b : ℕ) → top 7 (wrong z y x b)
+    ≡ (differ (is_asked z y x) (is_continuation b) || ((leb 0xC0 b && ltb b 0xC2) || leb 0xF5 b)) || (is_after_three x b || is_after_four x b)
+wrong_lane z y x b = rw (
+  set_lane (leb 0xA0 b),
+  set_lane (leb 0x90 b),
+  or_lanes (leb 0xC0 x) (leb 0xE0 y),
+  or_lanes (leb 0xC0 x || leb 0xE0 y) (leb 0xF0 z),
+  and_lanes (leb 0x80 b) (ltb b 0xC0),
+  xor_lanes (is_asked z y x) (is_continuation b),
+  and_lanes (leb 0xC0 b) (ltb b 0xC2),
+  or_lanes (leb 0xC0 b && ltb b 0xC2) (leb 0xF5 b),
+  or_lanes (is_after_three x b) (is_after_four x b),
+  or_lanes (differ (is_asked z y x) (is_continuation b)) ((leb 0xC0 b && ltb b 0xC2) || leb 0xF5 b),
+  or_lanes (differ (is_asked z y x) (is_continuation b) || ((leb 0xC0 b && ltb b 0xC2) || leb 0xF5 b)) (is_after_three x b || is_after_four x b),
+)
+    (set_lane _)
+
+neither : (a b : Bool) → a || b ≡ false → (a ≡ false) × (b ≡ false)
+neither true b e = absurd (true≢false e)
+neither false b e = (refl, e)
+
+same : (a b : Bool) → differ a b ≡ false → a ≡ b
+same true true e = refl
+same true false e = absurd (true≢false e)
+same false b e = sym e
+
+is_asked-true : (z y x : ℕ) → (0xC0 ≤ x) ⊎ ((0xE0 ≤ y) ⊎ (0xF0 ≤ z)) → is_asked z y x ≡ true
+is_asked-true z y x h = elim h [
+  | inl l ↦ rw (le-leb 0xC0 x l) refl
+  | inr k ↦ elim k [ inl l ↦ rw (le-leb 0xE0 y l) (any_true (leb 0xC0 x) (leb 0xF0 z)) | inr l ↦ rw (le-leb 0xF0 z l) (last_true _) ]
+]
+  where
+    any_true : (a b : Bool) → (a || true) || b ≡ true
+    any_true true b = refl
+    any_true false b = refl
+
+    last_true : (a : Bool) → a || true ≡ true
+    last_true true = refl
+    last_true false = refl
+
+may_follow : (z y x b : ℕ) → top 7 (wrong z y x b) ≡ false → MayFollow z y x b
+may_follow z y x b e =
+    let parts = neither (differ (is_asked z y x) (is_continuation b) || ((leb 0xC0 b && ltb b 0xC2) || leb 0xF5 b))
+    (is_after_three x b || is_after_four x b) (sym (wrong_lane z y x b) ∙ e) in
+    let first = neither (differ (is_asked z y x) (is_continuation b)) ((leb 0xC0 b && ltb b 0xC2) || leb 0xF5 b) parts.0 in
+    let agree = same (is_asked z y x) (is_continuation b) first.0 in
+    let leads = neither (leb 0xC0 b && ltb b 0xC2) (leb 0xF5 b) first.1 in
+    let ranges = neither (is_after_three x b) (is_after_four x b) parts.1 in
+    record {
+      continues = λ h.
+          let t = and_parts (leb 0x80 b) (ltb b 0xC0) (sym agree ∙ is_asked-true z y x h) in
+          (leb-true 0x80 b t.0, ltb-true b 0xC0 t.1);
+      begins = λ l m n c.
+          let none : is_asked z y x ≡ false = grind (arith, nat_tests) in
+          true≢false (sym (and_from (leb 0x80 b) (ltb b 0xC0) (le-leb 0x80 b c.0) (lt-ltb b 0xC0 c.1)) ∙ (sym agree ∙ none));
+      leads = λ l. (grind (arith, nat_tests, leads.0), grind (arith, nat_tests, leads.1));
+      after_E0 = λ e. grind (arith, nat_tests, ranges.0);
+      after_ED = λ e. grind (arith, nat_tests, ranges.0);
+      after_F0 = λ e. grind (arith, nat_tests, ranges.1);
+      after_F4 = λ e. grind (arith, nat_tests, ranges.1);
+    }
+
+-- All lanes.
+
+abbrev at_least : ℕ → ℕ → List ℕ → List ℕ
+at_least n k a = zip2 (λ a b. lane_of_bool (leb a b)) (replicate n k) a
+
+abbrev below : ℕ → List ℕ → ℕ → List ℕ
+below n a k = zip2 (λ a b. lane_of_bool (ltb a b)) a (replicate n k)
+
+abbrev chosen : ℕ → List ℕ → ℕ → ℕ → ℕ → List ℕ
+chosen n b k p q = sel_l (map (top 7) (at_least n k b)) (replicate n p) (replicate n q)
+
+abbrev equal_lanes : List ℕ → List ℕ → List ℕ
+equal_lanes a b = zip2 (λ a b. lane_of_bool (eqb a b)) a b
+
+abbrev pub wrong_lanes : ℕ → List ℕ → List ℕ → List ℕ → List ℕ → List ℕ
+wrong_lanes n z y x b = zip2 bit_or (zip2 bit_or
+    (zip2 bit_xor (zip2 bit_or (zip2 bit_or (at_least n 0xC0 x) (at_least n 0xE0 y)) (at_least n 0xF0 z)) (zip2 bit_and (at_least n 0x80 b) (below n b 0xC0)))
+    (zip2 bit_or (zip2 bit_and (at_least n 0xC0 b) (below n b 0xC2)) (at_least n 0xF5 b)))
+    (zip2 bit_or (equal_lanes x (chosen n b 0xA0 0xED 0xE0)) (equal_lanes x (chosen n b 0x90 0xF4 0xF0)))
+
+first_unset : (t : Bool) (m : ℕ) → cond t 1 0 + 2 * m ≡ 0 → t ≡ false
+first_unset true m e = absurd (omega (arith, e))
+first_unset false m e = refl
+
+length-wrong_lanes : (n : ℕ) (z y x b : List ℕ) → length z ≡ n → length y ≡ n → length x ≡ n → length b ≡ n
+    → length (map (top 7) (wrong_lanes n z y x b)) ≤ n
+length-wrong_lanes zero z y x b p q r s = omega arith
+length-wrong_lanes (suc n) [] y x b p q r s = absurd (omega arith)
+length-wrong_lanes (suc n) (z ∷ zs) [] x b p q r s = absurd (omega arith)
+length-wrong_lanes (suc n) (z ∷ zs) (y ∷ ys) [] b p q r s = absurd (omega arith)
+length-wrong_lanes (suc n) (z ∷ zs) (y ∷ ys) (x ∷ xs) [] p q r s = absurd (omega arith)
+length-wrong_lanes (suc n) (z ∷ zs) (y ∷ ys) (x ∷ xs) (b ∷ bs) p q r s =
+    omega (arith, length-wrong_lanes n zs ys xs bs (omega arith) (omega arith) (omega arith) (omega arith))
+
+none_wrong : (n : ℕ) (z y x b : List ℕ) → length z ≡ n → length y ≡ n → length x ≡ n → length b ≡ n
+    → mask_l (map (top 7) (wrong_lanes n z y x b)) ≡ 0 → (k : ℕ) → k < n
+    → MayFollow (get_or z k 0) (get_or y k 0) (get_or x k 0) (get_or b k 0)
+none_wrong zero z y x b p q r s e k l = absurd (omega arith)
+none_wrong (suc n) [] y x b p q r s e k l = absurd (omega arith)
+none_wrong (suc n) (z ∷ zs) [] x b p q r s e k l = absurd (omega arith)
+none_wrong (suc n) (z ∷ zs) (y ∷ ys) [] b p q r s e k l = absurd (omega arith)
+none_wrong (suc n) (z ∷ zs) (y ∷ ys) (x ∷ xs) [] p q r s e k l = absurd (omega arith)
+none_wrong (suc n) (z ∷ zs) (y ∷ ys) (x ∷ xs) (b ∷ bs) p q r s e zero l =
+    may_follow z y x b (first_unset (top 7 (wrong z y x b)) (mask_l (map (top 7) (wrong_lanes n zs ys xs bs))) e)
+none_wrong (suc n) (z ∷ zs) (y ∷ ys) (x ∷ xs) (b ∷ bs) p q r s e (suc k) l =
+    none_wrong n zs ys xs bs (omega arith) (omega arith) (omega arith) (omega arith) (omega (arith, e)) k (omega arith)
+
+-- if the mask of a block is 0, each of its bytes may follow
+pub follows_if_none : (z y x b : List ℕ) → length z ≡ 32 → length y ≡ 32 → length x ≡ 32 → length b ≡ 32
+    → IsTrue (eqb (mask_l (map (top 7) (wrong_lanes 32 z y x b)) % 2 ^ 64) 0) → (k : ℕ) → k < 32
+    → MayFollow (get_or z k 0) (get_or y k 0) (get_or x k 0) (get_or b k 0)
+follows_if_none z y x b p q r s t =
+    let lanes = map (top 7) (wrong_lanes 32 z y x b) in
+    none_wrong 32 z y x b p q r s (sym (mask_l-mod lanes 64 (omega (arith, length-wrong_lanes 32 z y x b p q r s))) ∙ eqb-true _ 0 t)

@@ -1,0 +1,178 @@
+-- Bytes each of which may follow the three before it are UTF-8.
+use Rattle.wtf8.proofs.Common.{◌≡◌, ℕ, zero, suc, ◌+◌, ◌-◌, ◌*◌, ◌/◌, ◌%◌, ◌<◌, ◌≤◌, inl, inr, List, [], ◌∷◌, ◌++◌, length, get_or, sym, ap}
+use Rattle.wtf8.proofs.Common.{◌∙◌, arith, cases_lt, IsUtf8, IsCodePoint, IsSurrogate, encoding, encoding_is_encode, IsUtf8-from_ascii}
+use Rattle.wtf8.proofs.Common.{chunk, get_or-chunk, take, AreAscii, subst}
+use Rattle.std.proofs.lemmas.List.{get_or-take}
+use Rattle.wtf8.proofs.lemmas.codec.Encoding.{encoding_one, encoding_two, encoding_three, encoding_four}
+use Rattle.wtf8.proofs.lemmas.lanes.AsciiFronts.{ascii_in_block}
+use Rattle.wtf8.proofs.lemmas.strings.Surrogates.{scalar_true}
+use Rattle.wtf8.specs.private.Utf8Bytes.{MayFollow, FollowsIn, IsWholeAfter, IsContinuation}
+
+-- each byte of `w` after `z`, `y` and `x` may follow, and none is missing at the end
+abbrev Follow : ℕ → ℕ → ℕ → List ℕ → Type 0
+Follow z y x [] = IsWholeAfter z y x
+Follow z y x (b ∷ w) = MayFollow z y x b × Follow y x b w
+
+text_from_encoding : (p : ℕ) (front w : List ℕ) → IsCodePoint p → ¬ (IsSurrogate p) → encoding p ≡ front → IsUtf8 w → IsUtf8 (front ++ w)
+text_from_encoding p front w r n e u =
+    (p ∷ u.0, (rw (scalar_true p r n) u.1.0, λ i. (sym (encoding_is_encode p) ∙ e) i ++ u.1.1 i))
+
+text_one : (a : ℕ) (w : List ℕ) → a < 0x80 → IsUtf8 w → IsUtf8 (a ∷ w)
+text_one a w l = text_from_encoding a (a ∷ []) w (omega arith) (λ s. omega (arith, s, l)) (encoding_one a l)
+
+text_two : (a b : ℕ) (w : List ℕ) → 0xC2 ≤ a → a < 0xE0 → IsContinuation b → IsUtf8 w → IsUtf8 (a ∷ b ∷ w)
+text_two a b w l m c =
+    let p = (a - 0xC0) * 64 + (b - 0x80) in
+    let lead : 0xC0 + p / 64 ≡ a = omega (arith, l, m, c) in
+    let next : 0x80 + p % 64 ≡ b = omega (arith, c) in
+    text_from_encoding p (a ∷ b ∷ []) w (omega (arith, m, c)) (λ s. omega (arith, s, m, c))
+    (encoding_two p (omega (arith, l)) (omega (arith, m, c)) ∙ (λ i. lead i ∷ next i ∷ []))
+
+text_three : (x y a b c : ℕ) (w : List ℕ) → 0xE0 ≤ a → a < 0xF0 → MayFollow x y a b → IsContinuation b → IsContinuation c → IsUtf8 w
+    → IsUtf8 (a ∷ b ∷ c ∷ w)
+text_three x y a b c w l m f d e =
+    let p = (a - 0xE0) * 4096 + (b - 0x80) * 64 + (c - 0x80) in
+    let lead : 0xE0 + p / 4096 ≡ a = omega (arith, l, d, e) in
+    let next : 0x80 + p / 64 % 64 ≡ b = omega (arith, d, e) in
+    let last : 0x80 + p % 64 ≡ c = omega (arith, e) in
+    let least : 0x800 ≤ p = elim (cases_lt a 0xE1) [ inl k ↦ omega (arith, f.after_E0 (omega (arith, l, k))) | inr k ↦ omega (arith, k) ] in
+    let plain : ¬ (IsSurrogate p) = λ s. elim (cases_lt a 0xED) [
+      | inl k ↦ omega (arith, s, k, d, e)
+      | inr k ↦ elim (cases_lt a 0xEE) [ inl j ↦ omega (arith, s, f.after_ED (omega (arith, k, j)), k, e) | inr j ↦ omega (arith, s, j) ]
+    ] in
+    text_from_encoding p (a ∷ b ∷ c ∷ []) w (omega (arith, m, d, e)) plain
+    (encoding_three p least (omega (arith, m, d, e)) ∙ (λ i. lead i ∷ next i ∷ last i ∷ []))
+
+text_four : (x y a b c d : ℕ) (w : List ℕ) → 0xF0 ≤ a → a < 0xF5 → MayFollow x y a b → IsContinuation b → IsContinuation c → IsContinuation d
+    → IsUtf8 w → IsUtf8 (a ∷ b ∷ c ∷ d ∷ w)
+text_four x y a b c d w l m f g h k =
+    let upper = (a - 0xF0) * 4096 + (b - 0x80) * 64 + (c - 0x80) in
+    let p = upper * 64 + (d - 0x80) in
+    let front : p / 64 ≡ upper = omega (arith, k) in
+    let split : p / 262144 ≡ upper / 4096 = omega (arith, front) in
+    let middle : p / 4096 ≡ upper / 64 = omega (arith, front) in
+    let lead : 0xF0 + p / 262144 ≡ a = rw split (omega (arith, l, g, h)) in
+    let next : 0x80 + p / 4096 % 64 ≡ b = rw middle (omega (arith, g, h)) in
+    let third : 0x80 + p / 64 % 64 ≡ c = rw front (omega (arith, h)) in
+    let last : 0x80 + p % 64 ≡ d = omega (arith, k) in
+    let least : 0x10000 ≤ p = elim (cases_lt a 0xF1) [ inl j ↦ omega (arith, f.after_F0 (omega (arith, l, j))) | inr j ↦ omega (arith, j) ] in
+    let most : p ≤ 0x10FFFF = elim (cases_lt a 0xF4) [ inl j ↦ omega (arith, j, g, h, k) | inr j ↦ omega (arith, f.after_F4 (omega (arith, m, j)), m, h, k) ] in
+    text_from_encoding p (a ∷ b ∷ c ∷ d ∷ []) w most (λ s. omega (arith, s, least))
+    (encoding_four p least ∙ (λ i. lead i ∷ next i ∷ third i ∷ last i ∷ []))
+
+-- the text that begins with a byte, if what follows the encoding of at most `n` bytes is text
+module _ (n : ℕ) (rest : (z y x : ℕ) (w : List ℕ) → length w ≤ n → IsWholeAfter z y x → Follow z y x w → IsUtf8 w) where
+  after_three : (x a b c : ℕ) (w : List ℕ) → length w ≤ n → (y : ℕ) → 0xF0 ≤ a → a < 0xF5 → MayFollow x y a b → IsContinuation b
+      → IsContinuation c → Follow a b c w → IsUtf8 (a ∷ b ∷ c ∷ w)
+  after_three x a b c [] s y l m f g h v = absurd (omega (arith, v, l))
+  after_three x a b c (d ∷ w) s y l m f g h v =
+      let k = v.0.continues (inr (inr l)) in
+      text_four x y a b c d w l m f g h k (rest b c d w (omega (arith, s)) (omega (arith, g, h, k)) v.1)
+
+  after_two : (x y a b : ℕ) (w : List ℕ) → length w ≤ n → 0xE0 ≤ a → a < 0xF5 → MayFollow x y a b → IsContinuation b → Follow y a b w
+      → IsUtf8 (a ∷ b ∷ w)
+  after_two x y a b [] s l m f g v = absurd (omega (arith, v, l))
+  after_two x y a b (c ∷ w) s l m f g v =
+      let h = v.0.continues (inr (inl l)) in
+      elim (cases_lt a 0xF0) [
+        | inl j ↦ text_three x y a b c w l j f g h (rest a b c w (omega (arith, s)) (omega (arith, j, g, h)) v.1)
+        | inr j ↦ after_three x a b c w (omega (arith, s)) y j m f g h v.1
+      ]
+
+  after_lead : (x y a : ℕ) (w : List ℕ) → length w ≤ n → y < 0xE0 → 0xC2 ≤ a → a < 0xF5 → Follow x y a w → IsUtf8 (a ∷ w)
+  after_lead x y a [] s o l m v = absurd (omega (arith, v, l))
+  after_lead x y a (b ∷ w) s o l m v =
+      let g = v.0.continues (inl (omega (arith, l))) in
+      elim (cases_lt a 0xE0) [
+        | inl j ↦ text_two a b w l j g (rest y a b w (omega (arith, s)) (omega (arith, o, j, g)) v.1)
+        | inr j ↦ after_two x y a b w (omega (arith, s)) j m v.0 g v.1
+      ]
+
+  text_step : (z y x : ℕ) (w : List ℕ) → length w ≤ suc n → IsWholeAfter z y x → Follow z y x w → IsUtf8 w
+  text_step z y x [] s whole v = IsUtf8-from_ascii [] (λ i. omega arith)
+  text_step z y x (a ∷ w) s whole v = elim (cases_lt a 0x80) [
+    | inl l ↦ text_one a w l (rest y x a w (omega (arith, s)) (omega (arith, whole, l)) v.1)
+    | inr l ↦ elim (cases_lt a 0xC0) [
+      | inl m ↦ absurd (v.0.begins whole.2 whole.1 whole.0 (l, m))
+      | inr m ↦ let leads = v.0.leads m in after_lead y x a w (omega (arith, s)) (omega (arith, whole)) leads.0 leads.1 v.1
+    ]
+  ]
+
+text_from_follow : (n z y x : ℕ) (w : List ℕ) → length w ≤ n → IsWholeAfter z y x → Follow z y x w → IsUtf8 w
+text_from_follow zero z y x [] s whole v = IsUtf8-from_ascii [] (λ i. omega arith)
+text_from_follow zero z y x (b ∷ w) s whole v = absurd (omega (arith, s))
+text_from_follow (suc n) z y x w s whole v = text_step n (text_from_follow n) z y x w s whole v
+
+follow_from_indexes : (z y x : ℕ) (w : List ℕ) → FollowsIn (z ∷ y ∷ x ∷ w) 0 (length w)
+    → IsWholeAfter (get_or (z ∷ y ∷ x ∷ w) (length w) 0) (get_or (z ∷ y ∷ x ∷ w) (suc (length w)) 0)
+    (get_or (z ∷ y ∷ x ∷ w) (suc (suc (length w))) 0) → Follow z y x w
+follow_from_indexes z y x [] h whole = whole
+follow_from_indexes z y x (b ∷ w) h whole =
+    (h 0 (omega arith) (omega arith), follow_from_indexes y x b w (λ i l m. h (suc i) (omega arith) (omega (arith, m))) whole)
+
+-- bytes are UTF-8 if each of the first three may follow zeros, each later one the three before it, and none is missing
+pub text_from_indexes : (w : List ℕ) → 3 ≤ length w → FollowsIn (0 ∷ 0 ∷ 0 ∷ w) 0 3 → FollowsIn w 0 (length w - 3)
+    → IsWholeAfter (get_or w (length w - 3) 0) (get_or w (length w - 2) 0) (get_or w (length w - 1) 0) → IsUtf8 w
+text_from_indexes [] some front all whole = absurd (omega (arith, some))
+text_from_indexes (a ∷ []) some front all whole = absurd (omega (arith, some))
+text_from_indexes (a ∷ b ∷ []) some front all whole = absurd (omega (arith, some))
+text_from_indexes (a ∷ b ∷ c ∷ w) some front all whole =
+    let third : length (a ∷ b ∷ c ∷ w) - 3 ≡ length w = omega arith in
+    let second : length (a ∷ b ∷ c ∷ w) - 2 ≡ suc (length w) = omega arith in
+    let first : length (a ∷ b ∷ c ∷ w) - 1 ≡ suc (suc (length w)) = omega arith in
+    let at = λ (i : ℕ). get_or (a ∷ b ∷ c ∷ w) i 0 in
+    let later = follow_from_indexes a b c w (λ i l m. all i l (omega (arith, m)))
+    (subst (λ p. p) (λ t. IsWholeAfter (at (third t)) (at (second t)) (at (first t))) whole) in
+    text_from_follow (length (a ∷ b ∷ c ∷ w)) 0 0 0 (a ∷ b ∷ c ∷ w) (omega arith) (omega arith)
+    (front 0 (omega arith) (omega arith), (front 1 (omega arith) (omega arith), (front 2 (omega arith) (omega arith), later)))
+
+-- lanes of which each may follow are the bytes of a block that may follow
+pub follows_in_chunks : (w : List ℕ) (at : ℕ) → ((k : ℕ) → k < 32 → MayFollow (get_or (chunk at 32 w) k 0)
+    (get_or (chunk (at + 1) 32 w) k 0) (get_or (chunk (at + 2) 32 w) k 0) (get_or (chunk (at + 3) 32 w) k 0)) → FollowsIn w at (at + 32)
+follows_in_chunks w at h i l m =
+    let lane : (from j : ℕ) → from + (i - at) ≡ j → get_or (chunk from 32 w) (i - at) 0 ≡ get_or w j 0
+    = λ from j e. get_or-chunk from 32 w (i - at) 0 (omega (arith, l, m)) ∙ ap (λ n. get_or w n 0) e in
+    rw (
+      lane at i (omega (arith, l)),
+      lane (at + 1) (suc i) (omega (arith, l)),
+      lane (at + 2) (suc (suc i)) (omega (arith, l)),
+      lane (at + 3) (suc (suc (suc i))) (omega (arith, l)),
+    ) at (h (i - at) (omega (arith, l, m)))
+
+-- the first three bytes may follow in a list if they may in its front
+pub follows_in_front : (w : List ℕ) → FollowsIn (take 35 w) 0 32 → FollowsIn w 0 3
+follows_in_front w h i l m =
+    let same : (j : ℕ) → j < 35 → get_or (take 35 w) j 0 ≡ get_or w j 0 = λ j k. get_or-take 35 w j 0 k in
+    rw (
+      same i (omega (arith, m)),
+      same (suc i) (omega (arith, m)),
+      same (suc (suc i)) (omega (arith, m)),
+      same (suc (suc (suc i))) (omega (arith, m)),
+    ) at (h i l (omega (arith, m)))
+
+ascii_follows : (z y x b : ℕ) → z < 0x80 → y < 0x80 → x < 0x80 → b < 0x80 → MayFollow z y x b
+ascii_follows z y x b l m n o = record {
+  continues = λ h. absurd (omega (arith, h, l, m, n));
+  begins = λ _ _ _ c. omega (arith, c, o);
+  leads = λ k. absurd (omega (arith, k, o));
+  after_E0 = λ e. absurd (omega (arith, e, n));
+  after_ED = λ e. absurd (omega (arith, e, n));
+  after_F0 = λ e. absurd (omega (arith, e, n));
+  after_F4 = λ e. absurd (omega (arith, e, n));
+}
+
+-- in a block of ASCII each byte but the first three may follow
+pub follows_in_ascii : (w : List ℕ) (at : ℕ) → at + 32 ≤ length w → AreAscii (chunk at 32 w) → FollowsIn w 0 at → FollowsIn w 0 (at + 29)
+follows_in_ascii w at room all before i l m = elim (cases_lt i at) [
+  | inl k ↦ before i l k
+  | inr k ↦
+      let ascii : (j : ℕ) → at ≤ j → j < at + 32 → get_or w j 0 < 0x80 = ascii_in_block 32 at w room all in
+      ascii_follows _ _ _ _ (ascii i k (omega (arith, m))) (ascii (suc i) (omega (arith, k)) (omega (arith, m)))
+      (ascii (suc (suc i)) (omega (arith, k)) (omega (arith, m))) (ascii (suc (suc (suc i))) (omega (arith, k)) (omega (arith, m)))
+]
+
+-- of ASCII bytes each but the first three may follow
+pub follows_in_ascii_front : (w : List ℕ) (n : ℕ) → ((k : ℕ) → k < n → get_or w k 0 < 0x80) → FollowsIn w 0 (n - 3)
+follows_in_ascii_front w n h i l m =
+    ascii_follows _ _ _ _ (h i (omega (arith, m))) (h (suc i) (omega (arith, m))) (h (suc (suc i)) (omega (arith, m)))
+    (h (suc (suc (suc i))) (omega (arith, m)))

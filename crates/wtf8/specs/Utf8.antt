@@ -1,0 +1,12 @@
+-- Why bytes are no text.
+use Rattle.std.specs.Prelude.{◌≡◌, ℕ, List, drop}
+use Rattle.std.specs.Str.{IsUtf8, valid_up_to, error_len}
+use Rattle.std.specs.Str.Lossy.{utf8_valid_len, utf8_error_len}
+use Rattle.wtf8.specs.declared.buffers.text.TextError.{TextError}
+use Rattle.wtf8.specs.declared.buffers.text.TextError.TheVariants.{NotUtf8, Refused}
+
+-- The error tells how many bytes at the front are UTF-8 and how many after these are wrong together (Unicode 3.9,
+-- "U+FFFD Substitution of Maximal Subparts"), or else all are UTF-8 and memory was refused.
+abbrev pub Tells : List ℕ → TextError → Type 0
+Tells w (NotUtf8 e) = ¬ (IsUtf8 w) × (valid_up_to e ≡ utf8_valid_len w) × (error_len e ≡ utf8_error_len (drop (utf8_valid_len w) w))
+Tells w (Refused e) = IsUtf8 w

@@ -1,0 +1,117 @@
+// Strings compared with code units that are in no string: the string's units are decoded on the stack, part by part.
+ghost use Rattle.std.specs.Cmp.Lexicographic.{slice_cmp};
+ghost use Rattle.std.specs.Ordering.{MatchOrdering, nat_cmp};
+ghost use Rattle.std.specs.Prelude.{◌≡◌, ◌↔◌, ◌++◌, ◌^◌, ◌<◌, ◌≤◌, length, take, IsTrue};
+ghost use Rattle.wtf8.specs.Order.{Before};
+ghost use Rattle.wtf8.specs.View.{view_units};
+
+use crate::strings::view::Wtf8;
+use crate::units::writing::decode_all;
+use std::cmp::Ordering;
+
+/// The most bytes of a part that is decoded at a time, and so the most units.
+const PART: usize = 512;
+
+/// The same for shorter strings: fewer bytes to zero.
+const SHORT_PART: usize = 64;
+
+/// Decodes the first code points of a string, at most a byte for each unit of `block`, to the front of that. Returns
+/// the number of their units and the rest of the string.
+#[inline(always)]
+fn decode_part<'a>(view: Wtf8<'a>, block: &mut [u16]) -> (usize, Wtf8<'a>)
+    requires nonempty { 0 < length view.bytes.now }
+    requires room { 4 ≤ length block.old }
+    ensures within { result.0 ≤ length block.new }
+    ensures units { take result.0 block.new ++ view_units result.1 ≡ view_units view.entry }
+    ensures shorter { length result.1.bytes.now < length view.entry.bytes.now }
+{
+    let position = view.boundary_before(view.len().min(block.len()));
+    let count = decode_all(block, 0, view.slice_to(position));
+    (count, view.slice_from(position))
+}
+
+#[inline(always)]
+fn cmp_by_parts<const N: usize>(view: Wtf8<'_>, units: &[u16]) -> Ordering
+    requires { (4 ≤ N) × (N < 2 ^ 16) }
+    ensures { result ≡ slice_cmp nat_cmp (view_units view.entry) units.now }
+{
+    let mut block = [0; N];
+    let mut rest = view;
+    let mut others = units;
+    while !rest.is_empty() {
+        let (count, after) = decode_part(rest, &mut block);
+        let (front, back) = others.split_at(count.min(others.len()));
+        let own: &[u16] = &block[..count];
+        let order = own.cmp(&front);
+        if order.is_ne() {
+            return order;
+        }
+        rest = after;
+        others = back;
+    }
+    if others.is_empty() {
+        Ordering::Equal
+    } else {
+        Ordering::Less
+    }
+}
+
+#[inline(always)]
+fn starts_by_parts<const N: usize>(view: Wtf8<'_>, units: &[u16]) -> bool
+    requires { (4 ≤ N) × (N < 2 ^ 16) }
+    ensures { IsTrue result ↔ take (length units.now) (view_units view.entry) ≡ units.now }
+{
+    let mut block = [0; N];
+    let mut rest = view;
+    let mut others = units;
+    while !others.is_empty() {
+        if rest.is_empty() {
+            return false;
+        }
+        let (count, after) = decode_part(rest, &mut block);
+        let (front, back) = others.split_at(count.min(others.len()));
+        let own: &[u16] = &block[..front.len()];
+        if own != front {
+            return false;
+        }
+        rest = after;
+        others = back;
+    }
+    true
+}
+
+impl<'a> Wtf8<'a> {
+    /// Compares the code units of the string with these, as `cmp_units` compares two strings: the first units that
+    /// differ decide, and a prefix comes before the longer list. Does not allocate. Linear in the equal front.
+    pub fn cmp_with_units(&self, units: &[u16]) -> Ordering
+        ensures value { result ≡ slice_cmp nat_cmp (view_units self.now) units.now }
+        ensures order { let own = view_units self.now in
+            MatchOrdering result (Before own units.now) (own ≡ units.now) (Before units.now own) }
+    {
+        if self.len() <= SHORT_PART {
+            return cmp_by_parts::<SHORT_PART>(*self, units);
+        }
+        cmp_by_parts::<PART>(*self, units)
+    }
+
+    /// Whether the code units of the string begin with these. Does not allocate. Linear in their number.
+    pub fn starts_with_units(&self, units: &[u16]) -> bool
+        ensures { IsTrue result ↔ take (length units.now) (view_units self.now) ≡ units.now }
+    {
+        // The string has no more units than bytes.
+        if self.len() < units.len() {
+            return false;
+        }
+        if units.len() <= SHORT_PART {
+            return starts_by_parts::<SHORT_PART>(*self, units);
+        }
+        starts_by_parts::<PART>(*self, units)
+    }
+
+    /// Whether the code units of the string are these. Does not allocate. Linear in the equal front.
+    pub fn eq_units(&self, units: &[u16]) -> bool
+        ensures { IsTrue result ↔ view_units self.now ≡ units.now }
+    {
+        self.cmp_with_units(units).is_eq()
+    }
+}

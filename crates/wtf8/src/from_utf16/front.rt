@@ -1,0 +1,149 @@
+// Encodes code units at the front of a list into a slice, without memory.
+ghost use Rattle.std.specs.Prelude.{◌≡◌, ◌⊎◌, ℕ, List, ◌++◌, ◌+◌, ◌<◌, ◌≤◌, length, take, drop};
+ghost use Rattle.wtf8.specs.Form.{IsForm};
+ghost use Rattle.wtf8.specs.UnitPosition.{DividesPair};
+ghost use Rattle.wtf8.specs.private.Prefixes.{ReadsOn};
+
+use crate::from_utf16::kernel::{self, MIN_SPARE, Progress};
+use crate::from_utf16::transcode::{MOST_POINT_BYTES, narrow_saturating};
+use crate::from_utf16::{BLOCK_UNITS, HALF_BLOCK, QUARTER_BLOCK, TWO_BLOCKS, few};
+use crate::lanes::ascii::ascii_run_len;
+use std::simd::prelude::*;
+
+/// How many code units at the front of a list were encoded, and how many bytes they took.
+#[derive(Clone, Copy)]
+pub struct EncodedFront {
+    /// The number of code units.
+    pub units: usize,
+    /// The number of their bytes.
+    pub bytes: usize,
+}
+
+/// Writes the ASCII run in the next `N` units at index `len`. Returns the index after it and how far units are encoded.
+#[inline(always)]
+fn write_ascii<const N: usize>(
+    v: &[u16],
+    from: Progress,
+    out: &mut [u8],
+    len: usize,
+) -> (usize, Progress)
+    requires lanes { (0 < N) × (N ≤ u64.BITS) }
+    requires within { from.at + N ≤ length v.now }
+    requires room { len + N ≤ length out.old }
+    ensures order { (from.at ≤ result.1.at) × (result.1.at ≤ from.at + N) }
+    ensures end { result.0 + from.at ≡ len + result.1.at }
+    ensures read { (w : List ℕ) → ReadsOn (w ++ take len out.old) (w ++ take result.0 out.new) v.now from.at from.is_utf8 result.1.at result.1.is_utf8 }
+{
+    let block = narrow_saturating(Simd::<u16, N>::from_slice(&v[from.at..]));
+    block.copy_to_slice(&mut out[len..]);
+    let count = ascii_run_len(block);
+    let to = Progress {
+        at: from.at + count,
+        is_utf8: from.is_utf8,
+    };
+    (len + count, to)
+}
+
+/// Writes the ASCII run in the next `N` units and the code point after it, if the run ends among them.
+#[inline(always)]
+fn write_run<const N: usize>(
+    v: &[u16],
+    from: Progress,
+    out: &mut [u8],
+    len: usize,
+) -> (usize, Progress)
+    requires lanes { (0 < N) × (N ≤ TWO_BLOCKS) }
+    requires within { from.at + N ≤ length v.now }
+    requires room { len + MIN_SPARE ≤ length out.old }
+    ensures order { (from.at < result.1.at) × (result.1.at ≤ length v.now) }
+    ensures end { result.0 ≤ length out.new }
+    ensures read { (w : List ℕ) → ReadsOn (w ++ take len out.old) (w ++ take result.0 out.new) v.now from.at from.is_utf8 result.1.at result.1.is_utf8 }
+{
+    let (end, to) = write_ascii::<N>(v, from, out, len);
+    if to.at == from.at + N {
+        return (end, to);
+    }
+    few::write_point(v, to, out, end)
+}
+
+/// Writes blocks at index `len`, of units that begin with one that is not ASCII.
+#[inline(always)]
+fn write_blocks(v: &[u16], from: Progress, out: &mut [u8], len: usize) -> (usize, Progress)
+    requires within { from.at + QUARTER_BLOCK ≤ length v.now }
+    requires room { len + MIN_SPARE ≤ length out.old }
+    ensures order { (from.at < result.1.at) × (result.1.at ≤ length v.now) }
+    ensures end { result.0 ≤ length out.new }
+    ensures read { (w : List ℕ) → ReadsOn (w ++ take len out.old) (w ++ take result.0 out.new) v.now from.at from.is_utf8 result.1.at result.1.is_utf8 }
+{
+    let (count, to) = kernel::write_blocks(v, from.at, &mut out[len..]);
+    let is_utf8 = from.is_utf8 & to.is_utf8;
+    (len + count, Progress { at: to.at, is_utf8 })
+}
+
+/// Encodes the next units at index `len`. Returns the index after their bytes and how far units are encoded.
+#[inline(always)]
+fn write_next(v: &[u16], from: Progress, out: &mut [u8], len: usize) -> (usize, Progress)
+    requires within { from.at < length v.now }
+    requires room { len + 4 ≤ length out.old }
+    ensures order { (from.at < result.1.at) × (result.1.at ≤ length v.now) }
+    ensures end { result.0 ≤ length out.new }
+    ensures read { (w : List ℕ) → ReadsOn (w ++ take len out.old) (w ++ take result.0 out.new) v.now from.at from.is_utf8 result.1.at result.1.is_utf8 }
+{
+    let left = v.len() - from.at;
+    if left < QUARTER_BLOCK || out.len() - len < MIN_SPARE {
+        return few::write_point(v, from, out, len);
+    }
+    if 0x80 <= v[from.at] {
+        if v[from.at + 1] < 0x80 || v[from.at + 2] < 0x80 {
+            // ASCII that follows soon is most often a run.
+            return few::write_point(v, from, out, len);
+        }
+        return write_blocks(v, from, out, len);
+    }
+    if TWO_BLOCKS <= left {
+        write_run::<TWO_BLOCKS>(v, from, out, len)
+    } else if BLOCK_UNITS <= left {
+        write_run::<BLOCK_UNITS>(v, from, out, len)
+    } else if HALF_BLOCK <= left {
+        write_run::<HALF_BLOCK>(v, from, out, len)
+    } else {
+        write_run::<QUARTER_BLOCK>(v, from, out, len)
+    }
+}
+
+/// Encodes code units from the front of a list on, paired or not, to the front of `out`, which must have room for four
+/// bytes. Returns how many units were encoded and how many bytes they took. It stops at the end of the list, or where
+/// fewer than 52 bytes are left, and never within a surrogate pair: so the bytes of the parts of a list, one after the
+/// other, are the bytes of the whole list. What `out` holds after them is not said. Linear in the units encoded.
+pub fn encode_front(units: &[u16], out: &mut [u8]) -> EncodedFront
+    requires { 4 ≤ length out.old }
+    ensures within { (result.units ≤ length units.now) × (result.bytes ≤ length out.new) }
+    ensures form { IsForm (take result.bytes out.new) (take result.units units.now) }
+    ensures whole { ¬ (DividesPair units.now result.units) }
+
+    // With the form of the units that are left, these bytes are the form of all.
+    ensures rest { (w : List ℕ) → IsForm w (drop result.units units.now) → IsForm (take result.bytes out.new ++ w) units.now }
+
+    // It encodes a unit, if there is one, and all if there is room.
+    ensures some { 0 < length units.now → 0 < result.units }
+    ensures stops { (result.units ≡ length units.now) ⊎ (length out.new < result.bytes + 52) }
+    ensures len { length out.new ≡ length out.old }
+{
+    let least = if out.len() < MIN_SPARE {
+        MOST_POINT_BYTES
+    } else {
+        MIN_SPARE
+    };
+    let mut bytes = 0;
+    let mut read = Progress {
+        at: 0,
+        is_utf8: true,
+    };
+    while read.at < units.len() && least <= out.len() - bytes {
+        (bytes, read) = write_next(units, read, out, bytes);
+    }
+    EncodedFront {
+        units: read.at,
+        bytes,
+    }
+}

@@ -1,0 +1,67 @@
+// Texts in Latin-1, each byte of which is the code point of its value.
+ghost use Rattle.std.specs.Prelude.{◌≡◌, ◌≤◌, length, take, IsOk, OnOk, OnErr};
+ghost use Rattle.wtf8.specs.Appending.{AppendsUnits, KeepsContents, HasRoomFor};
+
+use std::alloc::{AllocError, Global};
+use unit_text::IndexedBuf;
+
+/// The number of bytes that are made units at a time, on the stack.
+const CHUNK: usize = 128;
+
+/// Appends the code points of bytes. If memory is refused, the string is unchanged.
+pub(crate) fn push_bytes(buf: &mut IndexedBuf<Global>, bytes: &[u8]) -> Result<(), AllocError>
+    ensures ok { OnOk result (AppendsUnits buf.old bytes.now buf.new) }
+    ensures kept { OnErr result (KeepsContents buf.old buf.new) }
+    ensures room { HasRoomFor buf.old bytes.now → IsOk result }
+    ensures capacity { buf.old.capacity ≤ buf.new.capacity }
+{
+    let old_len = buf.unit_len();
+    // One request for all; if it is refused, so is a push that needs more than there is.
+    let _is_reserved = buf
+        .reserve(bytes.len().saturating_add(high_count(bytes)))
+        .is_ok();
+    let mut at = 0;
+    while at < bytes.len() {
+        let n = CHUNK.min(bytes.len() - at);
+        if let Err(refused) = push_chunk(buf, &bytes[at..at + n]) {
+            buf.truncate_units(old_len);
+            return Err(refused);
+        }
+        at += n;
+    }
+    Ok(())
+}
+
+/// The number of bytes from 80 on, each of which is a code point of two bytes.
+fn high_count(bytes: &[u8]) -> usize {
+    let mut high = 0;
+    for at in 0..bytes.len() {
+        if 0x80 <= bytes[at] {
+            high += 1;
+        }
+    }
+    high
+}
+
+/// Appends the code points of at most `CHUNK` bytes.
+fn push_chunk(buf: &mut IndexedBuf<Global>, bytes: &[u8]) -> Result<(), AllocError>
+    requires { length bytes.now ≤ CHUNK }
+    ensures ok { OnOk result (AppendsUnits buf.old bytes.now buf.new) }
+    ensures kept { OnErr result (KeepsContents buf.old buf.new) }
+    ensures room { HasRoomFor buf.old bytes.now → IsOk result }
+    ensures capacity { buf.old.capacity ≤ buf.new.capacity }
+{
+    let mut units = [0; CHUNK];
+    widen(bytes, &mut units);
+    buf.push_units(&units[..bytes.len()])
+}
+
+/// Writes bytes to the front of an array of units.
+fn widen(bytes: &[u8], units: &mut [u16; CHUNK])
+    requires { length bytes.now ≤ CHUNK }
+    ensures { take (length bytes.now) units.new ≡ bytes.now }
+{
+    for at in 0..bytes.len() {
+        units[at] = u16::from(bytes[at]);
+    }
+}

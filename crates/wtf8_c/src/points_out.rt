@@ -1,0 +1,92 @@
+// Calls that copy code points out.
+ghost use Rattle.std.specs.Prelude.{◌≡◌, ◌⊎◌, ◌≤◌, ◌↔◌, length, take, drop, min};
+ghost use Rattle.wtf8.specs.Form.{bytes};
+ghost use Rattle.wtf8.specs.Position.{IsBoundary};
+ghost use Rattle.wtf8.specs.View.{view_points, view_units};
+ghost use Rattle.wtf8_c.specs.Contents.{contents};
+ghost use Rattle.wtf8_c.specs.Walks.{ArePointsBetween};
+
+use crate::codes::{BAD_POSITION, END, OK};
+use crate::handle::Wtf8String;
+use crate::opening::view;
+use std::alloc::Global;
+use wtf8::Wtf8;
+
+/// Writes the code points after `position` to the front of `out` until it is full, and their number to `len`, and moves
+/// `position` past them.
+#[unsafe(no_mangle)]
+pub extern "C" fn wtf8_copy_code_points(
+    alloc: Global,
+    string: &mut Wtf8String,
+    position: &mut usize,
+    out: &mut [u32],
+    len: &mut usize,
+) -> i32
+    ensures code { (result ≡ OK) ⊎ ((result ≡ BAD_POSITION) ⊎ (result ≡ END)) }
+    ensures position { result ≡ BAD_POSITION ↔ ¬ (IsBoundary (contents string.old).units position.old) }
+    ensures end { result ≡ END ↔ position.old ≡ length (contents string.old).bytes }
+    ensures ok { result ≡ OK → ArePointsBetween (contents string.old).units position.old position.new (take len.new out.new) }
+    ensures within { result ≡ OK → len.new ≤ length out.old }
+    ensures all { result ≡ OK → (len.new ≡ length out.old) ⊎ (position.new ≡ length (contents string.old).bytes) }
+    ensures rest { result ≡ OK → drop len.new out.new ≡ drop len.new out.old }
+    ensures size { length out.new ≡ length out.old }
+    ensures out { ¬ (result ≡ OK) → out.new ≡ out.old }
+    ensures position_kept { ¬ (result ≡ OK) → position.new ≡ position.old }
+    ensures len_kept { ¬ (result ≡ OK) → len.new ≡ len.old }
+    ensures kept { contents string.new ≡ contents string.old }
+{
+    let held = string.take(alloc);
+    let code = copy_from(view(&held), position, out, len);
+    string.put_back(held);
+    code
+}
+
+/// The code points of `text` after `position`, as `wtf8_copy_code_points` writes them.
+fn copy_from(text: Wtf8<'_>, position: &mut usize, out: &mut [u32], len: &mut usize) -> i32
+    ensures code { (result ≡ OK) ⊎ ((result ≡ BAD_POSITION) ⊎ (result ≡ END)) }
+    ensures position { result ≡ BAD_POSITION ↔ ¬ (IsBoundary (view_units text.entry) position.old) }
+    ensures end { result ≡ END ↔ position.old ≡ length text.entry.bytes.now }
+    ensures ok { result ≡ OK → ArePointsBetween (view_units text.entry) position.old position.new (take len.new out.new) }
+    ensures within { result ≡ OK → len.new ≤ length out.old }
+    ensures all { result ≡ OK → (len.new ≡ length out.old) ⊎ (position.new ≡ length text.entry.bytes.now) }
+    ensures rest { result ≡ OK → drop len.new out.new ≡ drop len.new out.old }
+    ensures size { length out.new ≡ length out.old }
+    ensures out { ¬ (result ≡ OK) → out.new ≡ out.old }
+    ensures position_kept { ¬ (result ≡ OK) → position.new ≡ position.old }
+    ensures len_kept { ¬ (result ≡ OK) → len.new ≡ len.old }
+{
+    let begin = *position;
+    if !text.is_code_point_boundary(begin) {
+        return BAD_POSITION;
+    }
+    if begin == text.len() {
+        return END;
+    }
+    let (count, copied) = copy_points(text.slice_from(begin), out);
+    *len = count;
+    *position = begin + copied;
+    OK
+}
+
+/// Writes the code points of `text` to the front of `out` until it is full. Returns their number and that of their bytes.
+fn copy_points(text: Wtf8<'_>, out: &mut [u32]) -> (usize, usize)
+    ensures count { result.0 ≡ min (length out.old) (length (view_points text.entry)) }
+    ensures points { take result.0 out.new ≡ take result.0 (view_points text.entry) }
+    ensures rest { drop result.0 out.new ≡ drop result.0 out.old }
+    ensures size { length out.new ≡ length out.old }
+    ensures bytes { result.1 ≡ length (bytes (take result.0 (view_points text.entry))) }
+    ensures within { result.1 ≤ length text.entry.bytes.now }
+{
+    let mut left = text.code_points();
+    let mut count = 0;
+    let mut copied = 0;
+    while count < out.len() {
+        let Some(point) = left.next() else {
+            return (count, copied);
+        };
+        out[count] = point.to_u32();
+        count += 1;
+        copied += point.encoded_len();
+    }
+    (count, copied)
+}
