@@ -97,12 +97,15 @@ DECLARE(int32_t, compare_units, wtf8_string *, wtf8_string *)
 DECLARE(int32_t, compare_code_points, wtf8_string *, wtf8_string *)
 DECLARE(uint64_t, hash, wtf8_string *, uint64_t, uint64_t)
 DECLARE(uint64_t, hash_units, const uint16_t *, size_t, uint64_t, uint64_t)
+DECLARE(uint64_t, hash_utf8, const uint8_t *, size_t, uint64_t, uint64_t)
 DECLARE(wtf8_result, next_surrogate, wtf8_string *, size_t *, uint16_t *)
 DECLARE(wtf8_result, next_code_point, wtf8_string *, size_t *, uint32_t *)
 DECLARE(wtf8_result, previous_code_point, wtf8_string *, size_t *, uint32_t *)
 DECLARE(bool, equal_units, wtf8_string *, const uint16_t *, size_t)
 DECLARE(int32_t, compare_with_units, wtf8_string *, const uint16_t *, size_t)
+DECLARE(bool, equal_utf8, wtf8_string *, const uint8_t *, size_t)
 DECLARE(bool, starts_with, wtf8_string *, size_t, wtf8_string *)
+DECLARE(bool, starts_with_units, wtf8_string *, size_t, const uint16_t *, size_t)
 DECLARE(wtf8_result, truncate_bytes, wtf8_string *, size_t)
 DECLARE(wtf8_result, truncate_units, wtf8_string *, size_t)
 DECLARE(wtf8_result, pop, wtf8_string *, uint32_t *)
@@ -294,6 +297,10 @@ uint64_t wtf8_hash_units(const uint16_t *units, size_t n, uint64_t seed_0, uint6
     return PROVED(hash_units)(n ? units : nothing, n, seed_0, seed_1);
 }
 
+uint64_t wtf8_hash_utf8(const uint8_t *text, size_t n, uint64_t seed_0, uint64_t seed_1) {
+    return PROVED(hash_utf8)(n ? text : (const uint8_t *)nothing, n, seed_0, seed_1);
+}
+
 wtf8_result wtf8_next_surrogate(const wtf8_string *string, size_t *position, uint16_t *unit) {
     wtf8_string copy = *string;
     return PROVED(next_surrogate)(&copy, position, unit);
@@ -319,10 +326,20 @@ int32_t wtf8_compare_with_units(const wtf8_string *string, const uint16_t *units
     return PROVED(compare_with_units)(&copy, n ? units : nothing, n);
 }
 
+bool wtf8_equal_utf8(const wtf8_string *string, const uint8_t *text, size_t n) {
+    wtf8_string copy = *string;
+    return PROVED(equal_utf8)(&copy, n ? text : (const uint8_t *)nothing, n);
+}
+
 bool wtf8_starts_with(const wtf8_string *string, size_t index, const wtf8_string *other) {
     wtf8_string copy = *string, others = *other;
     if (string != other) return PROVED(starts_with)(&copy, index, &others);
     return index == 0 || PROVED(unit_len)(&copy) == 0;
+}
+
+bool wtf8_starts_with_units(const wtf8_string *string, size_t index, const uint16_t *units, size_t n) {
+    wtf8_string copy = *string;
+    return PROVED(starts_with_units)(&copy, index, n ? units : nothing, n);
 }
 
 wtf8_result wtf8_truncate_bytes(wtf8_string *string, size_t position) {

@@ -235,9 +235,16 @@ int32_t wtf8_compare_code_points(const wtf8_string *string, const wtf8_string *o
 bool wtf8_equal_units(const wtf8_string *string, const uint16_t *units, size_t n);
 int32_t wtf8_compare_with_units(const wtf8_string *string, const uint16_t *units, size_t n);
 
+/* Whether `n` bytes are UTF-8, and the text is that of the string, without a string of it. Constant if `n` is another length
+ * than the string's in bytes. */
+bool wtf8_equal_utf8(const wtf8_string *string, const uint8_t *text, size_t n);
+
 /* Whether the units of `string` from `index` on, found by the marks, begin with those of `other`. If that has none, they do
  * at each index, also after the end. Linear in the length of `other`. */
 bool wtf8_starts_with(const wtf8_string *string, size_t index, const wtf8_string *other);
+
+/* The same of `n` units, without a string of them. */
+bool wtf8_starts_with_units(const wtf8_string *string, size_t index, const uint16_t *units, size_t n);
 
 /* A hash for tables: SipHash-1-3 under the key 0 of the 16 bytes of the seed, the lowest byte of `seed_0` first, the bytes of
  * the string, and one byte FE. A seed that nobody knows, made at the start of the program, keeps a table from strings that
@@ -247,6 +254,9 @@ uint64_t wtf8_hash(const wtf8_string *string, uint64_t seed_0, uint64_t seed_1);
 
 /* The hash of the string with these `n` units, without a string of them, to look them up in a table of strings. */
 uint64_t wtf8_hash_units(const uint16_t *units, size_t n, uint64_t seed_0, uint64_t seed_1);
+
+/* The same of the string with a text of `n` bytes. Other bytes have a hash as well, but no string is equal to them. */
+uint64_t wtf8_hash_utf8(const uint8_t *text, size_t n, uint64_t seed_0, uint64_t seed_1);
 
 /* ---- Cutting ----
  *

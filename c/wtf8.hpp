@@ -260,7 +260,7 @@ public:
         return wtf8_starts_with(get(), index, other.get());
     }
     WTF8_NODISCARD bool starts_with(units_in units, size_t index = 0) const noexcept {
-        return has_units(index, units.data(), units.size());
+        return wtf8_starts_with_units(get(), index, raw(units.data()), units.size());
     }
     WTF8_NODISCARD bool ends_with(const string &other) const noexcept {
         return other.unit_len() <= unit_len() && starts_with(other, unit_len() - other.unit_len());
@@ -273,6 +273,10 @@ public:
     WTF8_NODISCARD bool equals(const string &other) const noexcept { return wtf8_equal(get(), other.get()); }
     WTF8_NODISCARD bool equals(units_in other) const noexcept {
         return wtf8_equal_units(get(), raw(other.data()), other.size());
+    }
+    /* A text in UTF-8. */
+    WTF8_NODISCARD bool equals_utf8(text_in text) const noexcept {
+        return wtf8_equal_utf8(get(), raw(text.data()), text.size());
     }
     WTF8_NODISCARD int compare(const string &other) const noexcept { return wtf8_compare_units(get(), other.get()); }
     WTF8_NODISCARD int compare(units_in to) const noexcept {
@@ -324,16 +328,6 @@ private:
         if (code != WTF8_END) check(code);
         return code != WTF8_END;
     }
-    /* Whether the units from the index on begin with these, which are compared by parts. */
-    bool has_units(size_t index, const char16_t *units, size_t n) const noexcept {
-        char16_t part[256];
-        for (size_t taken = 0, unused = 0; n != 0; index += taken, units += taken, n -= taken) {
-            taken = n < sizeof part / 2 ? n : sizeof part / 2;
-            if (wtf8_copy_slice(get(), index, index + taken, raw(part), taken, &unused) != WTF8_OK) return false;
-            if (std::char_traits<char16_t>::compare(part, units, taken) != 0) return false;
-        }
-        return true;
-    }
 
     wtf8_string string_;
 };
@@ -361,6 +355,10 @@ struct hasher {
     size_t operator()(const string &a) const noexcept { return wtf8_hash(a.get(), seed_0, seed_1); }
     size_t operator()(units_in a) const noexcept {
         return wtf8_hash_units(string::raw(a.data()), a.size(), seed_0, seed_1);
+    }
+    /* The hash of the string with this text. */
+    WTF8_NODISCARD size_t utf8(text_in a) const noexcept {
+        return wtf8_hash_utf8(string::raw(a.data()), a.size(), seed_0, seed_1);
     }
     uint64_t seed_0, seed_1;
 };

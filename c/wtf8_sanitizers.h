@@ -207,12 +207,18 @@ WTF8_TELLS(bool, equal_units, (const wtf8_string *string, const uint16_t *units,
            wtf8_asks(string); wtf8_reads(units, n * 2))
 WTF8_TELLS(int32_t, compare_with_units, (const wtf8_string *string, const uint16_t *units, size_t n), (string, units, n),
            wtf8_asks(string); wtf8_reads(units, n * 2))
+WTF8_TELLS(bool, equal_utf8, (const wtf8_string *string, const uint8_t *text, size_t n), (string, text, n),
+           wtf8_asks(string); wtf8_reads(text, n))
 WTF8_TELLS(bool, starts_with, (const wtf8_string *string, size_t index, const wtf8_string *other), (string, index, other),
            wtf8_asks(string); wtf8_asks(other))
+WTF8_TELLS(bool, starts_with_units, (const wtf8_string *string, size_t index, const uint16_t *units, size_t n),
+           (string, index, units, n), wtf8_asks(string); wtf8_reads(units, n * 2))
 WTF8_TELLS(uint64_t, hash, (const wtf8_string *string, uint64_t seed_0, uint64_t seed_1), (string, seed_0, seed_1),
            wtf8_asks(string))
 WTF8_TELLS(uint64_t, hash_units, (const uint16_t *units, size_t n, uint64_t seed_0, uint64_t seed_1),
            (units, n, seed_0, seed_1), wtf8_reads(units, n * 2))
+WTF8_TELLS(uint64_t, hash_utf8, (const uint8_t *text, size_t n, uint64_t seed_0, uint64_t seed_1),
+           (text, n, seed_0, seed_1), wtf8_reads(text, n))
 
 /* Cutting. */
 WTF8_TELLS_CODE(truncate_units, (wtf8_string *string, size_t n), (string, n), wtf8_changes(string))
@@ -285,9 +291,12 @@ WTF8_TELLS_AFTER(copy_lossy, (const wtf8_string *string, uint8_t *out, size_t si
 #define wtf8_compare_code_points wtf8_told_compare_code_points
 #define wtf8_equal_units wtf8_told_equal_units
 #define wtf8_compare_with_units wtf8_told_compare_with_units
+#define wtf8_equal_utf8 wtf8_told_equal_utf8
 #define wtf8_starts_with wtf8_told_starts_with
+#define wtf8_starts_with_units wtf8_told_starts_with_units
 #define wtf8_hash wtf8_told_hash
 #define wtf8_hash_units wtf8_told_hash_units
+#define wtf8_hash_utf8 wtf8_told_hash_utf8
 #define wtf8_truncate_units wtf8_told_truncate_units
 #define wtf8_truncate_bytes wtf8_told_truncate_bytes
 #define wtf8_pop wtf8_told_pop

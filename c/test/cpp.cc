@@ -355,6 +355,10 @@ static void test_maps() {
         must(wtf8::hasher(1, 2)(key) == wtf8::hasher(1, 2)(keys[i]), "the hash of units");
         must(std::hash<string>()(key) == wtf8::hasher()(key.clone()), "std::hash");
     }
+    string face(u"a\xD83D\xDCA9");
+    must(face.equals_utf8("a\xF0\x9F\x92\xA9") && !face.equals_utf8("a") && !string(u"\xD83D").equals_utf8("\xED\xA0\xBD"),
+         "a text");
+    must(wtf8::hasher(1, 2).utf8("a\xF0\x9F\x92\xA9") == wtf8::hasher(1, 2)(face), "the hash of a text");
     must(wtf8::hasher(1, 2)(string(mixed)) != wtf8::hasher(1, 3)(string(mixed)), "the second seed");
     must(wtf8::hasher(1, 2)(string(mixed)) != wtf8::hasher(2, 2)(string(mixed)), "the first seed");
     must(sorted.count(string(u"zz")) == 0 && hashed.count(string(u"zz")) == 0 && hashed.erase(string(u"ab")) == 1, "other keys");

@@ -181,15 +181,27 @@ static void asked_units(void) {
         for (size_t end = begin + 1; end <= 5; end++) {
             must(wtf8_set_units(&other, units + begin, end - begin) == WTF8_OK, "a part of a string");
             for (size_t i = 0; i < 7; i++)
-                must(wtf8_starts_with(&string, i, &other) == (i == begin), "the index of a part");
+                must(wtf8_starts_with(&string, i, &other) == (i == begin) &&
+                     wtf8_starts_with_units(&string, i, units + begin, end - begin) == (i == begin),
+                     "the index of a part");
             must(!wtf8_starts_with(&string, SIZE_MAX, &other) && !wtf8_starts_with(&none, 0, &other),
                  "no index of a part");
+            must(!wtf8_starts_with_units(&string, SIZE_MAX, units + begin, end - begin) &&
+                 !wtf8_starts_with_units(&none, 0, units + begin, end - begin), "no index of units");
         }
     }
-    for (size_t i = 0; i < 7; i++) must(wtf8_starts_with(&string, i, &none), "an empty string at an index");
+    for (size_t i = 0; i < 7; i++)
+        must(wtf8_starts_with(&string, i, &none) && wtf8_starts_with_units(&string, i, NULL, 0), "an empty string at an index");
     must(wtf8_starts_with(&string, SIZE_MAX, &none) && wtf8_starts_with(&none, SIZE_MAX, &none),
          "an empty string after the end");
+    must(wtf8_starts_with_units(&string, SIZE_MAX, NULL, 0) && wtf8_starts_with_units(&none, SIZE_MAX, NULL, 0),
+         "no units after the end");
     for (size_t i = 0; i < 7; i++) must(wtf8_starts_with(&string, i, &string) == (i == 0), "a string within itself");
+    /* The bytes of a string with a lone surrogate are not UTF-8. */
+    static const uint8_t surrogate[] = {0xED, 0xA0, 0xBD};
+    must(wtf8_set_units(&other, units + 1, 1) == WTF8_OK && !wtf8_equal_utf8(&other, surrogate, 3), "a surrogate is no text");
+    must(wtf8_hash_utf8(surrogate, 3, 5, 6) == wtf8_hash(&other, 5, 6), "the hash of bytes that are not UTF-8");
+    must(wtf8_equal_utf8(&none, NULL, 0) && !wtf8_equal_utf8(&none, surrogate, 1), "the empty text");
     must(requests == requested, "requests of questions");
     refuse_after = -1;
     wtf8_free(&string);
@@ -427,7 +439,15 @@ static void lengths(void) {
                      "a text that is set");
                 must(wtf8_push_utf8(&string, n ? bytes : NULL, len, NULL) == WTF8_OK, "a text that is pushed");
                 must_have(&string, twice, 2 * n, "the units of a text that was pushed");
+                must(wtf8_equal_utf8(&other, n ? bytes : NULL, len) &&
+                     wtf8_hash_utf8(n ? bytes : NULL, len, n, kind) == hash_of(&p, n, kind), "a text that is asked for");
+                must(len == 0 || !wtf8_equal_utf8(&other, bytes, len - 1), "a front of the text");
                 must_begin(bytes, len, text, len, "the text itself");
+                for (size_t i = 0; i < len; i++) {
+                    bytes[i] ^= 1;
+                    must(!wtf8_equal_utf8(&other, bytes, len), "a text with another byte");
+                    bytes[i] ^= 1;
+                }
             }
             must_begin(units, 2 * n, p.units, 2 * n, "the units themselves");
             size_t pair = kind < 2 ? 0 : n % 5;

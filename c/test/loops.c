@@ -1,10 +1,11 @@
-/* Makes a string of a text again ("in") or anew ("new"), copies its units out ("out"), empties it and appends an equal
- * one ("append") or its units ("push"), compares it with an equal one by bytes ("equal") or by units ("order"), or
- * with its units ("same", "with"), asks for its length ("length"), for the unit in the middle ("unit"), its position
- * ("at") or the index of that ("before"), or whether 12 units stand there ("starts"), copies 64 units from there
- * ("part") or appends them to an empty string ("slice"), or walks a step, from the start again after the end ("next"),
- * or back ("back"). "marked" before one of these marks the string. The input says which, for which text or pattern, of
- * how many units, at most 100,000, and how often. c/count, gate/instructions and compare/patterns count what it takes. */
+/* Makes a string of a text again ("in"), anew ("new") or of its bytes in UTF-8 ("text"), copies its units ("out") or its
+ * code points ("points") out, empties it and appends an equal one ("append") or its units ("push"), compares it with an
+ * equal one by bytes ("equal"), by units ("order") or as a front ("prefix"), or with its units ("same", "with"), hashes
+ * these ("hashed"), asks for its length ("length"), for the unit in the middle ("unit"), its position ("at") or the
+ * index of that ("before"), or whether 12 units stand there ("starts"), copies 64 units from there ("part") or appends
+ * them to an empty string ("slice"), or walks a step, from the start again after the end ("next"), or back ("back").
+ * "marked" before one of these marks the string. The input says which, for which text or pattern, of how many units, at
+ * most 100,000, and how often. c/count, gate/instructions and compare/patterns count what it takes. */
 #include "../wtf8.h"
 #include "patterns.h"
 
@@ -28,15 +29,18 @@ static void fill(const char *text, uint16_t *units, size_t n) {
     else for (size_t i = 0; i < n; i++) units[i] = unit_of(text, i);
 }
 
-enum call { IN, OUT, APPEND, EQUAL, ORDER, LENGTH, UNIT, PART, PUSH, SAME, WITH, AT, BEFORE, STARTS, SLICE, NEXT, BACK, NEW };
+enum call { IN, OUT, APPEND, EQUAL, ORDER, LENGTH, UNIT, PART, PUSH, SAME, WITH, AT, BEFORE, STARTS, SLICE, NEXT, BACK, PREFIX, HASHED, POINTS, TEXT, NEW };
 static const char *const names[] = {"in", "out", "append", "equal", "order", "length", "unit", "part", "push", "same", "with",
-                                    "at", "before", "starts", "slice", "next", "back", "new"};
+                                    "at", "before", "starts", "slice", "next", "back", "prefix", "hashed", "points", "text",
+                                    "new"};
 
 /* A loop of its own, so that nothing but the call is in it. */
 #define REPEAT(is_bad) for (size_t i = 0; i < rounds; i++) if (is_bad) bad++; break
 
 int main(void) {
     static uint16_t units[UNITS], out[UNITS];
+    static uint32_t points[UNITS];
+    static uint8_t bytes[3 * UNITS];
     char word[8], text[64];
     uint16_t unit = 0;
     uint32_t value = 0;
@@ -67,6 +71,12 @@ int main(void) {
         case UNIT: REPEAT(wtf8_unit_at(&string, count / 2, &unit) != WTF8_OK);
         case PART: REPEAT(wtf8_copy_slice(&string, count / 2, count / 2 + 64, out, 64, &len) != WTF8_OK);
         case PUSH: REPEAT((wtf8_clear(&string), wtf8_push_units(&string, units, count) != WTF8_OK));
+        case PREFIX: REPEAT(!wtf8_starts_with(&string, 0, &equal));
+        case HASHED: REPEAT(wtf8_hash_units(units, count, 1, 2) == 0);
+        case POINTS: REPEAT((at = 0, wtf8_copy_code_points(&string, &at, points, UNITS, &len) != WTF8_OK));
+        case TEXT:
+            bad += wtf8_copy_utf8(&string, bytes, sizeof bytes, &len) != WTF8_OK;
+            REPEAT(wtf8_set_utf8(&string, bytes, len, NULL) != WTF8_OK);
         case SAME: REPEAT(!wtf8_equal_units(&string, units, count));
         case WITH: REPEAT(wtf8_compare_with_units(&string, units, count) != 0);
         case AT: REPEAT(wtf8_position_at(&string, count / 2, &at) != WTF8_OK);

@@ -219,14 +219,20 @@ static inline uint64_t sip_hash(int rounds, int last_rounds, uint64_t key_0, uin
 }
 
 /* SipHash-1-3 under the key 0 of the seeds, least byte first, the WTF-8 and FE. */
+/* Writes the bytes of the string to `out`. The result is their number. */
+static inline size_t bytes_of(const struct pair *p, uint8_t *out) {
+    size_t len = 0, taken = 0;
+    for (size_t i = 0; i < p->n; i += taken) len += encode(point_at(p, i, &taken), out + len);
+    return len;
+}
+
 static inline uint64_t hash_of(const struct pair *p, uint64_t seed_0, uint64_t seed_1) {
     uint8_t bytes[16 + 12 * MOST + 1];
-    size_t len = 16, taken = 0;
     for (size_t i = 0; i < 8; i++) {
         bytes[i] = (uint8_t)(seed_0 >> (8 * i));
         bytes[8 + i] = (uint8_t)(seed_1 >> (8 * i));
     }
-    for (size_t i = 0; i < p->n; i += taken) len += encode(point_at(p, i, &taken), bytes + len);
+    size_t len = 16 + bytes_of(p, bytes + 16);
     bytes[len++] = 0xFE;
     return sip_hash(1, 3, 0, 0, bytes, len);
 }

@@ -6,7 +6,7 @@
 
 #include <string.h>
 
-enum { QUESTIONS = 27, SEED_0 = 77, SEED_1 = 88 };
+enum { QUESTIONS = 30, SEED_0 = 77, SEED_1 = 88 };
 
 /* What the calls must answer of one string, and of it and another. */
 struct answers {
@@ -100,6 +100,9 @@ static inline int is_right(unsigned kind, size_t number, const struct pair *p, c
             if (code != WTF8_OK) return code == next_point(p, &must_be_at, &must_be) && at == position && len == 0;
             return at == must_be_at && (len == number / 3 % MOST || at == a->byte_len);
         }
+        case 26: return wtf8_equal_utf8(s, a->lossy, a->byte_len) == a->is_utf8;
+        case 27: return !a->is_utf8 || wtf8_hash_utf8(a->lossy, a->byte_len, SEED_0, SEED_1) == a->hash;
+        case 28: return wtf8_starts_with_units(s, index, q->units, q->n) == has_at(p, index, q);
         default:
             wtf8_clear(own);
             return wtf8_push_string(own, s) == WTF8_OK && has_units(own, p->units, p->n);

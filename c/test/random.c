@@ -11,7 +11,8 @@ enum call {
     PUSH_PART, PUSH_STRING, PUSH_SLICE, MARK, FILL, SHRINK, TRUNCATE_UNITS, TRUNCATE_BYTES, POP, SLICE, ALIKE,
     /* Calls that only read. */
     UNIT_LEN, CAPACITY, POSITION_AT, UNIT_BEFORE, UNIT_AT, IS_BOUNDARY, NEXT, PREVIOUS, NEXT_SURROGATE, IS_UTF8, EQUAL,
-    ORDER_UNITS, ORDER_POINTS, HASH, HASH_UNITS, EQUAL_UNITS, ORDER_WITH_UNITS, STARTS_WITH, COPY_UNITS, COPY_POINTS, COPY_SLICE,
+    ORDER_UNITS, ORDER_POINTS, HASH, HASH_UNITS, EQUAL_UNITS, ORDER_WITH_UNITS, EQUAL_UTF8, HASH_UTF8, STARTS_WITH,
+    STARTS_WITH_UNITS, COPY_UNITS, COPY_POINTS, COPY_SLICE,
     COPY_UTF8, COPY_LOSSY, CALLS
 };
 
@@ -473,7 +474,23 @@ static void step(enum call call, struct pair *p, struct pair *q) {
             must_begin(array, 2 * asked.n, asked.units, 2 * asked.n, "units that were asked");
             break;
         }
+        case EQUAL_UTF8:
+        case HASH_UTF8: {
+            /* The bytes of a string with surrogates are not UTF-8. */
+            alike(&asked, below(4) ? p : q);
+            len = bytes_of(&asked, text);
+            bytes = array_of(text, len);
+            const uint8_t *given = len || below(2) ? bytes : NULL;
+            uint64_t seed_0 = a_seed(), seed_1 = a_seed();
+            int is_equal = is_utf8(&asked) && compare_units(p, &asked) == 0;
+            refuse_after = 0;
+            if (call == EQUAL_UTF8) must(wtf8_equal_utf8(&p->string, given, len) == is_equal, "equal_utf8");
+            else must(wtf8_hash_utf8(given, len, seed_0, seed_1) == hash_of(&asked, seed_0, seed_1), "hash_utf8");
+            must_begin(bytes, len, text, len, "a text that is asked");
+            break;
+        }
         case STARTS_WITH:
+        case STARTS_WITH_UNITS:
             at = an_index(p->n);
             /* A part of the string now and then, also one that differs, up to its end or longer. */
             if (p != q && below(4)) {
@@ -487,7 +504,13 @@ static void step(enum call call, struct pair *p, struct pair *q) {
             }
             refuse_after = 0;
             requested = requests;
-            must(wtf8_starts_with(&p->string, at, &q->string) == has_at(p, at, q), "starts_with");
+            if (call == STARTS_WITH) must(wtf8_starts_with(&p->string, at, &q->string) == has_at(p, at, q), "starts_with");
+            else {
+                array = array_of(q->units, 2 * q->n);
+                const uint16_t *given = q->n || below(2) ? array : NULL;
+                must(wtf8_starts_with_units(&p->string, at, given, q->n) == has_at(p, at, q), "starts_with_units");
+                must_begin(array, 2 * q->n, q->units, 2 * q->n, "units that it may start with");
+            }
             break;
         case COPY_UNITS:
             n = a_size(p->n);
@@ -566,7 +589,7 @@ static void step(enum call call, struct pair *p, struct pair *q) {
     must(code != WTF8_NO_MEMORY || refused < refusals || more > PTRDIFF_MAX, "NO_MEMORY, but no request was refused");
     if (UNIT_LEN <= call || (call == SLICE && p != q))
         must(memcmp(string, &p->string, sizeof string) == 0, "the struct of a string that is read");
-    if (p != q && call != FILL && call != SLICE && call != ALIKE && call != STARTS_WITH)
+    if (p != q && call != FILL && call != SLICE && call != ALIKE && call != STARTS_WITH && call != STARTS_WITH_UNITS)
         must(memcmp(other, &q->string, sizeof other) == 0, "the struct of another string");
     if (UNIT_LEN <= call || (CLEAR <= call && call <= FREE) || (TRUNCATE_UNITS <= call && call <= POP)) {
         must(requests == requested, "a call that cannot be refused requests memory");

@@ -255,7 +255,21 @@ impl<A: Allocator> IndexedBuf<A> {
         if self.count - begin < other.count {
             return false;
         }
+        if begin == 0 && slices::has_front(self.as_wtf8(), other.as_wtf8()) {
+            return true;
+        }
         slices::has_units(self.part(begin, other.count), other.as_wtf8())
+    }
+
+    /// Whether the code units from index `begin` on begin with these. No units are found everywhere, also past the end. Does
+    /// not allocate.
+    pub fn starts_with_units_at(&self, begin: usize, units: &[u16]) -> bool
+        ensures { IsTrue result ↔ (take (length units.now) (drop begin self.now.units) ≡ units.now) }
+    {
+        if self.count <= begin {
+            return units.is_empty();
+        }
+        slices::begins_with(self.slice_units(begin, self.count), units)
     }
 
     /// The byte position of the code point boundary before the code unit at index `i`, or of the end if `i` is the

@@ -56,7 +56,7 @@ fn is_copied<A: Allocator>(
     is_made && is_copied_to(buf, units, begin, end, &mut out)
 }
 
-/// Whether `slice_units` has the units from index `begin` to before index `end`.
+/// Whether `slice_units` and `starts_with_units_at` find the units from index `begin` to before index `end`.
 fn has_slice<A: Allocator>(buf: &IndexedBuf<A>, units: &[u16], begin: usize, end: usize) -> bool {
     if begin > end || end > buf.unit_len() || end > units.len() {
         return false;
@@ -65,6 +65,7 @@ fn has_slice<A: Allocator>(buf: &IndexedBuf<A>, units: &[u16], begin: usize, end
     let rest = slice.whole.to_ill_formed_utf16().chain(slice.lead);
     let found = slice.trail.into_iter().chain(rest);
     found.cmp(units[begin..end].iter().copied()).is_eq()
+        && buf.starts_with_units_at(begin, &units[begin..end])
 }
 
 /// Whether `units_from` has the units from index `begin` on.
@@ -411,6 +412,7 @@ fn is_order(alloc: Global, units: &[u16], others: &[u16], order: Ordering) -> bo
         && are_ordered(&buf, &other, order)
         && buf.eq_units(others) == (order == Ordering::Equal)
         && buf.starts_with_at(0, &other) == units.starts_with(others)
+        && buf.starts_with_units_at(0, others) == units.starts_with(others)
 }
 
 /// Whether the buffer of the units, which have this number in the list, compares with all others as the number does.
@@ -459,6 +461,9 @@ fn is_mapped<A: Allocator>(buf: &IndexedBuf<A>) -> bool {
         position = position.wrapping_add(1);
     }
     buf.unit_before(usize::MAX) == 5
+        && buf.starts_with_units_at(usize::MAX, &[])
+        && !buf.starts_with_units_at(5, &[0xD800])
+        && !buf.starts_with_units_at(2, &[0xDCA9, 0xD800])
 }
 
 /// Whether the buffer has the positions, without marks and with them.

@@ -1,7 +1,9 @@
-// Hashes of strings, and of units without a string.
+// Hashes of strings, and of units and texts without a string.
 ghost use Rattle.std.specs.Hash.DefaultHasher as sip;
 ghost use Rattle.std.specs.Prelude.{◌≡◌, ◌^◌, ◌<◌, ◌≤◌, ℕ, List};
+ghost use Rattle.std.specs.Str.{chars, IsUtf8};
 ghost use Rattle.wtf8.specs.Form.{IsForm};
+ghost use Rattle.wtf8.specs.Unicode.{units};
 ghost use Rattle.wtf8_c.specs.Contents.{contents};
 ghost use Rattle.wtf8_c.specs.Hashing.{hash_of, seeded_with};
 
@@ -19,6 +21,9 @@ const SHORT_SCRATCH: usize = 128;
 
 /// Units that fit the short scratch buffer, whatever they are.
 const FEW_UNITS: usize = 24;
+
+/// The byte that the hash of a view ends with.
+const END: u8 = 0xFE;
 
 /// The hash of the string under a seed of 128 bits, for tables.
 #[unsafe(no_mangle)]
@@ -40,8 +45,19 @@ pub extern "C" fn wtf8_hash_units(units: &[u16], seed_0: u64, seed_1: u64) -> u6
 {
     let mut hasher = seeded(seed_0, seed_1);
     write_form(units, &mut hasher);
-    // The byte that the hash of a view ends with.
-    hasher.write_u8(0xFE);
+    hasher.write_u8(END);
+    hasher.finish()
+}
+
+/// The hash of the string with this text. Bytes that are not UTF-8 are no string's, and have a hash as well.
+#[unsafe(no_mangle)]
+pub extern "C" fn wtf8_hash_utf8(text: &[u8], seed_0: u64, seed_1: u64) -> u64
+    ensures bytes { result ≡ hash_of seed_0 seed_1 text.now }
+    ensures form { IsUtf8 text.now → IsForm text.now (units (chars text.now)) }
+{
+    let mut hasher = seeded(seed_0, seed_1);
+    hasher.write(text);
+    hasher.write_u8(END);
     hasher.finish()
 }
 

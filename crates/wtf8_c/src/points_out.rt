@@ -79,14 +79,12 @@ fn copy_points(text: Wtf8<'_>, out: &mut [u32]) -> (usize, usize)
 {
     let mut left = text.code_points();
     let mut count = 0;
-    let mut copied = 0;
     while count < out.len() {
         let Some(point) = left.next() else {
-            return (count, copied);
+            return (count, text.len());
         };
         out[count] = point.to_u32();
         count += 1;
-        copied += point.encoded_len();
     }
-    (count, copied)
+    (count, text.len() - left.as_wtf8().len())
 }

@@ -20,7 +20,7 @@ struct Row {
 
 /// A growing string requests the greatest of eight bytes, twice its capacity and what is needed. A string made of units
 /// requests just its bytes, or, if there are 32 units or more and the first is ASCII, one for each unit first.
-static ROWS: [Row; 18] = [
+static ROWS: [Row; 22] = [
     Row {
         call: Call::WithCapacity,
         units: &[0x0061],
@@ -38,6 +38,30 @@ static ROWS: [Row; 18] = [
         units: &[0x0061],
         requests: 1,
         bytes: 1,
+    },
+    Row {
+        call: Call::FromUtf8,
+        units: &[0x4E2D],
+        requests: 1,
+        bytes: 3,
+    },
+    Row {
+        call: Call::FromUtf8,
+        units: &[0x0061; 100],
+        requests: 1,
+        bytes: 100,
+    },
+    Row {
+        call: Call::PushUtf8,
+        units: &[0x4E2D],
+        requests: 1,
+        bytes: 8,
+    },
+    Row {
+        call: Call::PushUtf8,
+        units: &[0x00E9; 100],
+        requests: 1,
+        bytes: 200,
     },
     Row {
         call: Call::FromUnits,

@@ -47,12 +47,14 @@ pub fn sample_with<A: Allocator + Drop>(
 pub enum Call {
     WithCapacity,
     FromStr,
+    FromUtf8,
     FromUnits,
     FromIter,
     Clone,
     Reserve,
     PushEach,
     PushStr,
+    PushUtf8,
     PushWtf8,
     JoinWtf8,
     Extend,
@@ -102,6 +104,7 @@ fn appends<A: Allocator>(text: &mut Wtf8Buf<A>, call: Call, sample: &Sample<A>) 
     let points = sample.points.as_slice();
     match call {
         Call::PushEach => push_each(text, points).is_ok(),
+        Call::PushUtf8 => text.push_utf8(view.as_str().unwrap_or("").as_bytes()).is_ok(),
         Call::JoinWtf8 => joins(text, view),
         Call::ApplyAll => applies(text, view, points),
         _ => changes(text, change_of(call, view, sample.units.len(), points)).is_some(),
@@ -115,7 +118,7 @@ fn append_twice<A: Allocator>(units: &mut Vec<u16, A>, view: Wtf8<'_>) -> Result
 }
 
 /// Whether a string was made.
-fn is_made<A: Allocator + Drop>(made: Result<Wtf8Buf<A>, AllocError>) -> bool {
+fn is_made<A: Allocator + Drop, E: Drop>(made: Result<Wtf8Buf<A>, E>) -> bool {
     made.is_ok()
 }
 
@@ -126,6 +129,10 @@ fn makes<A: Allocator + Drop>(heap: A, call: Call, sample: &Sample<A>) -> bool {
         Call::FromStr => {
             let text = sample.text.as_wtf8().as_str();
             is_made(Wtf8Buf::from_str(heap, text.unwrap_or("")))
+        }
+        Call::FromUtf8 => {
+            let text = sample.text.as_wtf8().as_str();
+            is_made(Wtf8Buf::from_utf8(heap, text.unwrap_or("").as_bytes()))
         }
         Call::FromUnits => is_made(Wtf8Buf::from_ill_formed_utf16(heap, &sample.units)),
         _ => is_made(Wtf8Buf::from_iter(heap, sample.points.iter().copied())),
@@ -147,9 +154,11 @@ fn writes<A: Allocator + Drop>(heap: A, call: Call, view: Wtf8<'_>) -> bool {
 pub fn succeeds<A: Allocator + Clone + Drop>(heap: A, call: Call, sample: &Sample<A>) -> bool {
     match call {
         Call::Clone => is_made(sample.text.clone()),
-        Call::WithCapacity | Call::FromStr | Call::FromUnits | Call::FromIter => {
-            makes(heap, call, sample)
-        }
+        Call::WithCapacity
+        | Call::FromStr
+        | Call::FromUtf8
+        | Call::FromUnits
+        | Call::FromIter => makes(heap, call, sample),
         Call::ToStringLossy
         | Call::HexDump
         | Call::AppendHexDump

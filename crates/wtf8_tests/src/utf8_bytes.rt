@@ -80,10 +80,10 @@ fn is_made_and_pushed(alloc: Global) -> bool {
 fn bytes_of_utf8_are_taken_and_others_told(rt: HostRuntime) -> Result<(), Failed> {
     let alloc = rt.alloc();
     expect(is_made_and_pushed(alloc), Wrong::Bytes)?;
-    let mut index = 0;
+    let mut index = 0usize;
     for row in &NO_TEXTS {
         in_row(index, expect_told(alloc, row))?;
-        index += 1;
+        index = index.wrapping_add(1);
     }
     Ok(())
 }

@@ -44,18 +44,12 @@ loop-count-preserved c =
       written = copied_on c.loop-count.out all c.next.new.self k x _ c.loop-count-test.true inv.written c.to_u32.ensures.value next;
       rest = rest_kept c.loop-count.out c.args.out.now k _ inv.rest;
       size = length-set c.loop-count.out k _ ∙ inv.size;
-      copied = omega (
-        arith,
-        inv.copied,
-        c.encoded_len-copied.ensures.value,
-        ap (λ v. length (bytes v)) next.taken,
-        ap length (bytes-pushed (take k all) x),
-        length-append (bytes (take k all)) (encoding x),
-      );
       bytes = omega (
         arith,
         inv.bytes,
-        c.encoded_len-copied.ensures.value,
+        ap (λ v. length (bytes v)) next.taken,
+        ap length (bytes-pushed (take k all) x),
+        length-append (bytes (take k all)) (encoding x),
         ap (λ v. length (bytes v)) c.in-Some.ensures.steps,
         length-append (encoding x) (bytes c.next.new.self),
       );

@@ -3,7 +3,7 @@ use Rattle.wtf8.specs.Form.{bytes}
 use Rattle.wtf8.specs.View.{view_points}
 use Rattle.wtf8_c.proofs.points_out.copy_points.Given as goal
 
--- the first `count` code points are written, in `copied` bytes, nothing else is changed, and the others are left
+-- the first `count` code points are written, nothing else is changed, and the others are left, with their bytes
 abbrev pub invariant-loop-count : goal.invariant-loop-count
 invariant-loop-count l = record {
   within : l.count ≤ length l.fn.out;
@@ -12,8 +12,7 @@ invariant-loop-count l = record {
   written : take l.count l.out ≡ take l.count (view_points l.fn.text);
   rest : drop l.count l.out ≡ drop l.count l.fn.out;
   size : length l.out ≡ length l.fn.out;
-  copied : l.copied ≡ length (bytes (take l.count (view_points l.fn.text)));
-  bytes : l.copied + length (bytes l.left) ≡ length l.fn.text.bytes.now;
+  bytes : length (bytes (take l.count (view_points l.fn.text))) + length (bytes l.left) ≡ length l.fn.text.bytes.now;
 }
 
 abbrev pub decreases-loop-count : goal.decreases-loop-count
