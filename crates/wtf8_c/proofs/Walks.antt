@@ -65,13 +65,13 @@ none_within {u} {begin} {next} {end} {p} q b l = elim (cases_lt end next) [
 ]
 
 -- the code point before a boundary
-pub record IsPointBefore (u : List ℕ) (end p : ℕ) : Type 0 where
-  pub between : IsPointBetween u (end - length (encoding p)) end p
-  pub within : length (encoding p) ≤ end
+pub record IsPointBefore (u : List ℕ) (begin end p : ℕ) : Type 0 where
+  pub between : IsPointBetween u begin end p
+  pub len : begin + length (encoding p) ≡ end
 
 -- the code point after the last boundary before another one ends there
 pub ends_at : {u : List ℕ} {begin end p : ℕ} → IsPointBetween u begin (begin + length (encoding p)) p → IsBoundary u end → begin < end
-    → ((k : ℕ) → IsBoundary u k → k ≤ end - 1 → k ≤ begin) → IsPointBefore u end p
+    → ((k : ℕ) → IsBoundary u k → k ≤ end - 1 → k ≤ begin) → IsPointBefore u begin end p
 ends_at {u} {begin} {end} {p} q b l last =
     let next = begin + length (encoding p) in
     let is_boundary : IsBoundary u next = record { front = q.front ++ p ∷ []; back = q.back; splits = q.ends } in
@@ -79,11 +79,7 @@ ends_at {u} {begin} {end} {p} q b l last =
       | inl m ↦ absurd (omega (arith, m, last next is_boundary (omega (arith, m)), length-encoding_bounds p))
       | inr m ↦ omega (arith, m, none_within q b l)
     ] in
-    let begins : begin ≡ end - length (encoding p) = omega (arith, same) in
-    record {
-      between = subst (λ k. IsPointBetween u k end p) begins (subst (λ k. IsPointBetween u begin k p) same q);
-      within = omega (arith, same);
-    }
+    record { between = subst (λ k. IsPointBetween u begin k p) same q; len = same }
 
 -- the code point before the end is the last one
 last_of : {w u : List ℕ} {begin p : ℕ} (f : IsForm w u) (q : IsPointBetween u begin (length w) p) → f.points ≡ q.front ++ p ∷ []

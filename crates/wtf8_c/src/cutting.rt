@@ -100,9 +100,9 @@ fn pop_of(buf: &mut IndexedBuf<Global>, code_point: &mut u32) -> i32
     let text = buf.as_wtf8();
     let len = text.len();
     match code_point_before(text, len) {
-        Some(last) => {
+        Some((last, position)) => {
             let before = UnitMark {
-                position: len - last.encoded_len(),
+                position,
                 units: buf.unit_len() - last.len_utf16(),
             };
             buf.truncate_at(before);

@@ -140,8 +140,8 @@ fn previous_of(text: Wtf8<'_>, position: &mut usize, code_point: &mut u32) -> i3
         return BAD_POSITION;
     }
     match code_point_before(text, end) {
-        Some(found) => {
-            *position = end - found.encoded_len();
+        Some((found, before)) => {
+            *position = before;
             *code_point = found.to_u32();
             OK
         }
@@ -159,16 +159,19 @@ fn code_point_at(text: Wtf8<'_>, position: usize) -> Option<CodePoint>
     text.slice_from(position).code_points().next()
 }
 
-/// The code point of `text` before the boundary `position`, or `None` at the start.
-pub(crate) fn code_point_before(text: Wtf8<'_>, position: usize) -> Option<CodePoint>
+/// The code point of `text` before the boundary `position`, and the boundary before it, or `None` at the start.
+pub(crate) fn code_point_before(text: Wtf8<'_>, position: usize) -> Option<(CodePoint, usize)>
     requires { IsBoundary (view_units text) position }
-    ensures some { IfSome result (λ p. IsPointBetween (view_units text.entry) (position - length (encoding (number p))) position (number p)) }
-    ensures within { IfSome result (λ p. length (encoding (number p)) ≤ position) }
+    ensures some { IfSome result (λ p. IsPointBetween (view_units text.entry) p.1 position (number p.0)) }
+    ensures len { IfSome result (λ p. p.1 + length (encoding (number p.0)) ≡ position) }
     ensures none { IsNone result ↔ position ≡ 0 }
 {
     if position == 0 {
         return None;
     }
     let begin = text.boundary_before(position - 1);
-    code_point_at(text, begin)
+    match code_point_at(text, begin) {
+        Some(point) => Some((point, begin)),
+        None => None,
+    }
 }
