@@ -104,7 +104,9 @@ fn appends<A: Allocator>(text: &mut Wtf8Buf<A>, call: Call, sample: &Sample<A>) 
     let points = sample.points.as_slice();
     match call {
         Call::PushEach => push_each(text, points).is_ok(),
-        Call::PushUtf8 => text.push_utf8(view.as_str().unwrap_or("").as_bytes()).is_ok(),
+        Call::PushUtf8 => text
+            .push_utf8(view.as_str().unwrap_or("").as_bytes())
+            .is_ok(),
         Call::JoinWtf8 => joins(text, view),
         Call::ApplyAll => applies(text, view, points),
         _ => changes(text, change_of(call, view, sample.units.len(), points)).is_some(),
@@ -154,11 +156,8 @@ fn writes<A: Allocator + Drop>(heap: A, call: Call, view: Wtf8<'_>) -> bool {
 pub fn succeeds<A: Allocator + Clone + Drop>(heap: A, call: Call, sample: &Sample<A>) -> bool {
     match call {
         Call::Clone => is_made(sample.text.clone()),
-        Call::WithCapacity
-        | Call::FromStr
-        | Call::FromUtf8
-        | Call::FromUnits
-        | Call::FromIter => makes(heap, call, sample),
+        Call::WithCapacity | Call::FromStr | Call::FromUtf8 | Call::FromUnits | Call::FromIter =>
+            makes(heap, call, sample),
         Call::ToStringLossy
         | Call::HexDump
         | Call::AppendHexDump
