@@ -586,7 +586,7 @@ static void surrogates(void) {
  * end or after it. */
 static void copied_points(void) {
     enum { POINTS = sizeof points / sizeof points[0], LONG = 400 };
-    static const size_t sizes[] = {0, 1, 2, 7, 8, 9, 63, 127, 128, 129, 255, 399, 400};
+    static const size_t sizes[] = {0, 1, 2, 7, 8, 9, 63, 127, 128, 129, 255, 256, 257, 399, 400};
     static const uint32_t kinds[] = {'a', 0xE9, 0x4E2D, 0x1F4A9, 0xD800};
     for (size_t kind = 0; kind <= sizeof kinds / sizeof kinds[0]; kind++) {
         wtf8_string string = WTF8_EMPTY;

@@ -41,7 +41,8 @@ fn are_parts(units: &[u16], bytes: &[u8], out: &mut [u8]) -> bool {
         if left.len() < front.bytes || out[..front.bytes] != left[..front.bytes] {
             return false;
         }
-        rest = &rest[front.units..];
+        let (_, after) = rest.split_at(front.units);
+        rest = after;
         left = &left[front.bytes..];
     }
     rest.is_empty() && left.is_empty()
