@@ -477,16 +477,17 @@ static void step(enum call call, struct pair *p, struct pair *q) {
         case EQUAL_UTF8:
         case HASH_UTF8: {
             /* The bytes of a string with surrogates are not UTF-8. */
+            static uint8_t own[12 * MOST];
             alike(&asked, below(4) ? p : q);
-            len = bytes_of(&asked, text);
-            bytes = array_of(text, len);
+            len = bytes_of(&asked, own);
+            bytes = array_of(own, len);
             const uint8_t *given = len || below(2) ? bytes : NULL;
             uint64_t seed_0 = a_seed(), seed_1 = a_seed();
             int is_equal = is_utf8(&asked) && compare_units(p, &asked) == 0;
             refuse_after = 0;
             if (call == EQUAL_UTF8) must(wtf8_equal_utf8(&p->string, given, len) == is_equal, "equal_utf8");
             else must(wtf8_hash_utf8(given, len, seed_0, seed_1) == hash_of(&asked, seed_0, seed_1), "hash_utf8");
-            must_begin(bytes, len, text, len, "a text that is asked");
+            must_begin(bytes, len, own, len, "a text that is asked");
             break;
         }
         case STARTS_WITH:
