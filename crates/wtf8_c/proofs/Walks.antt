@@ -10,7 +10,7 @@ use Rattle.wtf8.specs.Unicode.{units, units_of}
 use Rattle.wtf8.specs.View.{view_points, view_units}
 use Rattle.wtf8.specs.declared.strings.view.Wtf8.{Wtf8}
 use Rattle.wtf8.proofs.lemmas.codec.Encoding.{length-encoding_bounds, bytes-append, bytes-pushed}
-use Rattle.wtf8.proofs.lemmas.codec.Readings.{clean-front, nil_from_bytes, reads_same, units-pushed}
+use Rattle.wtf8.proofs.lemmas.codec.Readings.{clean-front, lists_have_lengths, nil_from_bytes, reads_same, units-pushed}
 use Rattle.wtf8.proofs.lemmas.strings.Positions.{shorter_is_prefix, back_reads}
 use Rattle.wtf8.proofs.lemmas.units.UnitMarks.{boundary_is_mark}
 use Rattle.wtf8_c.specs.Walks.{IsPointBetween, ArePointsBetween}
@@ -154,3 +154,8 @@ first_points_after {u} b n =
 -- the code points of a view after a boundary
 pub back_points : {u : List ℕ} {k : ℕ} (view : Wtf8) (b : IsBack u k (view_units view)) → b.back ≡ view_points view
 back_points view b = reads_same (back_reads b) (record { clean = view.well_formed.clean; same_units = refl })
+
+-- a view has no more code points than bytes
+pub few_points : (v : Wtf8) → length (view_points v) ≤ length v.bytes.now
+few_points v =
+    let lengths = lists_have_lengths (view_points v) in omega (arith, lengths.points, lengths.units_least, ap length v.well_formed.encoded)

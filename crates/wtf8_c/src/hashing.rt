@@ -49,7 +49,7 @@ pub extern "C" fn wtf8_hash_units(units: &[u16], seed_0: u64, seed_1: u64) -> u6
     hasher.finish()
 }
 
-/// The hash of the string with this text. Bytes that are not UTF-8 are no string's, and have a hash as well.
+/// The hash of the string with this text. The bytes are not tested: others than UTF-8 have a hash too.
 #[unsafe(no_mangle)]
 pub extern "C" fn wtf8_hash_utf8(text: &[u8], seed_0: u64, seed_1: u64) -> u64
     ensures bytes { result ≡ hash_of seed_0 seed_1 text.now }

@@ -94,7 +94,7 @@ fn copy_points(text: Wtf8<'_>, out: &mut [u32]) -> (usize, usize)
 }
 
 /// Writes the code points of at most `PART` bytes to the front of `out`, which has an element for each byte, and returns
-/// their number. Where no unit is a surrogate, the code points are the units, which are decoded in blocks.
+/// their number. If no unit is a surrogate, the code points are the units, which are decoded in blocks.
 fn copy_part(part: Wtf8<'_>, out: &mut [u32]) -> usize
     requires short { length part.bytes.now ≤ PART }
     requires room { length part.bytes.now ≤ length out.old }

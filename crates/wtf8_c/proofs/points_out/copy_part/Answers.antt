@@ -8,6 +8,7 @@ use Rattle.wtf8.specs.Unicode.{units}
 use Rattle.wtf8.specs.View.{view_points, view_units}
 use Rattle.wtf8.specs.declared.strings.view.Wtf8.{Wtf8}
 use Rattle.wtf8.proofs.lemmas.codec.Readings.{clean-first, clean-rest, lists_have_lengths, units-cons_one, units-cons_two}
+use Rattle.wtf8_c.proofs.Walks.{few_points}
 use Rattle.wtf8_c.proofs.points_out.copy_part.Goals as goal
 
 -- code points none of whose units is a surrogate are their units
@@ -20,11 +21,7 @@ points_are_units (p ∷ c) h s = elim (cases_lt p 0x10000) [
   | inr m ↦ absurd ((subst AreScalar (units-cons_two p c m) s).0 (omega (arith, m, clean-first p c h), omega (arith, m, clean-first p c h)))
 ]
 
--- a view has no more code points than units, and no more units than bytes
-few_points : (v : Wtf8) → length (view_points v) ≤ length v.bytes.now
-few_points v =
-    let lengths = lists_have_lengths (view_points v) in omega (arith, lengths.points, lengths.units_least, ap length v.well_formed.encoded)
-
+-- a view has no more units than bytes
 few_units : (v : Wtf8) → length (view_units v) ≤ length v.bytes.now
 few_units v = omega (arith, (lists_have_lengths (view_points v)).units_least, ap length v.well_formed.encoded)
 

@@ -8,11 +8,11 @@ use Rattle.wtf8.specs.OneForm.{bytes-injective}
 use Rattle.wtf8.specs.View.{view_points}
 use Rattle.wtf8.specs.declared.strings.view.Wtf8.{Wtf8}
 use Rattle.wtf8.proofs.lemmas.codec.Encoding.{bytes-append}
-use Rattle.wtf8.proofs.lemmas.codec.Readings.{lists_have_lengths}
 use Rattle.wtf8.proofs.lemmas.comparing.Parts.{first_boundary}
+use Rattle.wtf8_c.proofs.Walks.{few_points}
 use Rattle.wtf8_c.proofs.points_out.copy_points.Goals as goal
 
--- the code points of the parts before and after a boundary are those of the view
+-- a view has the code points of its part before a boundary, then the code points of its part after it
 parts_points : (v front back : Wtf8) (k : ℕ) → front.bytes.now ≡ take k v.bytes.now → back.bytes.now ≡ drop k v.bytes.now
     → view_points v ≡ view_points front ++ view_points back
 parts_points v front back k e f =
@@ -23,7 +23,7 @@ parts_points v front back k e f =
     (v.well_formed.encoded ∙ (sym (take-append-drop k w) ∙ (sym (ap (λ x. x ++ drop k w) first)
     ∙ (sym (ap (λ y. bytes (view_points front) ++ y) second) ∙ sym (bytes-append (view_points front) (view_points back))))))
 
--- the first `k + n` elements are those of `all`, and nothing else is changed
+-- the first `k + n` elements are the first of `all`, and nothing else is changed
 record IsWritten (first all new : List ℕ) (k n : ℕ) : Type 0 where
   pub written : take (k + n) new ≡ take (k + n) all
   pub rest : drop (k + n) new ≡ drop (k + n) first
@@ -78,9 +78,7 @@ loop-left-preserved c =
     omega (
       arith,
       copied.ensures.count,
-      (lists_have_lengths front).points,
-      (lists_have_lengths front).units_least,
-      ap length part.well_formed.encoded,
+      few_points part,
       ap length c.slice_to.ensures.bytes,
       length-take end left.bytes.now,
       within,
