@@ -152,8 +152,7 @@ fn read_front(text: &[u8]) -> (&str, usize)
     match from_utf8(text) {
         Ok(whole) => (whole, 0),
         Err(error) => {
-            let (front, _) = text.split_at(error.valid_up_to());
-            let front = unsafe { str::from_utf8_unchecked(front) };
+            let front = unsafe { str::from_utf8_unchecked(&text[..error.valid_up_to()]) };
             (front, error.error_len().unwrap_or(0))
         }
     }

@@ -29,13 +29,8 @@ impl<A: Allocator> Wtf8Buf<A> {
         ensures err { IfErr result (Tells text.now) }
         ensures empty { text.now ≡ [] → IsOk result }
     {
-        match from_utf8(text) {
-            Ok(text) => match Wtf8Buf::from_str(alloc, text) {
-                Ok(made) => Ok(made),
-                Err(refused) => Err(TextError::Refused(refused)),
-            },
-            Err(error) => Err(TextError::NotUtf8(error)),
-        }
+        let text = from_utf8(text).map_err(TextError::NotUtf8)?;
+        Wtf8Buf::from_str(alloc, text).map_err(TextError::Refused)
     }
 
     /// Appends bytes, which must be UTF-8. If they are not, or if memory is refused, the string is unchanged. Amortized
@@ -49,12 +44,7 @@ impl<A: Allocator> Wtf8Buf<A> {
         ensures empty { text.now ≡ [] → IsOk result }
         ensures capacity { self.old.capacity ≤ self.new.capacity }
     {
-        match from_utf8(text) {
-            Ok(text) => match self.push_str(text) {
-                Ok(()) => Ok(()),
-                Err(refused) => Err(TextError::Refused(refused)),
-            },
-            Err(error) => Err(TextError::NotUtf8(error)),
-        }
+        let text = from_utf8(text).map_err(TextError::NotUtf8)?;
+        self.push_str(text).map_err(TextError::Refused)
     }
 }

@@ -1,8 +1,8 @@
 // ASCII in blocks of bytes: whether all bytes are ASCII, and how many at the front are.
-ghost use Rattle.std.specs.Prelude.{◌*◌, ◌<◌, ◌≤◌, length, take, IsTrue, IfNone, IfSome};
+ghost use Rattle.std.specs.Prelude.{ℕ, ◌*◌, ◌<◌, ◌≤◌, length, take, slice_index, IsTrue, IfNone, IfSome};
 ghost use Rattle.wtf8.specs.private.Prefixes.{AreAscii};
 
-use crate::lanes::first_set_lane;
+use crate::lanes::{BLOCK, first_set_lane};
 use std::simd::prelude::*;
 
 /// Returns the index of the first byte that is not ASCII, or `None` if all are.
@@ -42,4 +42,17 @@ pub(crate) fn is_ascii_overlapping<const N: usize>(bytes: &[u8]) -> bool
     let last = bytes.len() - N;
     is_ascii_block(Simd::<u8, N>::from_slice(bytes))
         && is_ascii_block(Simd::<u8, N>::from_slice(&bytes[last..]))
+}
+
+/// The number of bytes in the whole blocks at the front that are ASCII.
+#[inline(always)]
+pub(crate) fn ascii_front_len(bytes: &[u8]) -> usize
+    ensures within { result ≤ length bytes.now }
+    ensures ascii { (k : ℕ) → k < result → slice_index bytes.now k < 0x80 }
+{
+    let mut at = 0;
+    while BLOCK <= bytes.len() - at && is_ascii_block(Simd::<u8, BLOCK>::from_slice(&bytes[at..])) {
+        at += BLOCK;
+    }
+    at
 }

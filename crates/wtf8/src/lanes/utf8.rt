@@ -2,9 +2,9 @@
 ghost use Rattle.std.specs.Prelude.{◌≡◌, ◌+◌, ◌-◌, ◌<◌, ◌≤◌, ◌∷◌, ℕ, length, drop, IsTrue, slice_index, MatchResult, IfErr};
 ghost use Rattle.std.specs.Str.{IsUtf8, IsErrorLen, IsValidUpTo, valid_up_to, error_len};
 ghost use Rattle.std.specs.Str.Lossy.{utf8_valid_len, utf8_error_len};
-ghost use Rattle.wtf8.specs.private.Utf8Bytes.{MayFollow, FollowsIn, IsWholeAfter};
+ghost use Rattle.wtf8.specs.private.Utf8Bytes.{FollowsIn, IsWholeAfter};
 
-use crate::lanes::ascii::is_ascii_block;
+use crate::lanes::ascii::{ascii_front_len, is_ascii_block};
 use std::simd::prelude::*;
 use std::str::{self, Utf8Error};
 
@@ -17,13 +17,17 @@ const BEFORE: usize = 3;
 /// The fewest bytes that are tested in blocks: for fewer `str::from_utf8` takes about as long.
 const LEAST: usize = 2 * BLOCK;
 
-/// Whether each lane of `bytes` may follow the same lane of `third`, `second` and `first`, which are three, two and one
-/// byte before. A byte of A0 or more is wrong after ED, a smaller one after E0; one of 90 or more after F4, a smaller
-/// one after F0.
+/// Whether `BLOCK` bytes from index `at + BEFORE` on may each follow the three before them. A byte of A0 or more is wrong
+/// after ED, a smaller one after E0; one of 90 or more after F4, a smaller one after F0.
 #[inline(always)]
-fn may_follow(third: u8x32, second: u8x32, first: u8x32, bytes: u8x32) -> bool
-    ensures { IsTrue result → (k : ℕ) → k < 32 → MayFollow (slice_index third k) (slice_index second k) (slice_index first k) (slice_index bytes k) }
+fn follows_in_block(bytes: &[u8], at: usize) -> bool
+    requires { at + (BLOCK + BEFORE) ≤ length bytes.now }
+    ensures { IsTrue result → FollowsIn bytes.now at (at + BLOCK) }
 {
+    let third = u8x32::from_slice(&bytes[at..]);
+    let second = u8x32::from_slice(&bytes[at + 1..]);
+    let first = u8x32::from_slice(&bytes[at + 2..]);
+    let bytes = u8x32::from_slice(&bytes[at + 3..]);
     let asked = first.simd_ge(Simd::splat(0xC0))
         | second.simd_ge(Simd::splat(0xE0))
         | third.simd_ge(Simd::splat(0xF0));
@@ -39,20 +43,6 @@ fn may_follow(third: u8x32, second: u8x32, first: u8x32, bytes: u8x32) -> bool
     let out_of_range = first.simd_eq(not_after_three) | first.simd_eq(not_after_four);
     let wrong = (asked ^ continues) | leads_nothing | out_of_range;
     wrong.to_bitmask() == 0
-}
-
-/// Whether `BLOCK` bytes from index `at + BEFORE` on may each follow the three before it.
-#[inline(always)]
-fn follows_in_block(bytes: &[u8], at: usize) -> bool
-    requires { at + (BLOCK + BEFORE) ≤ length bytes.now }
-    ensures { IsTrue result → FollowsIn bytes.now at (at + BLOCK) }
-{
-    may_follow(
-        u8x32::from_slice(&bytes[at..]),
-        u8x32::from_slice(&bytes[at + 1..]),
-        u8x32::from_slice(&bytes[at + 2..]),
-        u8x32::from_slice(&bytes[at + 3..]),
-    )
 }
 
 /// Whether the first three bytes may begin a text: each is tested after zeros.
@@ -76,26 +66,9 @@ fn ends_text(bytes: &[u8]) -> bool
     bytes[len - 3] < 0xF0 && bytes[len - 2] < 0xE0 && bytes[len - 1] < 0xC0
 }
 
-/// The number of bytes at the front in whole blocks of `LEAST` that are ASCII. `follows_throughout` does not test
-/// `LEAST` bytes itself: the compiler would take the loads of `follows_in_block` out of its vectors byte by byte.
-#[inline(always)]
-fn ascii_front_len(bytes: &[u8]) -> usize
-    ensures { (k : ℕ) → k < result → slice_index bytes.now k < 0x80 }
-{
-    let mut at = 0;
-    if LEAST <= bytes.len() {
-        let last = bytes.len() - LEAST;
-        while at <= last {
-            if !is_ascii_block(Simd::<u8, LEAST>::from_slice(&bytes[at..])) {
-                return at;
-            }
-            at += LEAST;
-        }
-    }
-    at
-}
-
-/// Whether each byte but the first three may follow the three before it. The last block overlaps the one before it.
+/// Whether each byte but the first three may follow the three before it. The last block overlaps the one before it. ASCII
+/// at the front is not tested in `LEAST` bytes here: the compiler would take the loads of `follows_in_block` out of its
+/// vectors byte by byte.
 #[inline(always)]
 fn follows_throughout(bytes: &[u8]) -> bool
     requires { BLOCK + BEFORE ≤ length bytes.now }
@@ -119,10 +92,7 @@ fn is_utf8_by_blocks(bytes: &[u8]) -> bool
     requires { LEAST ≤ length bytes.now }
     ensures { IsTrue result → IsUtf8 bytes.now }
 {
-    if !begins_text(bytes) {
-        return false;
-    }
-    follows_throughout(bytes) && ends_text(bytes)
+    begins_text(bytes) && follows_throughout(bytes) && ends_text(bytes)
 }
 
 /// Views bytes as the text that they are in UTF-8, as `str::from_utf8` does, but 32 at a time if there are 64 or more.

@@ -4,7 +4,7 @@ ghost use Rattle.wtf8.specs.private.UnitsInBytes.{utf16_len, sum_utf16_len, IsCu
 ghost use Rattle.wtf8.specs.View.{view_units};
 
 use crate::codec::encoding;
-use crate::lanes::ascii::is_ascii_overlapping;
+use crate::lanes::ascii::{ascii_front_len, is_ascii_overlapping};
 use crate::lanes::{BLOCK, VECTOR};
 use crate::strings::view::Wtf8;
 use std::simd::prelude::*;
@@ -30,6 +30,11 @@ pub(crate) struct UnitCursor {
     pub(crate) position: usize,
     pub(crate) units: usize,
 }
+
+pub(crate) const START: UnitCursor = UnitCursor {
+    position: 0,
+    units: 0,
+};
 
 #[tactic(auto, unfolding(crate::specs::private::UnitsInBytes::utf16_len))]
 pub(crate) fn utf16_len_of_byte(byte: u8) -> usize
@@ -97,14 +102,15 @@ pub(crate) fn skip_block<const N: usize>(
     })
 }
 
-/// Skips groups of blocks from the start while the unit is at least `LEAST_UNITS_SUMMED` units ahead.
+/// Skips groups of blocks while the unit is at least `LEAST_UNITS_SUMMED` units ahead.
 #[inline(always)]
 #[tactic(auto, using(crate::proofs::lemmas::strings::Positions::sum_utf16_len_take_add))]
-pub(crate) fn skip_summed_blocks(bytes: &[u8], unit: usize) -> UnitCursor
+pub(crate) fn skip_summed_blocks(bytes: &[u8], unit: usize, from: UnitCursor) -> UnitCursor
+    requires { IsCursor bytes.now unit from }
     ensures { IsCursor bytes.now unit result }
 {
-    let mut position = 0;
-    let mut units = 0;
+    let mut position = from.position;
+    let mut units = from.units;
     while SUMMED_BLOCKS * BLOCK <= bytes.len() - position && LEAST_UNITS_SUMMED <= unit - units {
         let more = utf16_len_of_blocks(bytes, position);
         if unit - units < more {
@@ -120,10 +126,7 @@ fn count_units(bytes: &[u8]) -> usize
     requires { sum_utf16_len bytes.now < 2 ^ 64 }
     ensures { result ≡ sum_utf16_len bytes.now }
 {
-    let mut cursor = UnitCursor {
-        position: 0,
-        units: 0,
-    };
+    let mut cursor = START;
     if HALF_BLOCK <= bytes.len() {
         cursor = skip_all_blocks(bytes);
     }
@@ -134,13 +137,19 @@ fn count_units(bytes: &[u8]) -> usize
     count_units_from(bytes, cursor)
 }
 
-/// Counts by `SUMMED_BLOCKS` blocks, then by `HALF_BLOCK` bytes. Not inlined, so that the short path stays small.
+/// Counts ASCII at the front, a unit a byte, then by `SUMMED_BLOCKS` blocks, then by `HALF_BLOCK` bytes. Not inlined, so
+/// that the short path stays small.
 #[inline(never)]
 fn skip_all_blocks(bytes: &[u8]) -> UnitCursor
     requires { sum_utf16_len bytes.now < 2 ^ 64 }
     ensures { IsCursor bytes.now NO_UNIT result }
 {
-    let mut cursor = skip_summed_blocks(bytes, NO_UNIT);
+    let ascii = ascii_front_len(bytes);
+    let front = UnitCursor {
+        position: ascii,
+        units: ascii,
+    };
+    let mut cursor = skip_summed_blocks(bytes, NO_UNIT, front);
     while let Some(next) = skip_block::<HALF_BLOCK>(bytes, NO_UNIT, cursor) {
         cursor = next;
     }

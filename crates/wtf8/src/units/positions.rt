@@ -10,7 +10,7 @@ use crate::lanes::{BLOCK, VECTOR};
 use crate::strings::iters::read_unit;
 use crate::strings::view::Wtf8;
 use crate::units::counts::{
-    HALF_VECTOR, UnitCursor, skip_block, skip_summed_blocks, utf16_len_of_byte,
+    HALF_VECTOR, START, UnitCursor, skip_block, skip_summed_blocks, utf16_len_of_byte,
 };
 use std::simd::prelude::*;
 
@@ -28,14 +28,10 @@ const WORTH_HALF_VECTOR: usize = WORTH_VECTOR / 2;
 fn skip_blocks(bytes: &[u8], unit: usize) -> UnitCursor
     ensures { IsCursor bytes.now unit result }
 {
-    let start = UnitCursor {
-        position: 0,
-        units: 0,
-    };
     match bytes.len() {
-        0..=3 => start,
-        4..=7 => skip_ascii::<4>(bytes, unit, start).unwrap_or(start),
-        8..=15 => skip_ascii::<HALF_VECTOR>(bytes, unit, start).unwrap_or(start),
+        0..=3 => START,
+        4..=7 => skip_ascii::<4>(bytes, unit, START).unwrap_or(START),
+        8..=15 => skip_ascii::<HALF_VECTOR>(bytes, unit, START).unwrap_or(START),
         _ => skip_blocks_of_long(bytes, unit),
     }
 }
@@ -45,7 +41,7 @@ fn skip_blocks(bytes: &[u8], unit: usize) -> UnitCursor
 fn skip_blocks_of_long(bytes: &[u8], unit: usize) -> UnitCursor
     ensures { IsCursor bytes.now unit result }
 {
-    let cursor = skip_summed_blocks(bytes, unit);
+    let cursor = skip_summed_blocks(bytes, unit, START);
     let cursor = skip_blocks_while_far::<BLOCK>(bytes, unit, WORTH_BLOCK, cursor);
     let cursor = skip_blocks_while_far::<VECTOR>(bytes, unit, WORTH_VECTOR, cursor);
     let cursor = skip_blocks_while_far::<HALF_VECTOR>(bytes, unit, WORTH_HALF_VECTOR, cursor);

@@ -1,9 +1,9 @@
 -- Lanes that show which bytes may not follow the three before them.
-use Rattle.wtf8.proofs.Common.{◌≡◌, ℕ, zero, suc, ◌+◌, ◌*◌, ◌%◌, ◌^◌, ◌<◌, ◌≤◌, ◌⊎◌, inl, inr, Bool, true, false, not, ◌&&◌, ◌||◌, cond}
+use Rattle.wtf8.proofs.Common.{◌≡◌, ℕ, zero, suc, ◌+◌, ◌*◌, ◌%◌, ◌^◌, ◌<◌, ◌≤◌, Bool, true, false, not, ◌&&◌, ◌||◌, cond}
 use Rattle.wtf8.proofs.Common.{List, [], ◌∷◌, map, length, get_or, replicate, refl, sym, ◌∙◌, arith, IsTrue, eqb, leb, ltb, bit_and, bit_or}
-use Rattle.wtf8.proofs.Common.{eqb-true, le-leb, lt-ltb, leb-true, and_parts, and_from, true≢false, zip2, sel_l}
+use Rattle.wtf8.proofs.Common.{eqb-true, zip2, sel_l}
 use Rattle.wtf8.proofs.Common.{mask_l, mask_l-mod, top, nat_tests}
-use Rattle.std.proofs.Common.{bit_xor, ltb-true}
+use Rattle.std.proofs.Common.{bit_xor}
 use Rattle.wtf8.proofs.lemmas.lanes.SurrogateLanes.{lane_of_bool}
 use Rattle.wtf8.specs.private.Utf8Bytes.{MayFollow}
 
@@ -12,23 +12,16 @@ differ true b = not b
 differ false b = b
 
 or_lanes : (a b : Bool) → bit_or (lane_of_bool a) (lane_of_bool b) ≡ lane_of_bool (a || b)
-or_lanes true true = refl
-or_lanes true false = refl
-or_lanes false b = refl
+or_lanes a b = grind (arith)
 
 and_lanes : (a b : Bool) → bit_and (lane_of_bool a) (lane_of_bool b) ≡ lane_of_bool (a && b)
-and_lanes true true = refl
-and_lanes true false = refl
-and_lanes false b = refl
+and_lanes a b = grind (arith)
 
 xor_lanes : (a b : Bool) → bit_xor (lane_of_bool a) (lane_of_bool b) ≡ lane_of_bool (differ a b)
-xor_lanes true true = refl
-xor_lanes true false = refl
-xor_lanes false b = refl
+xor_lanes a b = grind (arith)
 
 set_lane : (a : Bool) → top 7 (lane_of_bool a) ≡ a
-set_lane true = refl
-set_lane false = refl
+set_lane a = grind (arith)
 
 -- One lane: of the byte `b` after `z`, `y` and `x`.
 
@@ -62,64 +55,19 @@ is_after_four x b = eqb x (cond (leb 0x90 b) 0xF4 0xF0)
 
 wrong_lane : (z y x b : ℕ) → top 7 (wrong z y x b)
     ≡ (differ (is_asked z y x) (is_continuation b) || ((leb 0xC0 b && ltb b 0xC2) || leb 0xF5 b)) || (is_after_three x b || is_after_four x b)
-wrong_lane z y x b = rw (
-  set_lane (leb 0xA0 b),
-  set_lane (leb 0x90 b),
-  or_lanes (leb 0xC0 x) (leb 0xE0 y),
-  or_lanes (leb 0xC0 x || leb 0xE0 y) (leb 0xF0 z),
-  and_lanes (leb 0x80 b) (ltb b 0xC0),
-  xor_lanes (is_asked z y x) (is_continuation b),
-  and_lanes (leb 0xC0 b) (ltb b 0xC2),
-  or_lanes (leb 0xC0 b && ltb b 0xC2) (leb 0xF5 b),
-  or_lanes (is_after_three x b) (is_after_four x b),
-  or_lanes (differ (is_asked z y x) (is_continuation b)) ((leb 0xC0 b && ltb b 0xC2) || leb 0xF5 b),
-  or_lanes (differ (is_asked z y x) (is_continuation b) || ((leb 0xC0 b && ltb b 0xC2) || leb 0xF5 b)) (is_after_three x b || is_after_four x b),
-)
-    (set_lane _)
-
-neither : (a b : Bool) → a || b ≡ false → (a ≡ false) × (b ≡ false)
-neither true b e = absurd (true≢false e)
-neither false b e = (refl, e)
-
-same : (a b : Bool) → differ a b ≡ false → a ≡ b
-same true true e = refl
-same true false e = absurd (true≢false e)
-same false b e = sym e
-
-is_asked-true : (z y x : ℕ) → (0xC0 ≤ x) ⊎ ((0xE0 ≤ y) ⊎ (0xF0 ≤ z)) → is_asked z y x ≡ true
-is_asked-true z y x h = elim h [
-  | inl l ↦ rw (le-leb 0xC0 x l) refl
-  | inr k ↦ elim k [ inl l ↦ rw (le-leb 0xE0 y l) (any_true (leb 0xC0 x) (leb 0xF0 z)) | inr l ↦ rw (le-leb 0xF0 z l) (last_true _) ]
-]
-  where
-    any_true : (a b : Bool) → (a || true) || b ≡ true
-    any_true true b = refl
-    any_true false b = refl
-
-    last_true : (a : Bool) → a || true ≡ true
-    last_true true = refl
-    last_true false = refl
+wrong_lane z y x b = grind (arith, set_lane, or_lanes, and_lanes, xor_lanes)
 
 may_follow : (z y x b : ℕ) → top 7 (wrong z y x b) ≡ false → MayFollow z y x b
 may_follow z y x b e =
-    let parts = neither (differ (is_asked z y x) (is_continuation b) || ((leb 0xC0 b && ltb b 0xC2) || leb 0xF5 b))
-    (is_after_three x b || is_after_four x b) (sym (wrong_lane z y x b) ∙ e) in
-    let first = neither (differ (is_asked z y x) (is_continuation b)) ((leb 0xC0 b && ltb b 0xC2) || leb 0xF5 b) parts.0 in
-    let agree = same (is_asked z y x) (is_continuation b) first.0 in
-    let leads = neither (leb 0xC0 b && ltb b 0xC2) (leb 0xF5 b) first.1 in
-    let ranges = neither (is_after_three x b) (is_after_four x b) parts.1 in
+    let none = sym (wrong_lane z y x b) ∙ e in
     record {
-      continues = λ h.
-          let t = and_parts (leb 0x80 b) (ltb b 0xC0) (sym agree ∙ is_asked-true z y x h) in
-          (leb-true 0x80 b t.0, ltb-true b 0xC0 t.1);
-      begins = λ l m n c.
-          let none : is_asked z y x ≡ false = grind (arith, nat_tests) in
-          true≢false (sym (and_from (leb 0x80 b) (ltb b 0xC0) (le-leb 0x80 b c.0) (lt-ltb b 0xC0 c.1)) ∙ (sym agree ∙ none));
-      leads = λ l. (grind (arith, nat_tests, leads.0), grind (arith, nat_tests, leads.1));
-      after_E0 = λ e. grind (arith, nat_tests, ranges.0);
-      after_ED = λ e. grind (arith, nat_tests, ranges.0);
-      after_F0 = λ e. grind (arith, nat_tests, ranges.1);
-      after_F4 = λ e. grind (arith, nat_tests, ranges.1);
+      continues = λ h. (grind (arith, nat_tests, none, h), grind (arith, nat_tests, none, h));
+      begins = λ l m n c. grind (arith, nat_tests, none, c);
+      leads = λ l. (grind (arith, nat_tests, none), grind (arith, nat_tests, none));
+      after_E0 = λ e. grind (arith, nat_tests, none);
+      after_ED = λ e. grind (arith, nat_tests, none);
+      after_F0 = λ e. grind (arith, nat_tests, none);
+      after_F4 = λ e. grind (arith, nat_tests, none);
     }
 
 -- All lanes.

@@ -151,15 +151,7 @@ follows_in_front w h i l m =
     ) at (h i l (omega (arith, m)))
 
 ascii_follows : (z y x b : ℕ) → z < 0x80 → y < 0x80 → x < 0x80 → b < 0x80 → MayFollow z y x b
-ascii_follows z y x b l m n o = record {
-  continues = λ h. absurd (omega (arith, h, l, m, n));
-  begins = λ _ _ _ c. omega (arith, c, o);
-  leads = λ k. absurd (omega (arith, k, o));
-  after_E0 = λ e. absurd (omega (arith, e, n));
-  after_ED = λ e. absurd (omega (arith, e, n));
-  after_F0 = λ e. absurd (omega (arith, e, n));
-  after_F4 = λ e. absurd (omega (arith, e, n));
-}
+ascii_follows z y x b l m n o = grind (arith)
 
 -- in a block of ASCII each byte but the first three may follow
 pub follows_in_ascii : (w : List ℕ) (at : ℕ) → at + 32 ≤ length w → AreAscii (chunk at 32 w) → FollowsIn w 0 at → FollowsIn w 0 (at + 29)

@@ -1,9 +1,0 @@
-use Rattle.wtf8.proofs.Common.{◌<◌, ◌+◌, ◌-◌, ℕ, slice_index}
-use Rattle.wtf8.proofs.lanes.utf8.ascii_front_len.Given as goal
-
--- all bytes before `at` are ASCII
-abbrev pub invariant-loop-at : goal.invariant-loop-at
-invariant-loop-at l = (k : ℕ) → k < l.at → slice_index l.bytes k < 0x80
-
-abbrev pub decreases-loop-at : goal.decreases-loop-at
-decreases-loop-at l = l.last + 1 - l.at
