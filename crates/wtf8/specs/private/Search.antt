@@ -1,6 +1,6 @@
 -- The first index with a property: of lists, of two lists that differ, and of the lanes of a mask.
 use lib.Lanes.{mask_l}
-use Rattle.std.specs.Prelude.{◌≡◌, ◌≢◌, ℕ, ◌+◌, ◌%◌, ◌^◌, ◌<◌, ◌≤◌, Bool, false, List, length, take, get_or, slice_index, IsTrue}
+use Rattle.std.specs.Prelude.{◌≡◌, ◌≢◌, ℕ, ◌+◌, ◌%◌, ◌^◌, ◌<◌, ◌≤◌, Bool, false, List, length, map, leb, take, get_or, slice_index, IsTrue}
 use Rattle.std.specs.Prelude.{MatchBool, Option, MatchOption}
 
 -- No index in `from..end` has the property `P`.
@@ -35,6 +35,14 @@ pub record IsMismatch (w v : List ℕ) (i : ℕ) : Type 0 where
   pub within_second : i ≤ length v
   pub same_before : take i w ≡ take i v
   pub differ_there : i < length w → i < length v → slice_index w i ≢ slice_index v i
+
+-- Bit `k` of the mask is set if the unit `k` is not ASCII.
+abbrev pub IsLetterMask : ℕ → List ℕ → Type 0
+IsLetterMask bits u = bits ≡ mask_l (map (leb 0x80) u)
+
+-- The unit is not ASCII, and below the surrogates.
+abbrev pub IsLetter : ℕ → Type 0
+IsLetter n = (0x80 ≤ n) × (n < 0xD800)
 
 -- The numbers of the two lists at index `i` differ.
 abbrev pub DifferAt : List ℕ → List ℕ → ℕ → Type 0

@@ -3,8 +3,9 @@
 //     Units left              They begin with                 Way
 //     all, `FEW_UNITS`        any, if none completes a lead   one code point at a time, on the stack: `few`
 //     or fewer                before them
-//     `TWO_BLOCKS` or more    ASCII                           the ASCII run in `TWO_BLOCKS`; then blocks, if these have
-//                                                             `SOME_GROUPS` groups of others, else one code point
+//     `TWO_BLOCKS` or more    ASCII                           the ASCII run in `TWO_BLOCKS`; after it `letters`, if at most
+//                                                             `FEW_LETTERS` of them are not ASCII, or blocks, if these
+//                                                             are in `SOME_GROUPS` groups or more, else one code point
 //                             another, then ASCII soon        one code point
 //                             others                          blocks of `BLOCK_UNITS`: `kernel`
 //     `QUARTER_BLOCK`         two ASCII, or one of fewer      the ASCII run in `BLOCK_UNITS`, `HALF_BLOCK` or
@@ -16,6 +17,7 @@ pub(crate) mod encoded_len;
 pub(crate) mod few;
 pub(crate) mod front;
 pub(crate) mod kernel;
+pub(crate) mod letters;
 pub(crate) mod shuffle_table;
 pub(crate) mod transcode;
 

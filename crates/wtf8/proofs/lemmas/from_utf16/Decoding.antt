@@ -223,6 +223,12 @@ pub IsFirstRead-low : (v : List ℕ) (at p : ℕ) → at < length v → get_or v
 IsFirstRead-low v at p within low same =
     rw same (IsFirstRead-unit v at within (omega (arith, low)) (λ l. omega (arith, l.0, low)))
 
+-- a unit below D800 is encoded, if its encoding is appended
+pub IsReadTo-low : {w front v : List ℕ} {at : ℕ} {known : Bool} → IsReadTo w front v at known → at < length v → get_or v at 0 < 0xD800
+    → IsReadTo (w ++ encoding (get_or v at 0)) front v (at + 1) known
+IsReadTo-low {w} {front} {v} {at} {known} read within low = subst (IsReadTo (w ++ encoding (get_or v at 0)) front v (at + 1)) (and-true known)
+    (IsReadTo-point {scalar = true} read (omega arith) (IsFirstRead-low v at (get_or v at 0) within low refl) (λ _ s. omega (arith, s.0, low)))
+
 pub IsReadTo-low_written : (w old new : List ℕ) (len after : ℕ) {front v : List ℕ} {at p : ℕ} {known : Bool}
     → IsReadTo (w ++ take len old) front v at known
     → IsFirstRead v at (at + 1) p → p < 0xD800 → take after new ≡ take len old ++ encoding p

@@ -1,7 +1,12 @@
 use Rattle.wtf8.proofs.Common.{sym, subst, HasRoomFrom}
+use Rattle.std.proofs.lemmas.Result.{IfOk-weaker}
 use Rattle.wtf8.proofs.lemmas.from_utf16.Transcode.{HasRoomFrom-after}
 use Rattle.wtf8.proofs.from_utf16.transcode.append_next.Goals.{then-v-at-lt128+else-spare_capacity-lt-TWO_BLOCKS+in_ok-front+else-to-at+else-groups-lt-SOME_GROUPS+else-v-to-lt-QUARTER_BLOCK, else-v-at-lt128+else-v-at-lt128-2+else-v-at-lt128-3}
 use Rattle.wtf8.proofs.from_utf16.transcode.append_next.Goals as goal
+
+pub returns-then-groups-lt-SOME_GROUPS-clause-read : goal.returns-then-groups-lt-SOME_GROUPS-clause-read
+returns-then-groups-lt-SOME_GROUPS-clause-read g c = IfOk-weaker c.append_point-then-groups-lt-SOME_GROUPS.result _ _
+    (λ to on front read. on front (c.in_ok-front.ensures.read front read)) c.append_point-then-groups-lt-SOME_GROUPS.ensures.read
 
 pub returns-then-groups-lt-SOME_GROUPS-clause-room : goal.returns-then-groups-lt-SOME_GROUPS-clause-room
 returns-then-groups-lt-SOME_GROUPS-clause-room g c room = c.append_point-then-groups-lt-SOME_GROUPS.ensures.room
