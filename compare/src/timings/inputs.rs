@@ -115,6 +115,7 @@ pub fn chosen(is_chosen: impl Fn(&str) -> bool) -> Vec<Input> {
     }));
     recipes.push(Recipe::new("40 units, ends that join", joining));
     recipes.extend(texts_of_people());
+    recipes.extend(texts_of_everyday());
     made(recipes, is_chosen)
 }
 
@@ -250,6 +251,35 @@ fn texts_of_people() -> [Recipe; 6] {
     ]
 }
 
+/// Texts of a few phrases with other words and numbers in each: kinds change at the same distances again and again.
+fn texts_of_everyday() -> [Recipe; 3] {
+    fn word(random: &mut Random, first: u32, last: u32) -> String {
+        let length = random.between(2, 9);
+        let letters = (0..length).filter_map(|_| char::from_u32(random.between(first, last)));
+        letters.collect()
+    }
+    let latin = |random: &mut Random| word(random, 0x61, 0x7A);
+    [
+        phrases("dates", |random| {
+            let (year, month, day) = (
+                random.between(1900, 2099),
+                random.between(1, 12),
+                random.between(1, 31),
+            );
+            format!("{year}\u{5E74}{month}\u{6708}{day}\u{65E5} ")
+        }),
+        phrases("quotations", move |random| {
+            let [who, what, to] = [0; 3].map(|_| latin(random));
+            format!("\u{201C}{who} {what},\u{201D} {to}\u{2019}s {what} \u{2013} ")
+        }),
+        phrases("JSON", move |random| {
+            let (key, number) = (latin(random), random.between(0, 9999));
+            let value = word(random, 0x4E00, 0x9FA5);
+            format!("{{\"{key}\":{number},\"name\":\"{value}\"}},")
+        }),
+    ]
+}
+
 /// An emoji, or in one case of five its lead or its trail alone.
 fn chopped_emoji(random: &mut Random) -> u32 {
     let emoji = random.between(0x1F300, 0x1F64F);
@@ -290,6 +320,19 @@ fn joining() -> Vec<u16> {
 
 fn text(name: &'static str, point: impl Fn(&mut Random) -> u32 + 'static) -> Recipe {
     Recipe::new(name, move || units(TEXT, point))
+}
+
+/// A long text of phrases, of which the last may be cut.
+fn phrases(name: &'static str, phrase: impl Fn(&mut Random) -> String + 'static) -> Recipe {
+    Recipe::new(name, move || {
+        let mut random = Random::new(TEXT as u64);
+        let mut units = Vec::new();
+        while units.len() < TEXT {
+            units.extend(phrase(&mut random).encode_utf16());
+        }
+        units.truncate(TEXT);
+        units
+    })
 }
 
 fn long(name: &'static str, point: impl Fn(&mut Random) -> u32 + 'static) -> Recipe {
