@@ -134,8 +134,9 @@ void wtf8_shrink(wtf8_string *string);
 
 /* Makes a mark for each 128 units of the string, if it is not ASCII. Appends and truncations keep the marks; a
  * wtf8_set_ call and wtf8_slice_units lose those of the string that they replace. A mark for which memory is refused is
- * left out, as those after it, until an append finds memory for them. Only a string without a buffer is refused memory.
- * Linear in the length. Codes: OK, NO_MEMORY. */
+ * left out, as those after it, until an append finds memory for them. If the block that lists the marks is refused, none
+ * are kept until the next wtf8_mark. Only a string without a buffer is refused memory. Linear in the length. Codes: OK,
+ * NO_MEMORY. */
 WTF8_CODE wtf8_result wtf8_mark(wtf8_string *string);
 
 /* ---- Appending ---- */

@@ -962,19 +962,20 @@ static void must_find(const wtf8_string *string, const uint16_t *units, size_t n
     }
 }
 
-/* Marks, with each request for one granted or refused, while the string grows and is cut. */
+/* Marks, while the string grows and is cut: with each request granted, with all refused, or all but the first, which is
+ * for the box of their vector. */
 static void marks(void) {
     static uint16_t units[MARKED + APPENDED + 1];
     for (size_t shift = 0; shift < 3; shift++) {
-        for (int is_refused = 0; is_refused < 2; is_refused++) {
+        for (int refused = 0; refused < 3; refused++) {
             wtf8_string string = WTF8_EMPTY, letters_only = WTF8_EMPTY;
             marked_units(units, MARKED + APPENDED, shift);
             must(wtf8_set_units(&string, units, MARKED) == WTF8_OK, "a string to mark");
             must(wtf8_set_utf8(&letters_only, letters, MARKED, NULL) == WTF8_OK, "letters to mark");
             long requested = requests;
-            must(wtf8_mark(&letters_only) == WTF8_OK && requests == requested, "letters need no marks");
-            if (is_refused) refuse_after = 0;
-            must(wtf8_mark(&string) == WTF8_OK && requests > requested, "marks are requested");
+            must(wtf8_mark(&letters_only) == WTF8_OK && requests == requested + 1, "letters need no marks");
+            refuse_after = refused - 1;
+            must(wtf8_mark(&string) == WTF8_OK && requests > requested + 1, "marks are requested");
             refuse_after = -1;
             must_find(&string, units, MARKED, "a marked string");
             must(wtf8_push_units(&string, units + MARKED, APPENDED) == WTF8_OK, "units after marks");

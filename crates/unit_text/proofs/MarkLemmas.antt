@@ -1,6 +1,6 @@
 -- Marks that stay valid when units are appended, and the units after a mark.
 use Rattle.std.proofs.Common.{◌≡◌, ℕ, zero, suc, ◌+◌, ◌<◌, ◌≤◌, List, [], ◌∷◌, ◌++◌, length, drop, ap, ◌∙◌, sym, subst, add-zero, arith}
-use Rattle.std.proofs.Common.{length-append, ◌≢◌, ◌*◌, ◌/◌, min, get_or, below_more, Option, Some, None, IfSome}
+use Rattle.std.proofs.Common.{length-append, ◌≢◌, ◌*◌, ◌/◌, min, get_or, below_more, Box, Option, Some, None, IfSome}
 use Rattle.std.proofs.lemmas.Bool.{false≢true}
 use Rattle.std.proofs.lemmas.List.{get_or_append_left, get_or_push}
 use Rattle.std.specs.Prelude.{vec_capacity, ◌↔◌}
@@ -23,9 +23,9 @@ module _ (stay : MarksStay) (old new : UnitString) (v : List ℕ) (e : new.units
     before_last = omega (arith, ap length e, length-append old.units v);
   }
 
-  pub AreKept-append : {Z : Type 0} (kept : Option (Vec UnitMark Z))
-      → IfSome kept (λ k. AreMarks old.bytes old.units k.items (vec_capacity k))
-      → IfSome kept (λ k. AreKept new.bytes new.units k.items)
+  pub AreKept-append : {Z : Type 0} (kept : Option (Box (Vec UnitMark Z) Z))
+      → IfSome kept (λ k. AreMarks old.bytes old.units k.value.items (vec_capacity k.value))
+      → IfSome kept (λ k. AreKept new.bytes new.units k.value.items)
   AreKept-append None h = h
   AreKept-append (Some k) h = λ i d l. IsKept-append _ _ (h.kept i d l)
 

@@ -1,6 +1,6 @@
 -- Marks of a text that became shorter, and the units before the position of a mark.
 use Rattle.std.proofs.Common.{◌≡◌, ◌≢◌, ℕ, ◌+◌, ◌-◌, ◌*◌, ◌/◌, ◌<◌, ◌≤◌, List, length, take, refl, sym, ap, ◌∙◌, arith}
-use Rattle.std.proofs.Common.{Option, Some, None, IfSome, get_or}
+use Rattle.std.proofs.Common.{Box, Option, Some, None, IfSome, get_or}
 use Rattle.std.proofs.lemmas.List.{length-take, length-take-le, get_or-take}
 use Rattle.std.specs.Prelude.{vec_capacity}
 use Rattle.std.specs.declared.vec.Vec.{Vec}
@@ -66,8 +66,8 @@ module _ (equal : EqualCountsAreMarks) (cut : MarksStayInFront) (same : EqualFor
             grind (arith, enough, fewer, long, l, room);
       }
 
-  pub AreMarks-truncated : {Z : Type 0} (kept : Option (Vec UnitMark Z)) (old : UnitString) (new : Wtf8) (n : ℕ) → n ≤ length old.units
-      → view_units new ≡ take n old.units → IfSome kept (λ k. AreMarks old.bytes old.units k.items (vec_capacity k))
-      → IfSome kept (λ k. AreMarks new.bytes.now (view_units new) (take ((n - 1) / spacing) k.items) (vec_capacity k))
+  pub AreMarks-truncated : {Z : Type 0} (kept : Option (Box (Vec UnitMark Z) Z)) (old : UnitString) (new : Wtf8) (n : ℕ) → n ≤ length old.units
+      → view_units new ≡ take n old.units → IfSome kept (λ k. AreMarks old.bytes old.units k.value.items (vec_capacity k.value))
+      → IfSome kept (λ k. AreMarks new.bytes.now (view_units new) (take ((n - 1) / spacing) k.value.items) (vec_capacity k.value))
   AreMarks-truncated None old new n within e h = h
-  AreMarks-truncated (Some k) old new n within e h = AreMarks-truncate old new n within e k.items (vec_capacity k) h
+  AreMarks-truncated (Some k) old new n within e h = AreMarks-truncate old new n within e k.value.items (vec_capacity k.value) h

@@ -13,7 +13,7 @@ ghost use Rattle.wtf8.specs.Units.{unread_units};
 ghost use Rattle.wtf8.specs.View.{view_points, view_units};
 ghost use Rattle.unit_text.specs.Positions.{AreUnitsBefore};
 
-use crate::marks::{self, CountedView, MarkedView};
+use crate::marks::{self, CountedView, MarkList, MarkedView};
 use crate::slices;
 use std::alloc::{AllocError, Allocator};
 use std::marker::Model;
@@ -27,7 +27,7 @@ use wtf8::{CodePoint, IllFormedUtf16CodeUnits, UnitMark, UnitSlice, Wtf8, Wtf8Bu
 pub struct IndexedBuf<A: Allocator> {
     pub(crate) text: Wtf8Buf<A>,
     count: usize,
-    marks: Option<Vec<UnitMark, A>>,
+    marks: Option<MarkList<A>>,
 }
 
 impl<A: Allocator> Model for IndexedBuf<A> {
@@ -42,7 +42,7 @@ impl<A: Allocator> Model for IndexedBuf<A> {
     ghost use Rattle.std.specs.Prelude.{◌≡◌, length, vec_capacity, IfSome};
     ghost use Rattle.unit_text.specs.Marks.{AreMarks};
 
-    ghost invariant = { λ t. (t.count ≡ length t.text.units) × IfSome t.marks (λ m. AreMarks t.text.bytes t.text.units m.items (vec_capacity m)) };
+    ghost invariant = { λ t. (t.count ≡ length t.text.units) × IfSome t.marks (λ m. AreMarks t.text.bytes t.text.units m.value.items (vec_capacity m.value)) };
 }
 
 impl<A: Allocator> IndexedBuf<A> {
@@ -114,15 +114,18 @@ impl<A: Allocator> IndexedBuf<A> {
         Ok(IndexedBuf::counted(text, self.count))
     }
 
-    /// Keeps marks of the string, allocated by `alloc`, from which units are found; from then on each call that appends
-    /// adds marks of what it appends. If memory for a mark is refused, it and those after it are missing, and units
-    /// there are counted from the last mark that is kept, until a later append finds memory for them. A short string or
-    /// an ASCII one needs none.
+    /// Keeps marks of the string, from which units are found; from then on each call that appends adds marks of what it
+    /// appends. `alloc` allocates the marks, and a clone of it a box for their vector, at once. If memory for a mark is
+    /// refused, it and the marks after it are missing, and units there are counted from the last mark that is kept,
+    /// until a later append finds memory for them. A short string or an ASCII one needs none. If memory for the box or
+    /// the clone is refused, no marks are kept, and none added later, until `mark_units` is called again.
     pub fn mark_units(&mut self, alloc: A)
+    where
+        A: Clone,
         ensures { self.new ≡ self.old }
     {
         let text = CountedView::new(&self.text, self.count);
-        self.marks = Some(marks::marks_of(alloc, text));
+        self.marks = marks::marks_of(alloc, text);
     }
 
     /// The length in code units. Constant.

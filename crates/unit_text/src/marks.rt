@@ -17,6 +17,10 @@ use wtf8::{UnitMark, UnitSlice, Wtf8, Wtf8Buf, laws};
 /// most this number of units has no marks.
 pub(crate) const SPACING: usize = 128;
 
+/// The vector of the marks that a string keeps, in a box, so that a string is smaller by two words. In this toolchain
+/// `Option<Box<T>>` has two words, since it stores a tag beside the pointer.
+pub(crate) type MarkList<A> = Box<Vec<UnitMark, A>, A>;
+
 /// A view with its number of code units.
 #[derive(Clone, Copy)]
 pub(crate) struct CountedView<'a> {
@@ -83,15 +87,21 @@ impl<'a> CountedView<'a> {
     }
 }
 
-/// Makes the marks of a text, and stops at the first that is refused memory.
-pub(crate) fn marks_of<A: Allocator>(alloc: A, text: CountedView<'_>) -> Vec<UnitMark, A>
-    ensures { AreMarks text.entry.view.bytes.now (view_units text.entry.view) result.items (vec_capacity result) }
+/// Makes the marks of a text, and stops at the first that is refused memory. Returns `None` if memory for the box or a
+/// clone of the allocator is refused.
+pub(crate) fn marks_of<A: Allocator + Clone>(alloc: A, text: CountedView<'_>) -> Option<MarkList<A>>
+    ensures { IfSome result (λ m. AreMarks text.entry.view.bytes.now (view_units text.entry.view) m.value.items (vec_capacity m.value)) }
 {
-    let mut marks = Vec::new(alloc);
+    let Ok(box_alloc) = alloc.clone() else {
+        return None;
+    };
+    let Ok(mut marks) = Box::new(box_alloc, Vec::new(alloc)) else {
+        return None;
+    };
     // If memory for all marks at once is refused, there may be enough for a few.
     let _is_found = marks.reserve_exact(text.needed_mark_count()).is_ok();
     add_marks(text, &mut marks);
-    marks
+    Some(marks)
 }
 
 /// Appends the missing marks, until memory is refused for one. Not inlined, so that a text that lacks no mark costs
@@ -113,9 +123,9 @@ fn add_marks<A: Allocator>(text: CountedView<'_>, marks: &mut Vec<UnitMark, A>)
 
 /// Appends the missing marks, if marks are kept.
 #[inline(always)]
-fn add_to_kept<A: Allocator>(text: CountedView<'_>, marks: &mut Option<Vec<UnitMark, A>>)
-    requires { IfSome marks.old (λ m. AreKept text.view.bytes.now (view_units text.view) m.items) }
-    ensures { IfSome marks.new (λ m. AreMarks text.entry.view.bytes.now (view_units text.entry.view) m.items (vec_capacity m)) }
+fn add_to_kept<A: Allocator>(text: CountedView<'_>, marks: &mut Option<MarkList<A>>)
+    requires { IfSome marks.old (λ m. AreKept text.view.bytes.now (view_units text.view) m.value.items) }
+    ensures { IfSome marks.new (λ m. AreMarks text.entry.view.bytes.now (view_units text.entry.view) m.value.items (vec_capacity m.value)) }
 {
     if let Some(marks) = marks {
         if marks.len() < text.needed_mark_count() {
@@ -130,13 +140,13 @@ fn add_to_kept<A: Allocator>(text: CountedView<'_>, marks: &mut Option<Vec<UnitM
 pub(crate) fn count_more<A: Allocator>(
     text: &Wtf8Buf<A>,
     count: &mut usize,
-    marks: &mut Option<Vec<UnitMark, A>>,
+    marks: &mut Option<MarkList<A>>,
     more: usize,
 )
     requires count { count.old + more ≡ length text.now.units }
-    requires marks { (old : UnitString) × (v : List ℕ) × (AppendsUnits old v text.now × IfSome marks.old (λ m. AreMarks old.bytes old.units m.items (vec_capacity m))) }
+    requires marks { (old : UnitString) × (v : List ℕ) × (AppendsUnits old v text.now × IfSome marks.old (λ m. AreMarks old.bytes old.units m.value.items (vec_capacity m.value))) }
     ensures count { count.new ≡ length text.now.units }
-    ensures marks { IfSome marks.new (λ m. AreMarks text.now.bytes text.now.units m.items (vec_capacity m)) }
+    ensures marks { IfSome marks.new (λ m. AreMarks text.now.bytes text.now.units m.value.items (vec_capacity m.value)) }
 {
     // There are no more units than bytes, so the sum fits.
     prove!(text.len() <= usize::MAX);
@@ -147,12 +157,9 @@ pub(crate) fn count_more<A: Allocator>(
 
 /// Leaves out the marks, if marks are kept, that are not before the last unit of a text that became shorter.
 #[inline(always)]
-pub(crate) fn truncate_kept<A: Allocator>(
-    text: CountedView<'_>,
-    marks: &mut Option<Vec<UnitMark, A>>,
-)
-    requires { IfSome marks.old (λ m. AreMarks text.view.bytes.now (view_units text.view) (take ((text.count - 1) / SPACING) m.items) (vec_capacity m)) }
-    ensures { IfSome marks.new (λ m. AreMarks text.entry.view.bytes.now (view_units text.entry.view) m.items (vec_capacity m)) }
+pub(crate) fn truncate_kept<A: Allocator>(text: CountedView<'_>, marks: &mut Option<MarkList<A>>)
+    requires { IfSome marks.old (λ m. AreMarks text.view.bytes.now (view_units text.view) (take ((text.count - 1) / SPACING) m.value.items) (vec_capacity m.value)) }
+    ensures { IfSome marks.new (λ m. AreMarks text.entry.view.bytes.now (view_units text.entry.view) m.value.items (vec_capacity m.value)) }
 {
     if let Some(marks) = marks {
         marks.truncate(text.count.saturating_sub(1) / SPACING);
@@ -160,8 +167,8 @@ pub(crate) fn truncate_kept<A: Allocator>(
 }
 
 /// Releases the spare capacity of the marks, if marks are kept and the allocator agrees.
-pub(crate) fn shrink_kept<A: Allocator>(marks: &mut Option<Vec<UnitMark, A>>)
-    ensures { (w u : List ℕ) → IfSome marks.old (λ m. AreMarks w u m.items (vec_capacity m)) → IfSome marks.new (λ m. AreMarks w u m.items (vec_capacity m)) }
+pub(crate) fn shrink_kept<A: Allocator>(marks: &mut Option<MarkList<A>>)
+    ensures { (w u : List ℕ) → IfSome marks.old (λ m. AreMarks w u m.value.items (vec_capacity m.value)) → IfSome marks.new (λ m. AreMarks w u m.value.items (vec_capacity m.value)) }
 {
     if let Some(marks) = marks {
         marks.shrink_to_fit();
@@ -211,11 +218,11 @@ impl<'a> MarkedView<'a> {
     #[inline(always)]
     pub(crate) fn new<A: Allocator>(
         text: CountedView<'a>,
-        marks: Option<&'a Vec<UnitMark, A>>,
+        marks: Option<&'a MarkList<A>>,
     ) -> MarkedView<'a>
-        requires { IfSome marks (λ m. AreKept text.view.bytes.now (view_units text.view) m.now.items) }
+        requires { IfSome marks (λ m. AreKept text.view.bytes.now (view_units text.view) m.now.value.items) }
         ensures text { result.text ≡ text.entry }
-        ensures marks { IfSome marks.entry (λ m. result.marks.now ≡ m.now.items) }
+        ensures marks { IfSome marks.entry (λ m. result.marks.now ≡ m.now.value.items) }
     {
         let marks = match marks {
             Some(marks) => marks.as_slice(),

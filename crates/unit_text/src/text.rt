@@ -91,11 +91,15 @@ impl<A: Allocator> UnitText<A> {
         buf.into_buf()
     }
 
-    /// Keeps marks of the text, allocated by `alloc`, so that `unit_at` and `slice_units` need not count from the
-    /// front; from then on each call that appends adds marks of what it appends. If memory for a mark is refused,
-    /// it and those after it are missing, and units there are found more slowly, until a later `push` or `concat` can
-    /// add them. A short text or an ASCII text needs none.
+    /// Keeps marks of the text, so that `unit_at` and `slice_units` need not count from the front; from then on each
+    /// call that appends adds marks of what it appends. `alloc` allocates the marks, and a clone of it a box for their
+    /// vector, at once. If memory for a mark is refused, it and the marks after it are missing, and units there are
+    /// found more slowly, until a later `push` or `concat` can add them. A short text or an ASCII text needs none. If
+    /// memory for the box or the clone is refused, no marks are kept, and none added later, until `mark_units` is called
+    /// again.
     pub fn mark_units(&mut self, alloc: A)
+    where
+        A: Clone,
         ensures { self.new ≡ self.old }
     {
         self.buf.mark_units(alloc)

@@ -480,8 +480,8 @@ fn positions_of_a_buffer_are_rounded_down(rt: HostRuntime) {
 }
 
 #[test]
-fn a_buffer_has_72_bytes(rt: HostRuntime) {
-    assert!(rt; size_of::<IndexedBuf<Global>>() <= 72);
+fn a_buffer_has_56_bytes(rt: HostRuntime) {
+    assert!(rt; size_of::<IndexedBuf<Global>>() <= 56);
 }
 
 /// The number of units of a long buffer.

@@ -203,6 +203,7 @@ fn is_right_after(
 ) -> bool {
     let mut buf = with_spare(heap, setup.spare);
     if setup.is_marked {
+        heap.grant(1);
         buf.mark_units(heap);
     }
     heap.refuse_after(setup.granted, setup.refusal);
@@ -270,7 +271,7 @@ fn after_wide(alloc: Global, units: &[u16]) -> Vec<u16> {
 }
 
 /// The buffer of the long list that `FRONT` ends, with `spare` bytes of spare capacity, and with the one mark that it
-/// needs.
+/// needs, by two requests of `marks`: for the box of the marks' vector and for the mark.
 fn long_with_spare<'a>(
     alloc: Global,
     heap: Lent<'a>,
@@ -335,7 +336,7 @@ fn is_unmarked<A: Allocator>(
 /// capacity.
 fn is_right_on_long(alloc: Global, row: &Row, spare: usize) -> bool {
     let heap = Refusing::new(alloc, 1);
-    let marks = Refusing::new(alloc, 1);
+    let marks = Refusing::new(alloc, 2);
     let mut buf = long_with_spare(alloc, &heap, &marks, spare);
     heap.grant(0);
     marks.grant(0);
@@ -457,7 +458,7 @@ fn is_right_shrunk<A: Allocator>(
 /// list that has room for four, releases the spare capacity of its bytes and of its marks, each if that is granted.
 fn is_each_shrunk(alloc: Global, granted: (bool, bool), refusal: Refusal) -> bool {
     let heap = Refusing::new(alloc, 1);
-    let marks = Refusing::new(alloc, 1);
+    let marks = Refusing::new(alloc, 2);
     let mut buf = long_with_spare(alloc, &heap, &marks, 101);
     marks.grant(1);
     push_each(&mut buf, &[0xDCA9]);

@@ -3,15 +3,16 @@ use refusing::{Lent, Refusing};
 use std::alloc::{Allocator, Global};
 use unit_text::UnitText;
 
-/// Lengths in units of a growing text, and the number of requests for its marks up to each. The text has a mark for
-/// each multiple of 128 below its length; the list of marks has room for four at first, and then for twice that number.
+/// Lengths in units of a growing text, and the number of requests for its marks up to each: one for the box of their
+/// vector, before the text grows, and one each time that the vector needs room. The text has a mark for each multiple of
+/// 128 below its length; the vector has room for four at first, and then for twice that number.
 static REQUESTS_BY_LENGTH: [(usize, u64); 6] = [
-    (128, 0),
-    (129, 1),
-    (640, 1),
-    (641, 2),
-    (1152, 2),
-    (1153, 3),
+    (128, 1),
+    (129, 2),
+    (640, 2),
+    (641, 3),
+    (1152, 3),
+    (1153, 4),
 ];
 
 /// How a text grows.
@@ -91,4 +92,21 @@ fn a_growing_text_asks_for_room_for_marks(rt: HostRuntime) {
     for growth in [Growth::Push, Growth::Concat, Growth::PushStr] {
         assert!(rt; is_grown(rt.alloc(), growth));
     }
+}
+
+/// Grows a text for whose marks a box was refused. Whether that requests nothing for marks, though it would be granted.
+fn is_grown_without_marks(alloc: Global) -> bool {
+    let heap = Refusing::new(alloc, u64::MAX);
+    let marks = Refusing::new(alloc, 0);
+    let mut text = UnitText::new(&heap);
+    text.mark_units(&marks);
+    let is_refused = marks.requests() == 1;
+    marks.grant(u64::MAX);
+    push_units(&mut text, 129, false);
+    is_refused && text.unit_len() == 129 && marks.requests() == 0
+}
+
+#[test]
+fn a_text_whose_box_of_marks_was_refused_asks_for_none(rt: HostRuntime) {
+    assert!(rt; is_grown_without_marks(rt.alloc()));
 }

@@ -49,13 +49,14 @@ fn has_kind<A: Allocator + Copy + Drop>(
     is_found(text_alloc, text, &units_of(alloc, kind, length))
 }
 
-/// Six units to repeat, the number of units of a text, and of requests for its marks: one if there are any marks.
+/// Six units to repeat, the number of units of a text, and of requests of `mark_units`: one for the box of the marks'
+/// vector, and one more if there are any marks.
 static REQUESTS: [([u16; 6], usize, u64); 5] = [
-    ([0x0061; 6], 600, 0),
-    ([0x3042; 6], 0, 0),
-    ([0x3042; 6], 128, 0),
-    ([0x3042; 6], 129, 1),
-    ([0x3042; 6], 600, 1),
+    ([0x0061; 6], 600, 1),
+    ([0x3042; 6], 0, 1),
+    ([0x3042; 6], 128, 1),
+    ([0x3042; 6], 129, 2),
+    ([0x3042; 6], 600, 2),
 ];
 
 /// Whether `mark_units` makes this number of requests for the text of `length` units that repeat `kind`.

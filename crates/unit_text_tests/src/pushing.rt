@@ -109,7 +109,8 @@ fn refused_of<'a>(
 /// next one alone, refused. Returns the number of refused pushes, or None unless the text has the units of all other
 /// pushes.
 fn refused_after(alloc: Global, row: &Row, granted: u64, refusal: Refusal) -> Option<u64> {
-    let heap = Refusing::new(alloc, 0);
+    // One request is granted, for the box of the marks' vector.
+    let heap = Refusing::new(alloc, 1);
     let mut text = UnitText::new(&heap);
     if row.is_marked {
         text.mark_units(&heap);

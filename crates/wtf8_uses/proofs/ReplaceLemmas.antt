@@ -1,5 +1,5 @@
 -- Steps of a replacement of all occurrences: what was made so far and what the rest becomes are what the text becomes.
-use Rattle.std.proofs.Common.{◌≡◌, ◌+◌, ◌≤◌, ℕ, List, ◌++◌, length, take, drop, sym, ap, ◌∙◌, subst, append_assoc}
+use Rattle.std.proofs.Common.{◌≡◌, ◌+◌, ◌<◌, ◌≤◌, ℕ, List, ◌++◌, length, take, drop, sym, ap, ◌∙◌, subst, append_assoc, arith}
 use Rattle.std.proofs.Math.Nat.{add_assoc}
 use Rattle.std.proofs.Math.Seq.{take-length}
 use Rattle.std.specs.Prelude.{max}
@@ -27,3 +27,14 @@ pub ends_after : {u s other after : List ℕ} {begin from n : ℕ} (whole : List
 ends_after {u} {s} {other} {after} {begin} {from} {n} whole so_far none n_is joined =
     let all : after ≡ whole ++ drop begin u = joined ∙ ap (λ x. whole ++ drop begin x) (ap (λ x. take x u) n_is ∙ take-length u) in
     subst (IsReplaced u s other 0 0) (sym all) (so_far _ (IsReplaced.none begin from none))
+
+-- the units before the first occurrence, the text in its place and the units after the occurrence are appended
+pub replaced_once : {u s before joined rest after : List ℕ} {from i n len : ℕ} (other : List ℕ) → IsFirstIndex u s from i → from ≤ 0
+    → n ≡ length s → len ≡ length u → before ≡ drop 0 (take i u) → joined ≡ before ++ other → rest ≡ drop (i + n) (take len u) → after ≡ joined ++ rest
+    → (k : ℕ) → IsFirstIndex u s 0 k → after ≡ take k u ++ (other ++ drop (k + length s) u)
+replaced_once {u} {s} {i = i} other first at_front n_is len_is before_is joined_is rest_is after_is k again =
+    let not_before : ¬ (i < k) = λ l. again.no_earlier i (omega arith) l first.occurs in
+    let not_after : ¬ (k < i) = λ l. first.no_earlier k (omega (arith, at_front)) l again.occurs in
+    let same : k ≡ i = omega (arith, not_before, not_after) in
+    rw same (rw after_is (rw joined_is (rw before_is (rw rest_is (rw n_is (rw len_is (rw (take-length u)
+    (append_assoc (take i u) other (drop (i + length s) u)))))))))

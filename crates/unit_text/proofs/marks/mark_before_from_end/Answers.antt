@@ -1,4 +1,4 @@
-use Rattle.std.proofs.Common.{◌≡◌, ◌-◌, length, length-append, refl, ap, sym, subst, arith}
+use Rattle.std.proofs.Common.{◌≡◌, ◌-◌, length, length-append, refl, ap, subst, arith}
 use Rattle.wtf8.specs.Position.{IsFront}
 use Rattle.wtf8.specs.Unicode.{units}
 use Rattle.wtf8.specs.UnitMark.{IsMark}

@@ -19,7 +19,7 @@ truncate_kept-requires g c =
     (c.law_one_form.ensures.equal view.bytes.now (take c.args.new_len old.bytes) v (take (length v) old.units) (view_form view)
     mark.before).0 same_bytes in
     subst (λ n. IfSome c.self.inside.marks
-    (λ m. AreMarks view.bytes.now v (take ((n - 1) / spacing) m.items) (vec_capacity m))) (sym c.new-front.result.counted)
+    (λ m. AreMarks view.bytes.now v (take ((n - 1) / spacing) m.value.items) (vec_capacity m.value))) (sym c.new-front.result.counted)
     (AreMarks-truncated c.law_marks.ensures.equal c.law_marks.ensures.cut c.law_one_form.ensures.equal c.self.inside.marks old view
     (length v) mark.units_within units c.self.invariant.1)
 

@@ -12,6 +12,6 @@ truncate_kept-requires g c =
     let within : c.args.mark.units ≤ length c.self.inside.text.units =
     omega (arith, c.requires.units_within, ap (λ (s : UnitString). length s.units) c.self.view_is) in
     subst (λ n. IfSome c.self.inside.marks
-    (λ m. AreMarks view.bytes.now (view_units view) (take ((n - 1) / spacing) m.items) (vec_capacity m))) (sym c.new-text.ensures.count)
+    (λ m. AreMarks view.bytes.now (view_units view) (take ((n - 1) / spacing) m.value.items) (vec_capacity m.value))) (sym c.new-text.ensures.count)
     (AreMarks-truncated c.law_marks.ensures.equal c.law_marks.ensures.cut c.law_one_form.ensures.equal c.self.inside.marks
     c.self.inside.text view c.args.mark.units within (c.new-text.ensures.units ∙ c.truncate_units_at.ensures.units) c.self.invariant.1)
