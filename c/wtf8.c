@@ -1,6 +1,6 @@
-/* What stands between a C program and the proved calls. It takes the build for the processor's widest vectors, hands a
- * string that a call only asks as a copy of its struct, so that the program's is not written, gives an array of length 0
- * an address, passes no string twice to one call, and requests memory by the functions that the program names. */
+/* What stands between a C program and the proved calls. It takes the build for the processor's widest vectors, says where
+ * the buffer of a string lies, which is the program's struct, and whether it has one, gives an array of length 0 an
+ * address, passes no string twice to one call, and requests memory by the functions that the program names. */
 #define WTF8_SILENT
 #include "wtf8.h"
 
@@ -57,6 +57,13 @@ __attribute__((constructor)) static void choose_build(void) {
     __atomic_store_n(&build, widest_build(), __ATOMIC_RELAXED);
 }
 
+/* A string as the proved calls take it: where its buffer lies, whether it has one, and, if it has none, whether one may be
+ * written there. The first word of a buffer is the address of its bytes, which is never NULL: c/run_tests tries it. */
+typedef struct {
+    void *at;
+    bool full, has_place;
+} handle;
+
 /* Declares the three builds of a proved call, and a table of them. */
 #define DECLARE(result, name, ...)                                                                 \
     result wtf8_##name##_v1(__VA_ARGS__);                                                          \
@@ -67,54 +74,54 @@ __attribute__((constructor)) static void choose_build(void) {
 /* The proved call of the build that is taken. */
 #define PROVED(name) builds_##name[__atomic_load_n(&build, __ATOMIC_RELAXED)]
 
-DECLARE(wtf8_result, set_units, wtf8_string *, const uint16_t *, size_t)
-DECLARE(wtf8_result, set_utf8, wtf8_string *, const uint8_t *, size_t, size_t *)
-DECLARE(wtf8_result, set_string, wtf8_string *, wtf8_string *)
-DECLARE(void, clear, wtf8_string *)
-DECLARE(void, free, wtf8_string *)
-DECLARE(wtf8_result, reserve_bytes, wtf8_string *, size_t)
-DECLARE(void, shrink, wtf8_string *)
-DECLARE(wtf8_result, mark, wtf8_string *)
-DECLARE(wtf8_result, push_unit, wtf8_string *, uint16_t)
-DECLARE(wtf8_result, push_code_point, wtf8_string *, uint32_t)
-DECLARE(wtf8_result, push_units, wtf8_string *, const uint16_t *, size_t)
-DECLARE(wtf8_result, push_latin1, wtf8_string *, const uint8_t *, size_t)
-DECLARE(wtf8_result, push_utf8, wtf8_string *, const uint8_t *, size_t, size_t *)
-DECLARE(wtf8_result, push_utf8_part, wtf8_string *, const uint8_t *, size_t, size_t *, size_t *)
-DECLARE(wtf8_result, push_string, wtf8_string *, wtf8_string *)
-DECLARE(wtf8_result, push_slice, wtf8_string *, wtf8_string *, size_t, size_t)
-DECLARE(size_t, unit_len, wtf8_string *)
+DECLARE(wtf8_result, set_units, handle *, const uint16_t *, size_t)
+DECLARE(wtf8_result, set_utf8, handle *, const uint8_t *, size_t, size_t *)
+DECLARE(wtf8_result, set_string, handle *, handle *)
+DECLARE(void, clear, handle *)
+DECLARE(void, free, handle *)
+DECLARE(wtf8_result, reserve_bytes, handle *, size_t)
+DECLARE(void, shrink, handle *)
+DECLARE(wtf8_result, mark, handle *)
+DECLARE(wtf8_result, push_unit, handle *, uint16_t)
+DECLARE(wtf8_result, push_code_point, handle *, uint32_t)
+DECLARE(wtf8_result, push_units, handle *, const uint16_t *, size_t)
+DECLARE(wtf8_result, push_latin1, handle *, const uint8_t *, size_t)
+DECLARE(wtf8_result, push_utf8, handle *, const uint8_t *, size_t, size_t *)
+DECLARE(wtf8_result, push_utf8_part, handle *, const uint8_t *, size_t, size_t *, size_t *)
+DECLARE(wtf8_result, push_string, handle *, handle *)
+DECLARE(wtf8_result, push_slice, handle *, handle *, size_t, size_t)
+DECLARE(size_t, unit_len, handle *)
 DECLARE(size_t, encoded_len, const uint16_t *, size_t)
-DECLARE(size_t, byte_len, wtf8_string *)
-DECLARE(size_t, capacity, wtf8_string *)
-DECLARE(wtf8_result, position_at, wtf8_string *, size_t, size_t *)
-DECLARE(size_t, unit_before, wtf8_string *, size_t)
-DECLARE(wtf8_result, unit_at, wtf8_string *, size_t, uint16_t *)
-DECLARE(bool, is_boundary, wtf8_string *, size_t)
-DECLARE(bool, is_utf8, wtf8_string *)
-DECLARE(bool, equal, wtf8_string *, wtf8_string *)
-DECLARE(int32_t, compare_units, wtf8_string *, wtf8_string *)
-DECLARE(int32_t, compare_code_points, wtf8_string *, wtf8_string *)
-DECLARE(uint64_t, hash, wtf8_string *, uint64_t, uint64_t)
+DECLARE(size_t, byte_len, handle *)
+DECLARE(size_t, capacity, handle *)
+DECLARE(wtf8_result, position_at, handle *, size_t, size_t *)
+DECLARE(size_t, unit_before, handle *, size_t)
+DECLARE(wtf8_result, unit_at, handle *, size_t, uint16_t *)
+DECLARE(bool, is_boundary, handle *, size_t)
+DECLARE(bool, is_utf8, handle *)
+DECLARE(bool, equal, handle *, handle *)
+DECLARE(int32_t, compare_units, handle *, handle *)
+DECLARE(int32_t, compare_code_points, handle *, handle *)
+DECLARE(uint64_t, hash, handle *, uint64_t, uint64_t)
 DECLARE(uint64_t, hash_units, const uint16_t *, size_t, uint64_t, uint64_t)
 DECLARE(uint64_t, hash_utf8, const uint8_t *, size_t, uint64_t, uint64_t)
-DECLARE(wtf8_result, next_surrogate, wtf8_string *, size_t *, uint16_t *)
-DECLARE(wtf8_result, next_code_point, wtf8_string *, size_t *, uint32_t *)
-DECLARE(wtf8_result, previous_code_point, wtf8_string *, size_t *, uint32_t *)
-DECLARE(bool, equal_units, wtf8_string *, const uint16_t *, size_t)
-DECLARE(int32_t, compare_with_units, wtf8_string *, const uint16_t *, size_t)
-DECLARE(bool, equal_utf8, wtf8_string *, const uint8_t *, size_t)
-DECLARE(bool, starts_with, wtf8_string *, size_t, wtf8_string *)
-DECLARE(bool, starts_with_units, wtf8_string *, size_t, const uint16_t *, size_t)
-DECLARE(wtf8_result, truncate_bytes, wtf8_string *, size_t)
-DECLARE(wtf8_result, truncate_units, wtf8_string *, size_t)
-DECLARE(wtf8_result, pop, wtf8_string *, uint32_t *)
-DECLARE(wtf8_result, slice_units, wtf8_string *, wtf8_string *, size_t, size_t)
-DECLARE(wtf8_result, copy_code_points, wtf8_string *, size_t *, uint32_t *, size_t, size_t *)
-DECLARE(wtf8_result, copy_units, wtf8_string *, uint16_t *, size_t, size_t *)
-DECLARE(wtf8_result, copy_slice, wtf8_string *, size_t, size_t, uint16_t *, size_t, size_t *)
-DECLARE(wtf8_result, copy_utf8, wtf8_string *, uint8_t *, size_t, size_t *)
-DECLARE(wtf8_result, copy_lossy, wtf8_string *, uint8_t *, size_t, size_t *)
+DECLARE(wtf8_result, next_surrogate, handle *, size_t *, uint16_t *)
+DECLARE(wtf8_result, next_code_point, handle *, size_t *, uint32_t *)
+DECLARE(wtf8_result, previous_code_point, handle *, size_t *, uint32_t *)
+DECLARE(bool, equal_units, handle *, const uint16_t *, size_t)
+DECLARE(int32_t, compare_with_units, handle *, const uint16_t *, size_t)
+DECLARE(bool, equal_utf8, handle *, const uint8_t *, size_t)
+DECLARE(bool, starts_with, handle *, size_t, handle *)
+DECLARE(bool, starts_with_units, handle *, size_t, const uint16_t *, size_t)
+DECLARE(wtf8_result, truncate_bytes, handle *, size_t)
+DECLARE(wtf8_result, truncate_units, handle *, size_t)
+DECLARE(wtf8_result, pop, handle *, uint32_t *)
+DECLARE(wtf8_result, slice_units, handle *, handle *, size_t, size_t)
+DECLARE(wtf8_result, copy_code_points, handle *, size_t *, uint32_t *, size_t, size_t *)
+DECLARE(wtf8_result, copy_units, handle *, uint16_t *, size_t, size_t *)
+DECLARE(wtf8_result, copy_slice, handle *, size_t, size_t, uint16_t *, size_t, size_t *)
+DECLARE(wtf8_result, copy_utf8, handle *, uint8_t *, size_t, size_t *)
+DECLARE(wtf8_result, copy_lossy, handle *, uint8_t *, size_t, size_t *)
 
 static struct {
     void *(*allocate)(size_t);
@@ -145,147 +152,220 @@ void wtf8_own_free(void *block) {
     memory.release(block);
 }
 
+/* A string that a call asks. Of one without a buffer nothing is read, and nothing is written. */
+static inline handle asked(const wtf8_string *string) {
+    return (handle){(void *)string, string->words[0] != 0, false};
+}
+
+/* A string that a call changes. */
+static inline handle opened(wtf8_string *string) {
+    bool has_buffer = string->words[0] != 0;
+    return (handle){string, has_buffer, !has_buffer};
+}
+
+/* Leaves a string without a buffer as the empty one. Returns the code of the call that changed it. */
+static inline wtf8_result closed(wtf8_string *string, const handle *changed, wtf8_result code) {
+    if (__builtin_expect(!changed->full, 0)) *string = (wtf8_string)WTF8_EMPTY;
+    return code;
+}
+
 /* What an array of length 0 points to. Nothing is read or written there. */
 static uint16_t nothing[1];
 static uint32_t no_points[1];
 
+/* A string that has a buffer. */
+static inline handle full(wtf8_string *string) {
+    handle held;
+    held.at = string;
+    held.full = true;
+    held.has_place = false;
+    return held;
+}
+
+/* Defines change_NAME(parameters), a proved call that changes `string` and leaves it a buffer if it has one, as clause
+ * `stays` of its contract says. `names` are the names of the parameters, `arguments` what the call is given. */
+#define DEFINE_CHANGE(name, parameters, names, arguments)                                          \
+    static __attribute__((noinline)) wtf8_result change_empty_##name parameters {                  \
+        handle changed = opened(string);                                                           \
+        return closed(string, &changed, PROVED(name) arguments);                                   \
+    }                                                                                              \
+    static inline wtf8_result change_##name parameters {                                           \
+        if (__builtin_expect(string->words[0] == 0, 0)) return change_empty_##name names;          \
+        handle changed = full(string);                                                             \
+        return PROVED(name) arguments;                                                             \
+    }
+
+DEFINE_CHANGE(set_units, (wtf8_string *string, const uint16_t *units, size_t n), (string, units, n),
+              (&changed, n ? units : nothing, n))
+DEFINE_CHANGE(set_utf8, (wtf8_string *string, const uint8_t *text, size_t n, size_t *valid), (string, text, n, valid),
+              (&changed, n ? text : (const uint8_t *)nothing, n, valid))
+DEFINE_CHANGE(set_string, (wtf8_string *string, handle *other), (string, other), (&changed, other))
+DEFINE_CHANGE(slice_units, (wtf8_string *string, handle *other, size_t begin, size_t end), (string, other, begin, end),
+              (&changed, other, begin, end))
+DEFINE_CHANGE(mark, (wtf8_string *string), (string), (&changed))
+DEFINE_CHANGE(reserve_bytes, (wtf8_string *string, size_t additional), (string, additional), (&changed, additional))
+DEFINE_CHANGE(push_unit, (wtf8_string *string, uint16_t unit), (string, unit), (&changed, unit))
+DEFINE_CHANGE(push_code_point, (wtf8_string *string, uint32_t value), (string, value), (&changed, value))
+DEFINE_CHANGE(push_units, (wtf8_string *string, const uint16_t *units, size_t n), (string, units, n),
+              (&changed, n ? units : nothing, n))
+DEFINE_CHANGE(push_latin1, (wtf8_string *string, const uint8_t *text, size_t n), (string, text, n),
+              (&changed, n ? text : (const uint8_t *)nothing, n))
+DEFINE_CHANGE(push_utf8, (wtf8_string *string, const uint8_t *text, size_t n, size_t *valid), (string, text, n, valid),
+              (&changed, n ? text : (const uint8_t *)nothing, n, valid))
+DEFINE_CHANGE(push_utf8_part, (wtf8_string *string, const uint8_t *text, size_t n, size_t *used, size_t *bad),
+              (string, text, n, used, bad), (&changed, n ? text : (const uint8_t *)nothing, n, used, bad))
+DEFINE_CHANGE(push_string, (wtf8_string *string, handle *other), (string, other), (&changed, other))
+DEFINE_CHANGE(push_slice, (wtf8_string *string, handle *other, size_t begin, size_t end), (string, other, begin, end),
+              (&changed, other, begin, end))
+
 wtf8_result wtf8_set_units(wtf8_string *string, const uint16_t *units, size_t n) {
-    return PROVED(set_units)(string, n ? units : nothing, n);
+    return change_set_units(string, units, n);
 }
 
 wtf8_result wtf8_set_utf8(wtf8_string *string, const uint8_t *text, size_t n, size_t *valid) {
     size_t unused;
-    return PROVED(set_utf8)(string, n ? text : (const uint8_t *)nothing, n, valid ? valid : &unused);
+    return change_set_utf8(string, text, n, valid ? valid : &unused);
 }
 
 wtf8_result wtf8_set_string(wtf8_string *string, const wtf8_string *other) {
     if (string == other) return WTF8_OK;
-    wtf8_string copy = *other;
-    return PROVED(set_string)(string, &copy);
+    handle copy = asked(other);
+    return change_set_string(string, &copy);
 }
 
 void wtf8_clear(wtf8_string *string) {
-    PROVED(clear)(string);
+    if (string->words[0] == 0) return;
+    handle changed = full(string);
+    PROVED(clear)(&changed);
 }
 
 void wtf8_free(wtf8_string *string) {
-    PROVED(free)(string);
+    if (string->words[0] == 0) return;
+    handle changed = full(string);
+    PROVED(free)(&changed);
+    *string = (wtf8_string)WTF8_EMPTY;
 }
 
 wtf8_result wtf8_reserve_bytes(wtf8_string *string, size_t additional) {
-    return PROVED(reserve_bytes)(string, additional);
+    return change_reserve_bytes(string, additional);
 }
 
 void wtf8_shrink(wtf8_string *string) {
-    PROVED(shrink)(string);
+    if (string->words[0] == 0) return;
+    handle changed = full(string);
+    PROVED(shrink)(&changed);
 }
 
 wtf8_result wtf8_mark(wtf8_string *string) {
-    return PROVED(mark)(string);
+    return change_mark(string);
 }
 
 wtf8_result wtf8_push_unit(wtf8_string *string, uint16_t unit) {
-    return PROVED(push_unit)(string, unit);
+    return change_push_unit(string, unit);
 }
 
 wtf8_result wtf8_push_code_point(wtf8_string *string, uint32_t value) {
-    return PROVED(push_code_point)(string, value);
+    return change_push_code_point(string, value);
 }
 
 wtf8_result wtf8_push_units(wtf8_string *string, const uint16_t *units, size_t n) {
-    return PROVED(push_units)(string, n ? units : nothing, n);
+    return change_push_units(string, units, n);
 }
 
 wtf8_result wtf8_push_latin1(wtf8_string *string, const uint8_t *text, size_t n) {
-    return PROVED(push_latin1)(string, n ? text : (const uint8_t *)nothing, n);
+    return change_push_latin1(string, text, n);
 }
 
 wtf8_result wtf8_push_utf8(wtf8_string *string, const uint8_t *text, size_t n, size_t *valid) {
     size_t unused;
-    return PROVED(push_utf8)(string, n ? text : (const uint8_t *)nothing, n, valid ? valid : &unused);
+    return change_push_utf8(string, text, n, valid ? valid : &unused);
 }
 
 wtf8_result wtf8_push_utf8_part(wtf8_string *string, const uint8_t *text, size_t n, size_t *used, size_t *bad) {
-    return PROVED(push_utf8_part)(string, n ? text : (const uint8_t *)nothing, n, used, bad);
+    return change_push_utf8_part(string, text, n, used, bad);
 }
 
 wtf8_result wtf8_push_string(wtf8_string *string, const wtf8_string *other) {
-    wtf8_string copy = *other;
-    if (string != other) return PROVED(push_string)(string, &copy);
+    handle copy = asked(other);
+    if (string != other) return change_push_string(string, &copy);
+    handle changed = opened(string);
     wtf8_string second = WTF8_EMPTY;
-    wtf8_result code = PROVED(set_string)(&second, &copy);
-    if (code == WTF8_OK) code = PROVED(push_string)(string, &second);
-    PROVED(free)(&second);
-    return code;
+    handle made = opened(&second);
+    wtf8_result code = PROVED(set_string)(&made, &copy);
+    if (code == WTF8_OK) code = PROVED(push_string)(&changed, &made);
+    PROVED(free)(&made);
+    return closed(string, &changed, code);
 }
 
 wtf8_result wtf8_push_slice(wtf8_string *string, const wtf8_string *other, size_t begin, size_t end) {
-    wtf8_string copy = *other;
-    if (string != other) return PROVED(push_slice)(string, &copy, begin, end);
+    handle copy = asked(other);
+    if (string != other) return change_push_slice(string, &copy, begin, end);
+    handle changed = opened(string);
     wtf8_string part = WTF8_EMPTY;
-    wtf8_result code = PROVED(slice_units)(&part, &copy, begin, end);
-    if (code == WTF8_OK) code = PROVED(push_string)(string, &part);
-    PROVED(free)(&part);
-    return code;
+    handle made = opened(&part);
+    wtf8_result code = PROVED(slice_units)(&made, &copy, begin, end);
+    if (code == WTF8_OK) code = PROVED(push_string)(&changed, &made);
+    PROVED(free)(&made);
+    return closed(string, &changed, code);
 }
 
 size_t wtf8_unit_len(const wtf8_string *string) {
-    wtf8_string copy = *string;
+    handle copy = asked(string);
     return PROVED(unit_len)(&copy);
 }
 
 size_t wtf8_byte_len(const wtf8_string *string) {
-    wtf8_string copy = *string;
+    handle copy = asked(string);
     return PROVED(byte_len)(&copy);
 }
 
 size_t wtf8_capacity(const wtf8_string *string) {
-    wtf8_string copy = *string;
+    handle copy = asked(string);
     return PROVED(capacity)(&copy);
 }
 
 wtf8_result wtf8_position_at(const wtf8_string *string, size_t index, size_t *position) {
-    wtf8_string copy = *string;
+    handle copy = asked(string);
     return PROVED(position_at)(&copy, index, position);
 }
 
 size_t wtf8_unit_before(const wtf8_string *string, size_t position) {
-    wtf8_string copy = *string;
+    handle copy = asked(string);
     return PROVED(unit_before)(&copy, position);
 }
 
 wtf8_result wtf8_unit_at(const wtf8_string *string, size_t index, uint16_t *unit) {
-    wtf8_string copy = *string;
+    handle copy = asked(string);
     return PROVED(unit_at)(&copy, index, unit);
 }
 
 bool wtf8_is_boundary(const wtf8_string *string, size_t position) {
-    wtf8_string copy = *string;
+    handle copy = asked(string);
     return PROVED(is_boundary)(&copy, position);
 }
 
 bool wtf8_is_utf8(const wtf8_string *string) {
-    wtf8_string copy = *string;
+    handle copy = asked(string);
     return PROVED(is_utf8)(&copy);
 }
 
 bool wtf8_equal(const wtf8_string *string, const wtf8_string *other) {
-    wtf8_string copy = *string, others = *other;
+    handle copy = asked(string), others = asked(other);
     return string == other || PROVED(equal)(&copy, &others);
 }
 
 int32_t wtf8_compare_units(const wtf8_string *string, const wtf8_string *other) {
-    wtf8_string copy = *string, others = *other;
+    handle copy = asked(string), others = asked(other);
     return string == other ? 0 : PROVED(compare_units)(&copy, &others);
 }
 
 int32_t wtf8_compare_code_points(const wtf8_string *string, const wtf8_string *other) {
-    wtf8_string copy = *string, others = *other;
+    handle copy = asked(string), others = asked(other);
     return string == other ? 0 : PROVED(compare_code_points)(&copy, &others);
 }
 
 uint64_t wtf8_hash(const wtf8_string *string, uint64_t seed_0, uint64_t seed_1) {
-    wtf8_string copy = *string;
+    handle copy = asked(string);
     return PROVED(hash)(&copy, seed_0, seed_1);
 }
 
@@ -302,92 +382,99 @@ uint64_t wtf8_hash_utf8(const uint8_t *text, size_t n, uint64_t seed_0, uint64_t
 }
 
 wtf8_result wtf8_next_surrogate(const wtf8_string *string, size_t *position, uint16_t *unit) {
-    wtf8_string copy = *string;
+    handle copy = asked(string);
     return PROVED(next_surrogate)(&copy, position, unit);
 }
 
 wtf8_result wtf8_next_code_point(const wtf8_string *string, size_t *position, uint32_t *code_point) {
-    wtf8_string copy = *string;
+    handle copy = asked(string);
     return PROVED(next_code_point)(&copy, position, code_point);
 }
 
 wtf8_result wtf8_previous_code_point(const wtf8_string *string, size_t *position, uint32_t *code_point) {
-    wtf8_string copy = *string;
+    handle copy = asked(string);
     return PROVED(previous_code_point)(&copy, position, code_point);
 }
 
 bool wtf8_equal_units(const wtf8_string *string, const uint16_t *units, size_t n) {
-    wtf8_string copy = *string;
+    handle copy = asked(string);
     return PROVED(equal_units)(&copy, n ? units : nothing, n);
 }
 
 int32_t wtf8_compare_with_units(const wtf8_string *string, const uint16_t *units, size_t n) {
-    wtf8_string copy = *string;
+    handle copy = asked(string);
     return PROVED(compare_with_units)(&copy, n ? units : nothing, n);
 }
 
 bool wtf8_equal_utf8(const wtf8_string *string, const uint8_t *text, size_t n) {
-    wtf8_string copy = *string;
+    handle copy = asked(string);
     return PROVED(equal_utf8)(&copy, n ? text : (const uint8_t *)nothing, n);
 }
 
 bool wtf8_starts_with(const wtf8_string *string, size_t index, const wtf8_string *other) {
-    wtf8_string copy = *string, others = *other;
+    handle copy = asked(string), others = asked(other);
     if (string != other) return PROVED(starts_with)(&copy, index, &others);
     return index == 0 || PROVED(unit_len)(&copy) == 0;
 }
 
 bool wtf8_starts_with_units(const wtf8_string *string, size_t index, const uint16_t *units, size_t n) {
-    wtf8_string copy = *string;
+    handle copy = asked(string);
     return PROVED(starts_with_units)(&copy, index, n ? units : nothing, n);
 }
 
 wtf8_result wtf8_truncate_bytes(wtf8_string *string, size_t position) {
-    return PROVED(truncate_bytes)(string, position);
+    handle changed = opened(string);
+    return closed(string, &changed, PROVED(truncate_bytes)(&changed, position));
 }
 
 wtf8_result wtf8_truncate_units(wtf8_string *string, size_t n) {
-    return PROVED(truncate_units)(string, n);
+    handle changed = opened(string);
+    return closed(string, &changed, PROVED(truncate_units)(&changed, n));
 }
 
 wtf8_result wtf8_pop(wtf8_string *string, uint32_t *code_point) {
-    return PROVED(pop)(string, code_point);
+    handle changed = opened(string);
+    return closed(string, &changed, PROVED(pop)(&changed, code_point));
 }
 
 wtf8_result wtf8_slice_units(wtf8_string *into, const wtf8_string *string, size_t begin, size_t end) {
-    wtf8_string copy = *string;
-    if (string != into) return PROVED(slice_units)(into, &copy, begin, end);
+    handle copy = asked(string);
+    if (string != into) return change_slice_units(into, &copy, begin, end);
+    handle changed = opened(into);
     wtf8_string part = WTF8_EMPTY;
-    wtf8_result code = PROVED(slice_units)(&part, &copy, begin, end);
+    handle made = opened(&part);
+    wtf8_result code = PROVED(slice_units)(&made, &copy, begin, end);
     if (code == WTF8_OK) {
-        PROVED(free)(into);
+        PROVED(free)(&changed);
         *into = part;
+        return closed(into, &made, code);
     }
+    PROVED(free)(&made);
     return code;
 }
 
 wtf8_result wtf8_copy_units(const wtf8_string *string, uint16_t *out, size_t size, size_t *len) {
-    wtf8_string copy = *string;
+    handle copy = asked(string);
     return PROVED(copy_units)(&copy, size ? out : nothing, size, len);
 }
 
 wtf8_result wtf8_copy_code_points(const wtf8_string *string, size_t *position, uint32_t *out, size_t size, size_t *len) {
-    wtf8_string copy = *string;
+    handle copy = asked(string);
     return PROVED(copy_code_points)(&copy, position, size ? out : no_points, size, len);
 }
 
 wtf8_result wtf8_copy_slice(const wtf8_string *string, size_t begin, size_t end, uint16_t *out, size_t size, size_t *len) {
-    wtf8_string copy = *string;
+    handle copy = asked(string);
     return PROVED(copy_slice)(&copy, begin, end, size ? out : nothing, size, len);
 }
 
 wtf8_result wtf8_copy_utf8(const wtf8_string *string, uint8_t *out, size_t size, size_t *len) {
-    wtf8_string copy = *string;
+    handle copy = asked(string);
     return PROVED(copy_utf8)(&copy, size ? out : (uint8_t *)nothing, size, len);
 }
 
 wtf8_result wtf8_copy_lossy(const wtf8_string *string, uint8_t *out, size_t size, size_t *len) {
-    wtf8_string copy = *string;
+    handle copy = asked(string);
     return PROVED(copy_lossy)(&copy, size ? out : (uint8_t *)nothing, size, len);
 }
 

@@ -10,7 +10,7 @@
  *   `valid`.
  * - Arrays do not overlap each other, nor a string, nor a number that the call writes.
  * - A string is made by WTF8_EMPTY or by setting all its bytes to 0, and freed by wtf8_free, whatever calls returned. Its
- *   fields are not read or written. An assignment, memcpy or realloc moves it: of the old place only a new WTF8_EMPTY may
+ *   words are not read or written. An assignment, memcpy or realloc moves it: of the old place only a new WTF8_EMPTY may
  *   be made. A second string is made by wtf8_set_string.
  * - While a call changes a string, no other call uses it. Calls that take it as const only read it: any number of them
  *   may use one string at once, in any threads. Changes are ordered before and after them by a lock, a thread's start or
@@ -27,7 +27,7 @@
  *
  * Costs: a call takes time linear in the units or bytes that it is given or hands out, if its text says no other. An
  * append to a string without room for it moves the string to a block of at least twice the capacity, so that n appends of
- * a unit take time linear in n. A string takes two blocks, and none before its first change.
+ * a unit take time linear in n. A string takes one block, and none while nothing was written to it.
  */
 #ifndef WTF8_H
 #define WTF8_H
@@ -50,18 +50,20 @@ extern "C" {
 #define WTF8_CODE
 #endif
 
-/* A string. It owns its memory; the caller owns the struct, whose size is part of the binary interface, as are the
- * numbers of the codes: libwtf8.so.0 keeps them. */
+/* The number of words in the struct of a string. */
+#define WTF8_WORDS 7
+
+/* A string: the struct holds all but its bytes and its marks. It owns its memory; the caller owns the struct, whose size is
+ * part of the binary interface, as are the numbers of the codes: libwtf8.so.0 keeps them. */
 typedef struct {
-    void *at;
-    bool full;
+    uint64_t words[WTF8_WORDS];
 } wtf8_string;
 
 /* The empty string: `wtf8_string name = WTF8_EMPTY;`. */
 #ifdef __cplusplus
 #define WTF8_EMPTY {}
 #else
-#define WTF8_EMPTY {0}
+#define WTF8_EMPTY {{0}}
 #endif
 
 /* What calls return. Any code but WTF8_OK says that no string and no array was changed; only the capacity of a string that
@@ -92,8 +94,7 @@ void wtf8_use_memory(void *(*allocate)(size_t), void *(*reallocate)(void *, size
  *
  * A wtf8_set_ call uses the string's capacity if the new string fits it, and keeps it, and is not refused then: of a text
  * or a string the bytes have to fit, of up to 1,024 units 3 bytes for each, of more units their bytes. Else it makes a new
- * buffer, and keeps the old one until that is filled. A string without a buffer gets one, which may be refused, also for
- * an empty string.
+ * buffer, and keeps the old one until that is filled. A string that was not written has no capacity.
  */
 
 /* The number of bytes of a string with these `n` units: 1 for each below 80, 2 for each other below 800, 4 for each
@@ -119,8 +120,8 @@ void wtf8_clear(wtf8_string *string);
 /* Frees what the string owns, which is the empty string then. Freeing it again does nothing. */
 void wtf8_free(wtf8_string *string);
 
-/* Reserves capacity for at least `additional` more bytes: a unit takes at most 3. Never refused if they fit, except that
- * 0 bytes for a string without a buffer may be. Codes: OK, NO_MEMORY. */
+/* Reserves capacity for at least `additional` more bytes: a unit takes at most 3. Never refused if they fit. Codes: OK,
+ * NO_MEMORY. */
 WTF8_CODE wtf8_result wtf8_reserve_bytes(wtf8_string *string, size_t additional);
 
 /* Gives the capacity back that the string does not use. If memory for the smaller block is refused, it keeps the capacity. */
@@ -135,15 +136,13 @@ void wtf8_shrink(wtf8_string *string);
 /* Makes a mark for each 128 units of the string, if it is not ASCII. Appends and truncations keep the marks; a
  * wtf8_set_ call and wtf8_slice_units lose those of the string that they replace. A mark for which memory is refused is
  * left out, as those after it, until an append finds memory for them. If the block that lists the marks is refused, none
- * are kept until the next wtf8_mark. Only a string without a buffer is refused memory. Linear in the length. Codes: OK,
- * NO_MEMORY. */
+ * are kept until the next wtf8_mark. Linear in the length. Codes: OK. */
 WTF8_CODE wtf8_result wtf8_mark(wtf8_string *string);
 
 /* ---- Appending ---- */
 
 /* Each appends to the string. A trail after a lead completes the pair. A call whose bytes fit the capacity is never
- * refused, except as wtf8_push_string and wtf8_push_slice say of one string passed twice, and that to append nothing to a
- * string without a buffer may be. */
+ * refused, except as wtf8_push_string and wtf8_push_slice say of one string passed twice. */
 
 /* One unit. Never refused if it fits. Codes: OK, NO_MEMORY. */
 WTF8_CODE wtf8_result wtf8_push_unit(wtf8_string *string, uint16_t unit);

@@ -109,7 +109,7 @@ public:
     string &operator=(string &&other) noexcept { string(std::move(other)).swap(*this); return *this; }
     void swap(string &other) noexcept { std::swap(string_, other.string_); }
     ~string() {
-        if (string_.full) wtf8_free(&string_);
+        if (string_.words[0]) wtf8_free(&string_);
     }
     /* For calls of wtf8.h. A struct that is adopted is freed by the string, one that is released by wtf8_free. */
     WTF8_NODISCARD wtf8_string *get() noexcept { return &string_; }

@@ -24,7 +24,7 @@ lib.wtf8_hash.restype = ctypes.c_uint64
 class Struct(ctypes.Structure):
     """A wtf8_string."""
 
-    _fields_ = [("at", ctypes.c_void_p), ("full", ctypes.c_bool)]
+    _fields_ = [("words", ctypes.c_uint64 * 7)]
 
 
 class String:

@@ -424,7 +424,6 @@ static void test_refusals() {
     const std::vector<std::function<void(string &)>> calls = {
         [](string &) { string(mixed.data(), 4); },
         [](string &) { (void)string::from_utf8("text"); },
-        [](string &) { string().mark(); },
         [](string &s) { (void)s.clone(); },
         [](string &s) { (void)s.slice(1, 2); },
         [](string &s) { s.assign(std::u16string(1000, u'y')); },
@@ -470,6 +469,9 @@ static void test_without_memory() {
     a.swap(b);
     a.shrink();
     a.append(u"").truncate_units(4);
+    string empty;
+    empty.mark();
+    must(empty.assign(u"").append(u"").units().empty(), "an empty string without memory");
     must(a.units() == mixed && a == mixed && a.lossy() == "a\xF0\x9F\x92\xA9\xEF\xBF\xBD", "the lossy text without memory");
     must(a.assign(u"b").units() == u"b", "calls without memory");
     must(a.starts_with(u"b") && a.ends_with(u"b") && *a.begin() == U'b', "questions without memory");

@@ -996,9 +996,8 @@ static void marks(void) {
     }
     wtf8_string none = WTF8_EMPTY;
     refuse_after = 0;
-    must(wtf8_mark(&none) == WTF8_NO_MEMORY, "marks of a string without a buffer");
+    must(wtf8_mark(&none) == WTF8_OK, "marks of a string without a buffer");
     refuse_after = -1;
-    must(wtf8_mark(&none) == WTF8_OK, "marks of an empty string");
     marked_units(units, MARKED, 0);
     for (size_t i = 0; i < MARKED; i++) must(wtf8_push_unit(&none, units[i]) == WTF8_OK, "a unit of a marked string");
     must_find(&none, units, MARKED, "a string that was marked when it was empty");
@@ -1250,6 +1249,49 @@ static void growth(void) {
     }
 }
 
+struct guarded {
+    uint8_t before[64];
+    wtf8_string string;
+    uint8_t after[64];
+};
+
+/* Whether nothing was written beside the struct. */
+static int is_alone(const struct guarded *g) {
+    for (size_t i = 0; i < sizeof g->before; i++)
+        if (g->before[i] != 0xA5 || g->after[i] != 0xA5) return 0;
+    return 1;
+}
+
+/* Nothing is written beside the struct of a string, which may be moved between calls, is 0 without a buffer, and takes one
+ * request for bytes. */
+static void structs(void) {
+    static const wtf8_string none = WTF8_EMPTY;
+    for (size_t n = 0; n < 300; n++) {
+        struct guarded here, there;
+        uint32_t popped;
+        memset(&here, 0xA5, sizeof here);
+        here.string = none;
+        must(wtf8_unit_len(&here.string) == 0 && wtf8_capacity(&here.string) == 0, "a string that was not written");
+        must(memcmp(&here.string, &none, sizeof none) == 0, "the struct of a string that was asked");
+        long requested = requests;
+        must(wtf8_set_utf8(&here.string, letters, n, NULL) == WTF8_OK, "a string in a struct");
+        must(requests == requested + (n > 0), "the requests of a string");
+        must(here.string.words[0] != 0, "the first word of a string that has a buffer");
+        memcpy(&there, &here, sizeof here);
+        memset(&here.string, 0xFF, sizeof here.string);
+        must(wtf8_push_unit(&there.string, 0x4E2D) == WTF8_OK && wtf8_mark(&there.string) == WTF8_OK, "a moved string");
+        memcpy(&here, &there, sizeof there);
+        memset(&there.string, 0xFF, sizeof there.string);
+        must(wtf8_pop(&here.string, &popped) == WTF8_OK && popped == 0x4E2D, "a moved string is cut");
+        must(wtf8_unit_len(&here.string) == n, "the length of a moved string");
+        must(wtf8_set_string(&here.string, &none) == WTF8_OK && wtf8_unit_len(&here.string) == 0, "a moved string is set");
+        wtf8_free(&here.string);
+        must(memcmp(&here.string, &none, sizeof none) == 0, "the struct of a freed string");
+        must(is_alone(&here) && is_alone(&there), "bytes beside a struct");
+        must(blocks == 0, "a block of a moved string");
+    }
+}
+
 /* Each code has a text of its own, with a word of its meaning, and so has what is no code. */
 static void texts_of_codes(void) {
     static const char *const words[] = {
@@ -1295,6 +1337,7 @@ int main(void) {
     shrinks();
     kept_capacity();
     growth();
+    structs();
     texts_of_codes();
     printf("edges: %ld requests, no difference\n", requests);
     return 0;

@@ -341,7 +341,7 @@ static void step(enum call call, struct pair *p, struct pair *q) {
         case MARK:
             if (below(2)) refuse_after = 0;
             code = wtf8_mark(&p->string);
-            must(code == WTF8_OK || capacity == 0, "mark of a string with a buffer");
+            must(code == WTF8_OK, "mark of a string");
             if (code == WTF8_OK) p->is_marked = 1;
             break;
         case FILL: fill(p, q); break;
@@ -633,7 +633,7 @@ int main(int count, char **words) {
     must(blocks == 0, "a block is not given back");
     static const int reached[][2] = {
         {SET_UNITS, WTF8_NO_MEMORY}, {SET_UTF8, WTF8_NO_MEMORY}, {SET_UTF8, WTF8_NOT_UTF8}, {SET_STRING, WTF8_NO_MEMORY},
-        {RESERVE, WTF8_NO_MEMORY}, {MARK, WTF8_NO_MEMORY}, {PUSH_UNIT, WTF8_NO_MEMORY}, {PUSH_POINT, WTF8_NO_MEMORY},
+        {RESERVE, WTF8_NO_MEMORY}, {PUSH_UNIT, WTF8_NO_MEMORY}, {PUSH_POINT, WTF8_NO_MEMORY},
         {PUSH_POINT, WTF8_BAD_CODE_POINT}, {PUSH_UNITS, WTF8_NO_MEMORY}, {PUSH_LATIN1, WTF8_NO_MEMORY},
         {PUSH_UTF8, WTF8_NO_MEMORY}, {PUSH_UTF8, WTF8_NOT_UTF8}, {PUSH_PART, WTF8_NO_MEMORY},
         {PUSH_STRING, WTF8_NO_MEMORY}, {PUSH_SLICE, WTF8_NO_MEMORY},

@@ -1,13 +1,14 @@
 -- What follows from the code that a call returns, and from the buffer that it worked on.
-use Rattle.std.proofs.Common.{◌≡◌, ℕ, ◌<◌, ◌≤◌, ◌⊎◌, ◌↔◌, inl, inr, ℤ, pos, Bool, false, nat_eq, refl, sym, ap, ◌∙◌}
+use Rattle.std.proofs.Common.{◌≡◌, ℕ, ◌<◌, ◌≤◌, ◌⊎◌, ◌↔◌, inl, inr, ℤ, pos, false, nat_eq, refl, sym, ap, ◌∙◌}
 use Rattle.std.proofs.Common.{subst}
 use Rattle.std.proofs.Common.{List, ◌++◌, Result, Ok, Err, to_z, of_z, w32, arith}
-use Rattle.std.specs.Prelude.{IsOk, IsErr, OnOk, OnErr, IsTrue}
+use Rattle.std.specs.Prelude.{IsOk, IsErr, OnOk, OnErr}
 use Rattle.std.proofs.lemmas.Bool.Decides.{nat_tests}
 use borrow.Author.Rules.{sfits_of}
 use lib.Signed.{mag}
 use mir.Facts.{to_z-of_z}
 use Rattle.wtf8.specs.Appending.{KeepsContents, HasRoomFor}
+use Rattle.wtf8.specs.Form.{IsForm}
 use Rattle.wtf8.specs.UnitString.{UnitString}
 
 -- a code is none of the others
@@ -68,42 +69,47 @@ ok_or_no_memory (Err x) k h = inr (h.memory.1 refl)
 pub once_ok : {T E P : Type 0} {r : Result T E} {k : ℤ} → IsCodeOf r k → OnOk r P → k ≡ pos 0 → P
 once_ok {r = r} h p e = on_ok r p (h.ok.0 e)
 
--- the buffer `d` that was taken out of the string `old`, or made for it, and, changed to `n`, put back: the string is `s` then
-pub record Opened (old d : UnitString) (full : Bool) : Type 0 where
+-- the buffer `d` of a string that was `old`, or an empty one if that had none
+pub record Opened (old d : UnitString) : Type 0 where
   pub units : d.units ≡ old.units
   pub bytes : d.bytes ≡ old.bytes
   pub capacity : old.capacity ≤ d.capacity
-  pub held : IsTrue full → d ≡ old
 
-pub opened : {old b d : UnitString} {full : Bool} → d ≡ b → b.units ≡ old.units → b.bytes ≡ old.bytes → old.capacity ≤ b.capacity
-    → (IsTrue full → b ≡ old) → Opened old d full
-opened {old} {full = full} is u w m h =
-    subst (λ x. Opened old x full) (sym is) (record { units = u; bytes = w; capacity = m; held = h })
+pub opened : {old b d : UnitString} → d ≡ b → b.units ≡ old.units → b.bytes ≡ old.bytes → old.capacity ≤ b.capacity → Opened old d
+opened {old} is u w m = subst (λ x. Opened old x) (sym is) (record { units = u; bytes = w; capacity = m })
 
-pub appended : {T E : Type 0} {r : Result T E} {k : ℤ} {old d n s : UnitString} {full : Bool} (us : List ℕ) → IsCodeOf r k
-    → Opened old d full → s ≡ n → OnOk r (n.units ≡ d.units ++ us) → k ≡ pos 0 → s.units ≡ old.units ++ us
-appended us h o put ok e = ap (λ x. x.units) put ∙ once_ok h ok e ∙ ap (λ x. x ++ us) o.units
+pub appended : {T E : Type 0} {r : Result T E} {k : ℤ} {old d : UnitString} {u : List ℕ} (us : List ℕ) → IsCodeOf r k
+    → Opened old d → OnOk r (u ≡ d.units ++ us) → k ≡ pos 0 → u ≡ old.units ++ us
+appended us h o ok e = once_ok h ok e ∙ ap (λ x. x ++ us) o.units
 
-pub kept : {T E : Type 0} {r : Result T E} {k : ℤ} {old d n s : UnitString} {full : Bool} → IsCodeOf r k → Opened old d full
-    → s ≡ n → OnErr r (KeepsContents d n) → k ≡ pos 1 → KeepsContents old s
-kept {r = r} h o put err e =
-    let same = on_err r err (h.memory.0 e) in
-    record { units = ap (λ x. x.units) put ∙ same.units ∙ o.units; bytes = ap (λ x. x.bytes) put ∙ same.bytes ∙ o.bytes }
+pub kept_by : {old d n : UnitString} → Opened old d → KeepsContents d n → KeepsContents old n
+kept_by o same = record { units = same.units ∙ o.units; bytes = same.bytes ∙ o.bytes }
 
-pub kept_unless_ok : {T E : Type 0} {r : Result T E} {k : ℤ} {old d n s : UnitString} {full : Bool} → IsCodeOf r k → Opened old d full
-    → s ≡ n → OnErr r (KeepsContents d n) → ¬ (k ≡ pos 0) → KeepsContents old s
-kept_unless_ok {r = r} {k} h o put err not = elim (ok_or_no_memory r k h) [
+pub kept : {T E : Type 0} {r : Result T E} {k : ℤ} {old d n : UnitString} → IsCodeOf r k → Opened old d
+    → OnErr r (KeepsContents d n) → k ≡ pos 1 → KeepsContents old n
+kept {r = r} h o err e = kept_by o (on_err r err (h.memory.0 e))
+
+pub kept_unless_ok : {T E : Type 0} {r : Result T E} {k : ℤ} {old d n : UnitString} → IsCodeOf r k → Opened old d
+    → OnErr r (KeepsContents d n) → ¬ (k ≡ pos 0) → KeepsContents old n
+kept_unless_ok {r = r} {k} h o err not = elim (ok_or_no_memory r k h) [
   | inl e ↦ absurd (not e)
-  | inr e ↦ kept h o put err e
+  | inr e ↦ kept h o err e
 ]
 
-pub room : {T E : Type 0} {r : Result T E} {k : ℤ} {old d : UnitString} {full : Bool} (us : List ℕ) → IsCodeOf r k → Opened old d full
-    → (HasRoomFor d us → IsOk r) → IsTrue full → HasRoomFor old us → k ≡ pos 0
-room us h o ok is fit = h.ok.1 (ok (subst (λ x. HasRoomFor x us) (sym (o.held is)) fit))
+-- what fits the string fits its buffer
+fits_buffer : {old d : UnitString} (us : List ℕ) → Opened old d → HasRoomFor old us → HasRoomFor d us
+fits_buffer {old} {d} us o fit = record {
+  whole = fit.whole;
+  form = subst (λ x. IsForm fit.whole (x ++ us)) (sym o.units) fit.form;
+  within = omega (arith, fit.within, o.capacity);
+}
 
-pub capacity_kept : {old d n s : UnitString} {full : Bool} → Opened old d full → s ≡ n → d.capacity ≤ n.capacity
-    → old.capacity ≤ s.capacity
-capacity_kept {old} o put m = subst (λ x. old.capacity ≤ x.capacity) (sym put) (omega (arith, o.capacity, m))
+pub room : {T E A : Type 0} {r : Result T E} {k : ℤ} {old d : UnitString} (us : List ℕ) → IsCodeOf r k → Opened old d
+    → (HasRoomFor d us → IsOk r) → A → HasRoomFor old us → k ≡ pos 0
+room us h o ok can fit = h.ok.1 (ok (fits_buffer us o fit))
+
+pub capacity_kept : {old d : UnitString} {m : ℕ} → Opened old d → d.capacity ≤ m → old.capacity ≤ m
+capacity_kept o l = omega (arith, o.capacity, l)
 
 -- the same where no buffer was made
 pub kept_same : {old s : UnitString} → s ≡ old → KeepsContents old s

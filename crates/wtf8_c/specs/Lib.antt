@@ -2,6 +2,7 @@ pub mod Contents
 pub mod Front
 pub mod Halves
 pub mod Hashing
+pub mod Lending
 pub mod Ownership
 pub mod Utf8Front
 pub mod Walks

@@ -4,7 +4,7 @@ ghost use Rattle.std.specs.Str.{chars, IsUtf8};
 ghost use Rattle.std.specs.Str.Lossy.{utf8_valid_len};
 ghost use Rattle.wtf8.specs.Appending.{AppendsUnits, KeepsContents, HasRoomFor};
 ghost use Rattle.wtf8.specs.Unicode.{IsCodePoint, units, units_of};
-ghost use Rattle.wtf8_c.specs.Contents.{contents};
+ghost use Rattle.wtf8_c.specs.Contents.{contents, CanHoldUnits};
 ghost use Rattle.wtf8_c.specs.Utf8Front.{utf8_front, bad_len};
 
 use crate::codes::{BAD_CODE_POINT, NO_MEMORY, NOT_UTF8, OK, code_of};
@@ -21,15 +21,14 @@ pub extern "C" fn wtf8_push_unit(alloc: Global, string: &mut Wtf8String, unit: u
     ensures code { (result ≡ OK) ⊎ (result ≡ NO_MEMORY) }
     ensures ok { result ≡ OK → AppendsUnits (contents string.old) (unit ∷ []) (contents string.new) }
     ensures kept { result ≡ NO_MEMORY → KeepsContents (contents string.old) (contents string.new) }
-    ensures room { IsTrue string.old.full → HasRoomFor (contents string.old) (units_of unit) → result ≡ OK }
+    ensures room { CanHoldUnits string.old → HasRoomFor (contents string.old) (units_of unit) → result ≡ OK }
     ensures capacity { (contents string.old).capacity ≤ (contents string.new).capacity }
+    ensures stays { IsTrue string.old.full → IsTrue string.new.full }
 {
-    let Ok(mut buf) = string.open(alloc) else {
+    let Ok(()) = string.ready(alloc) else {
         return NO_MEMORY;
     };
-    let pushed = buf.push_unit(unit);
-    string.put(buf);
-    code_of(pushed)
+    code_of(string.buffer().push_unit(unit))
 }
 
 /// Appends a code point.
@@ -39,18 +38,17 @@ pub extern "C" fn wtf8_push_code_point(alloc: Global, string: &mut Wtf8String, v
     ensures bad_code_point { result ≡ BAD_CODE_POINT ↔ ¬ (IsCodePoint value) }
     ensures ok { result ≡ OK → AppendsUnits (contents string.old) (units_of value) (contents string.new) }
     ensures kept { ¬ (result ≡ OK) → KeepsContents (contents string.old) (contents string.new) }
-    ensures room { IsTrue string.old.full → IsCodePoint value → HasRoomFor (contents string.old) (units_of value) → result ≡ OK }
+    ensures room { CanHoldUnits string.old → IsCodePoint value → HasRoomFor (contents string.old) (units_of value) → result ≡ OK }
     ensures capacity { (contents string.old).capacity ≤ (contents string.new).capacity }
+    ensures stays { IsTrue string.old.full → IsTrue string.new.full }
 {
     let Some(point) = CodePoint::from_u32(value) else {
         return BAD_CODE_POINT;
     };
-    let Ok(mut buf) = string.open(alloc) else {
+    let Ok(()) = string.ready(alloc) else {
         return NO_MEMORY;
     };
-    let pushed = buf.push(point);
-    string.put(buf);
-    code_of(pushed)
+    code_of(string.buffer().push(point))
 }
 
 /// Appends units.
@@ -59,15 +57,14 @@ pub extern "C" fn wtf8_push_units(alloc: Global, string: &mut Wtf8String, units:
     ensures code { (result ≡ OK) ⊎ (result ≡ NO_MEMORY) }
     ensures ok { result ≡ OK → AppendsUnits (contents string.old) units.now (contents string.new) }
     ensures kept { result ≡ NO_MEMORY → KeepsContents (contents string.old) (contents string.new) }
-    ensures room { IsTrue string.old.full → HasRoomFor (contents string.old) units.now → result ≡ OK }
+    ensures room { CanHoldUnits string.old → HasRoomFor (contents string.old) units.now → result ≡ OK }
     ensures capacity { (contents string.old).capacity ≤ (contents string.new).capacity }
+    ensures stays { IsTrue string.old.full → IsTrue string.new.full }
 {
-    let Ok(mut buf) = string.open(alloc) else {
+    let Ok(()) = string.ready(alloc) else {
         return NO_MEMORY;
     };
-    let pushed = buf.push_units(units);
-    string.put(buf);
-    code_of(pushed)
+    code_of(string.buffer().push_units(units))
 }
 
 /// Appends a text in Latin-1: the code points of its bytes.
@@ -76,15 +73,14 @@ pub extern "C" fn wtf8_push_latin1(alloc: Global, string: &mut Wtf8String, text:
     ensures code { (result ≡ OK) ⊎ (result ≡ NO_MEMORY) }
     ensures ok { result ≡ OK → AppendsUnits (contents string.old) text.now (contents string.new) }
     ensures kept { result ≡ NO_MEMORY → KeepsContents (contents string.old) (contents string.new) }
-    ensures room { IsTrue string.old.full → HasRoomFor (contents string.old) text.now → result ≡ OK }
+    ensures room { CanHoldUnits string.old → HasRoomFor (contents string.old) text.now → result ≡ OK }
     ensures capacity { (contents string.old).capacity ≤ (contents string.new).capacity }
+    ensures stays { IsTrue string.old.full → IsTrue string.new.full }
 {
-    let Ok(mut buf) = string.open(alloc) else {
+    let Ok(()) = string.ready(alloc) else {
         return NO_MEMORY;
     };
-    let pushed = push_bytes(&mut buf, text);
-    string.put(buf);
-    code_of(pushed)
+    code_of(push_bytes(string.buffer(), text))
 }
 
 /// Appends a text, which must be UTF-8. If it is not, the length of its longest front that is UTF-8 is written to
@@ -100,10 +96,11 @@ pub extern "C" fn wtf8_push_utf8(
     ensures not_utf8 { result ≡ NOT_UTF8 ↔ ¬ (IsUtf8 text.now) }
     ensures ok { result ≡ OK → AppendsUnits (contents string.old) (units (chars text.now)) (contents string.new) }
     ensures kept { ¬ (result ≡ OK) → KeepsContents (contents string.old) (contents string.new) }
-    ensures room { IsTrue string.old.full → IsUtf8 text.now → HasRoomFor (contents string.old) (units (chars text.now)) → result ≡ OK }
+    ensures room { CanHoldUnits string.old → IsUtf8 text.now → HasRoomFor (contents string.old) (units (chars text.now)) → result ≡ OK }
     ensures valid { result ≡ NOT_UTF8 → valid.new ≡ utf8_valid_len text.now }
     ensures valid_kept { ¬ (result ≡ NOT_UTF8) → valid.new ≡ valid.old }
     ensures capacity { (contents string.old).capacity ≤ (contents string.new).capacity }
+    ensures stays { IsTrue string.old.full → IsTrue string.new.full }
 {
     match from_utf8(text) {
         Ok(text) => push_text(alloc, string, text),
@@ -127,12 +124,13 @@ pub extern "C" fn wtf8_push_utf8_part(
     ensures code { (result ≡ OK) ⊎ (result ≡ NO_MEMORY) }
     ensures ok { result ≡ OK → AppendsUnits (contents string.old) (units (chars (utf8_front text.now))) (contents string.new) }
     ensures kept { result ≡ NO_MEMORY → KeepsContents (contents string.old) (contents string.new) }
-    ensures room { IsTrue string.old.full → HasRoomFor (contents string.old) (units (chars (utf8_front text.now))) → result ≡ OK }
+    ensures room { CanHoldUnits string.old → HasRoomFor (contents string.old) (units (chars (utf8_front text.now))) → result ≡ OK }
     ensures capacity { (contents string.old).capacity ≤ (contents string.new).capacity }
     ensures used { result ≡ OK → used.new ≡ utf8_valid_len text.now }
     ensures bad { result ≡ OK → bad.new ≡ bad_len text.now }
     ensures used_kept { result ≡ NO_MEMORY → used.new ≡ used.old }
     ensures bad_kept { result ≡ NO_MEMORY → bad.new ≡ bad.old }
+    ensures stays { IsTrue string.old.full → IsTrue string.new.full }
 {
     let (front, after) = read_front(text);
     let code = push_text(alloc, string, front);
@@ -163,15 +161,14 @@ fn push_text(alloc: Global, string: &mut Wtf8String, text: &str) -> i32
     ensures code { (result ≡ OK) ⊎ (result ≡ NO_MEMORY) }
     ensures ok { result ≡ OK → AppendsUnits (contents string.old) (units (chars text.now)) (contents string.new) }
     ensures kept { result ≡ NO_MEMORY → KeepsContents (contents string.old) (contents string.new) }
-    ensures room { IsTrue string.old.full → HasRoomFor (contents string.old) (units (chars text.now)) → result ≡ OK }
+    ensures room { CanHoldUnits string.old → HasRoomFor (contents string.old) (units (chars text.now)) → result ≡ OK }
     ensures capacity { (contents string.old).capacity ≤ (contents string.new).capacity }
+    ensures stays { IsTrue string.old.full → IsTrue string.new.full }
 {
-    let Ok(mut buf) = string.open(alloc) else {
+    let Ok(()) = string.ready(alloc) else {
         return NO_MEMORY;
     };
-    let pushed = buf.push_str(text);
-    string.put(buf);
-    code_of(pushed)
+    code_of(string.buffer().push_str(text))
 }
 
 /// Appends another string.
@@ -185,15 +182,15 @@ pub extern "C" fn wtf8_push_string(
     ensures ok { result ≡ OK → AppendsUnits (contents string.old) (contents other.old).units (contents string.new) }
     ensures kept { result ≡ NO_MEMORY → KeepsContents (contents string.old) (contents string.new) }
     ensures other { contents other.new ≡ contents other.old }
-    ensures room { IsTrue string.old.full → HasRoomFor (contents string.old) (contents other.old).units → result ≡ OK }
+    ensures room { CanHoldUnits string.old → HasRoomFor (contents string.old) (contents other.old).units → result ≡ OK }
     ensures capacity { (contents string.old).capacity ≤ (contents string.new).capacity }
+    ensures stays { IsTrue string.old.full → IsTrue string.new.full }
 {
-    let Ok(mut buf) = string.open(alloc) else {
+    let Ok(()) = string.ready(alloc) else {
         return NO_MEMORY;
     };
-    let held = other.take(alloc);
-    let pushed = buf.push_counted(view(&held), unit_len(&held));
+    let held = other.take();
+    let pushed = string.buffer().push_counted(view(&held), unit_len(&held));
     other.put_back(held);
-    string.put(buf);
     code_of(pushed)
 }

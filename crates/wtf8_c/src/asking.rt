@@ -18,14 +18,15 @@ use wtf8::encoded_len;
 
 /// The number of units.
 #[unsafe(no_mangle)]
-pub extern "C" fn wtf8_unit_len(alloc: Global, string: &mut Wtf8String) -> usize
+pub extern "C" fn wtf8_unit_len(string: &mut Wtf8String) -> usize
     ensures len { result ≡ length (contents string.old).units }
     ensures kept { contents string.new ≡ contents string.old }
 {
-    let held = string.take(alloc);
-    let len = unit_len(&held);
-    string.put_back(held);
-    len
+    if string.is_full() {
+        string.buffer().unit_len()
+    } else {
+        0
+    }
 }
 
 /// The number of bytes of a string with these units.
@@ -38,11 +39,11 @@ pub extern "C" fn wtf8_encoded_len(units: &[u16]) -> usize
 
 /// The length in bytes.
 #[unsafe(no_mangle)]
-pub extern "C" fn wtf8_byte_len(alloc: Global, string: &mut Wtf8String) -> usize
+pub extern "C" fn wtf8_byte_len(string: &mut Wtf8String) -> usize
     ensures len { result ≡ length (contents string.old).bytes }
     ensures kept { contents string.new ≡ contents string.old }
 {
-    let held = string.take(alloc);
+    let held = string.take();
     let len = view(&held).len();
     string.put_back(held);
     len
@@ -50,11 +51,11 @@ pub extern "C" fn wtf8_byte_len(alloc: Global, string: &mut Wtf8String) -> usize
 
 /// The number of bytes that the string can have without a request for memory.
 #[unsafe(no_mangle)]
-pub extern "C" fn wtf8_capacity(alloc: Global, string: &mut Wtf8String) -> usize
+pub extern "C" fn wtf8_capacity(string: &mut Wtf8String) -> usize
     ensures capacity { result ≡ (contents string.old).capacity }
     ensures kept { contents string.new ≡ contents string.old }
 {
-    let held = string.take(alloc);
+    let held = string.take();
     let capacity = capacity(&held);
     string.put_back(held);
     capacity
@@ -85,7 +86,7 @@ pub extern "C" fn wtf8_position_at(
     ensures position_kept { result ≡ BAD_POSITION → position.new ≡ position.old }
     ensures kept { contents string.new ≡ contents string.old }
 {
-    let held = string.take(alloc);
+    let held = string.take();
     if unit_len(&held) < index {
         string.put_back(held);
         return BAD_POSITION;
@@ -114,7 +115,7 @@ pub extern "C" fn wtf8_unit_before(alloc: Global, string: &mut Wtf8String, posit
     ensures before { AreUnitsBefore (contents string.old).units position result }
     ensures kept { contents string.new ≡ contents string.old }
 {
-    let held = string.take(alloc);
+    let held = string.take();
     let index = count_before(alloc, &held, position);
     string.put_back(held);
     index
@@ -132,22 +133,14 @@ fn count_before(alloc: Global, held: &HeldBuf, position: usize) -> usize
 
 /// Writes the unit at an index to `unit`.
 #[unsafe(no_mangle)]
-pub extern "C" fn wtf8_unit_at(
-    alloc: Global,
-    string: &mut Wtf8String,
-    index: usize,
-    unit: &mut u16,
-) -> i32
+pub extern "C" fn wtf8_unit_at(string: &mut Wtf8String, index: usize, unit: &mut u16) -> i32
     ensures code { (result ≡ OK) ⊎ (result ≡ BAD_POSITION) }
     ensures position { result ≡ BAD_POSITION ↔ length (contents string.old).units ≤ index }
     ensures ok { result ≡ OK → slice_get (contents string.old).units index ≡ Some unit.new }
     ensures unit { result ≡ BAD_POSITION → unit.new ≡ unit.old }
     ensures kept { contents string.new ≡ contents string.old }
 {
-    let held = string.take(alloc);
-    let found = find_unit(&held, index);
-    string.put_back(held);
-    match found {
+    match find_unit(string, index) {
         Some(value) => {
             *unit = value;
             OK
@@ -156,23 +149,25 @@ pub extern "C" fn wtf8_unit_at(
     }
 }
 
-/// The unit of the buffer's string at an index, if there is one.
-fn find_unit(held: &HeldBuf, index: usize) -> Option<u16>
-    ensures { result ≡ slice_get (buffer_contents held.now).units index }
+/// The unit at an index, if there is one.
+fn find_unit(string: &mut Wtf8String, index: usize) -> Option<u16>
+    ensures unit { result ≡ slice_get (contents string.old).units index }
+    ensures kept { contents string.new ≡ contents string.old }
 {
-    match held {
-        Some(buf) => buf.unit_at(index),
-        None => None,
+    if string.is_full() {
+        string.buffer().unit_at(index)
+    } else {
+        None
     }
 }
 
 /// Whether a position in bytes is a boundary.
 #[unsafe(no_mangle)]
-pub extern "C" fn wtf8_is_boundary(alloc: Global, string: &mut Wtf8String, position: usize) -> bool
+pub extern "C" fn wtf8_is_boundary(string: &mut Wtf8String, position: usize) -> bool
     ensures boundary { IsTrue result ↔ IsBoundary (contents string.old).units position }
     ensures kept { contents string.new ≡ contents string.old }
 {
-    let held = string.take(alloc);
+    let held = string.take();
     let is_boundary = view(&held).is_code_point_boundary(position);
     string.put_back(held);
     is_boundary
@@ -180,11 +175,11 @@ pub extern "C" fn wtf8_is_boundary(alloc: Global, string: &mut Wtf8String, posit
 
 /// Whether the string holds no surrogate, so that it is a text in UTF-8.
 #[unsafe(no_mangle)]
-pub extern "C" fn wtf8_is_utf8(alloc: Global, string: &mut Wtf8String) -> bool
+pub extern "C" fn wtf8_is_utf8(string: &mut Wtf8String) -> bool
     ensures utf8 { IsTrue result ↔ ((c : List ℕ) → Reads c (contents string.old).units → AreScalar c) }
     ensures kept { contents string.new ≡ contents string.old }
 {
-    let held = string.take(alloc);
+    let held = string.take();
     let is_utf8 = view(&held).as_str().is_some();
     string.put_back(held);
     is_utf8
@@ -192,13 +187,13 @@ pub extern "C" fn wtf8_is_utf8(alloc: Global, string: &mut Wtf8String) -> bool
 
 /// Whether two strings have the same units.
 #[unsafe(no_mangle)]
-pub extern "C" fn wtf8_equal(alloc: Global, string: &mut Wtf8String, other: &mut Wtf8String) -> bool
+pub extern "C" fn wtf8_equal(string: &mut Wtf8String, other: &mut Wtf8String) -> bool
     ensures equal { IsTrue result ↔ (contents string.old).units ≡ (contents other.old).units }
     ensures kept { contents string.new ≡ contents string.old }
     ensures other { contents other.new ≡ contents other.old }
 {
-    let held = string.take(alloc);
-    let others = other.take(alloc);
+    let held = string.take();
+    let others = other.take();
     let equal = view(&held) == view(&others);
     string.put_back(held);
     other.put_back(others);
@@ -207,11 +202,7 @@ pub extern "C" fn wtf8_equal(alloc: Global, string: &mut Wtf8String, other: &mut
 
 /// Compares two strings by their units.
 #[unsafe(no_mangle)]
-pub extern "C" fn wtf8_compare_units(
-    alloc: Global,
-    string: &mut Wtf8String,
-    other: &mut Wtf8String,
-) -> i32
+pub extern "C" fn wtf8_compare_units(string: &mut Wtf8String, other: &mut Wtf8String) -> i32
     ensures code { (result ≡ BEFORE) ⊎ ((result ≡ SAME) ⊎ (result ≡ AFTER)) }
     ensures before { result ≡ BEFORE → Before (contents string.old).units (contents other.old).units }
     ensures same { result ≡ SAME → (contents string.old).units ≡ (contents other.old).units }
@@ -219,8 +210,8 @@ pub extern "C" fn wtf8_compare_units(
     ensures kept { contents string.new ≡ contents string.old }
     ensures other { contents other.new ≡ contents other.old }
 {
-    let held = string.take(alloc);
-    let others = other.take(alloc);
+    let held = string.take();
+    let others = other.take();
     let order = view(&held).cmp_units(&view(&others));
     string.put_back(held);
     other.put_back(others);
@@ -229,11 +220,7 @@ pub extern "C" fn wtf8_compare_units(
 
 /// Compares two strings by their code points.
 #[unsafe(no_mangle)]
-pub extern "C" fn wtf8_compare_code_points(
-    alloc: Global,
-    string: &mut Wtf8String,
-    other: &mut Wtf8String,
-) -> i32
+pub extern "C" fn wtf8_compare_code_points(string: &mut Wtf8String, other: &mut Wtf8String) -> i32
     ensures code { (result ≡ BEFORE) ⊎ ((result ≡ SAME) ⊎ (result ≡ AFTER)) }
     ensures before { result ≡ BEFORE → Before (contents string.old).form.points (contents other.old).form.points }
     ensures same { result ≡ SAME → (contents string.old).form.points ≡ (contents other.old).form.points }
@@ -241,8 +228,8 @@ pub extern "C" fn wtf8_compare_code_points(
     ensures kept { contents string.new ≡ contents string.old }
     ensures other { contents other.new ≡ contents other.old }
 {
-    let held = string.take(alloc);
-    let others = other.take(alloc);
+    let held = string.take();
+    let others = other.take();
     let order = view(&held).cmp(&view(&others));
     string.put_back(held);
     other.put_back(others);

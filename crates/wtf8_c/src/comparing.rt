@@ -9,16 +9,15 @@ ghost use Rattle.wtf8_c.specs.Contents.{contents, buffer_contents};
 use crate::codes::{AFTER, BEFORE, SAME, code_of_order};
 use crate::handle::Wtf8String;
 use crate::opening::{HeldBuf, view};
-use std::alloc::Global;
 use wtf8::{Wtf8, from_utf8};
 
 /// Whether the units of the string are these.
 #[unsafe(no_mangle)]
-pub extern "C" fn wtf8_equal_units(alloc: Global, string: &mut Wtf8String, units: &[u16]) -> bool
+pub extern "C" fn wtf8_equal_units(string: &mut Wtf8String, units: &[u16]) -> bool
     ensures equal { IsTrue result ↔ (contents string.old).units ≡ units.now }
     ensures kept { contents string.new ≡ contents string.old }
 {
-    let held = string.take(alloc);
+    let held = string.take();
     let equal = has_units(&held, units);
     string.put_back(held);
     equal
@@ -26,11 +25,11 @@ pub extern "C" fn wtf8_equal_units(alloc: Global, string: &mut Wtf8String, units
 
 /// Whether the bytes are UTF-8, and the text is that of the string.
 #[unsafe(no_mangle)]
-pub extern "C" fn wtf8_equal_utf8(alloc: Global, string: &mut Wtf8String, text: &[u8]) -> bool
+pub extern "C" fn wtf8_equal_utf8(string: &mut Wtf8String, text: &[u8]) -> bool
     ensures equal { IsTrue result ↔ (IsUtf8 text.now × ((contents string.old).units ≡ units (chars text.now))) }
     ensures kept { contents string.new ≡ contents string.old }
 {
-    let held = string.take(alloc);
+    let held = string.take();
     let equal = is_text(view(&held), text);
     string.put_back(held);
     equal
@@ -38,18 +37,14 @@ pub extern "C" fn wtf8_equal_utf8(alloc: Global, string: &mut Wtf8String, text: 
 
 /// Compares the units of the string with these.
 #[unsafe(no_mangle)]
-pub extern "C" fn wtf8_compare_with_units(
-    alloc: Global,
-    string: &mut Wtf8String,
-    units: &[u16],
-) -> i32
+pub extern "C" fn wtf8_compare_with_units(string: &mut Wtf8String, units: &[u16]) -> i32
     ensures code { (result ≡ BEFORE) ⊎ ((result ≡ SAME) ⊎ (result ≡ AFTER)) }
     ensures before { result ≡ BEFORE → Before (contents string.old).units units.now }
     ensures same { result ≡ SAME → (contents string.old).units ≡ units.now }
     ensures after { result ≡ AFTER → Before units.now (contents string.old).units }
     ensures kept { contents string.new ≡ contents string.old }
 {
-    let held = string.take(alloc);
+    let held = string.take();
     let order = view(&held).cmp_with_units(units);
     string.put_back(held);
     code_of_order(order)
@@ -59,7 +54,6 @@ pub extern "C" fn wtf8_compare_with_units(
 /// index.
 #[unsafe(no_mangle)]
 pub extern "C" fn wtf8_starts_with(
-    alloc: Global,
     string: &mut Wtf8String,
     index: usize,
     other: &mut Wtf8String,
@@ -68,8 +62,8 @@ pub extern "C" fn wtf8_starts_with(
     ensures kept { contents string.new ≡ contents string.old }
     ensures other { contents other.new ≡ contents other.old }
 {
-    let held = string.take(alloc);
-    let others = other.take(alloc);
+    let held = string.take();
+    let others = other.take();
     let starts = begins_at(&held, index, &others);
     string.put_back(held);
     other.put_back(others);
@@ -79,7 +73,6 @@ pub extern "C" fn wtf8_starts_with(
 /// Whether the units of the string from `index` on begin with these. No units are found at each index.
 #[unsafe(no_mangle)]
 pub extern "C" fn wtf8_starts_with_units(
-    alloc: Global,
     string: &mut Wtf8String,
     index: usize,
     units: &[u16],
@@ -87,7 +80,7 @@ pub extern "C" fn wtf8_starts_with_units(
     ensures starts { IsTrue result ↔ take (length units.now) (drop index (contents string.old).units) ≡ units.now }
     ensures kept { contents string.new ≡ contents string.old }
 {
-    let held = string.take(alloc);
+    let held = string.take();
     let starts = begins_with_units(&held, index, units);
     string.put_back(held);
     starts

@@ -3,7 +3,7 @@ ghost use Rattle.std.specs.Prelude.{◌≡◌, [], ◌∷◌, ◌++◌, ◌⊎�
 ghost use Rattle.wtf8.specs.Appending.{AppendsUnits, KeepsContents, HasRoomFor, FitWithin};
 ghost use Rattle.wtf8.specs.Position.{IsBoundary, IsFront};
 ghost use Rattle.wtf8.specs.UnitPosition.{units_of_slice};
-ghost use Rattle.wtf8_c.specs.Contents.{contents, buffer_contents};
+ghost use Rattle.wtf8_c.specs.Contents.{contents, buffer_contents, CanHoldUnits};
 ghost use Rattle.wtf8_c.specs.Halves.{AreHalves};
 
 use crate::codes::{BAD_POSITION, END, NO_MEMORY, OK, code_of};
@@ -17,14 +17,14 @@ use wtf8::{UnitMark, UnitSlice, Wtf8};
 
 /// Shortens the string to `n` units.
 #[unsafe(no_mangle)]
-pub extern "C" fn wtf8_truncate_units(alloc: Global, string: &mut Wtf8String, n: usize) -> i32
+pub extern "C" fn wtf8_truncate_units(string: &mut Wtf8String, n: usize) -> i32
     ensures code { (result ≡ OK) ⊎ (result ≡ BAD_POSITION) }
     ensures position { result ≡ BAD_POSITION ↔ length (contents string.old).units < n }
     ensures ok { result ≡ OK → (contents string.new).units ≡ take n (contents string.old).units }
     ensures kept { result ≡ BAD_POSITION → contents string.new ≡ contents string.old }
     ensures capacity { (contents string.new).capacity ≡ (contents string.old).capacity }
 {
-    let held = string.take(alloc);
+    let held = string.take();
     if unit_len(&held) < n {
         string.put_back(held);
         return BAD_POSITION;
@@ -41,18 +41,14 @@ pub extern "C" fn wtf8_truncate_units(alloc: Global, string: &mut Wtf8String, n:
 
 /// Shortens the string to `position` bytes.
 #[unsafe(no_mangle)]
-pub extern "C" fn wtf8_truncate_bytes(
-    alloc: Global,
-    string: &mut Wtf8String,
-    position: usize,
-) -> i32
+pub extern "C" fn wtf8_truncate_bytes(string: &mut Wtf8String, position: usize) -> i32
     ensures code { (result ≡ OK) ⊎ (result ≡ BAD_POSITION) }
     ensures position { result ≡ BAD_POSITION ↔ ¬ (IsBoundary (contents string.old).units position) }
     ensures ok { result ≡ OK → IsFront (contents string.old).units position (contents string.new).units }
     ensures kept { result ≡ BAD_POSITION → contents string.new ≡ contents string.old }
     ensures capacity { (contents string.new).capacity ≡ (contents string.old).capacity }
 {
-    let held = string.take(alloc);
+    let held = string.take();
     if !view(&held).is_code_point_boundary(position) {
         string.put_back(held);
         return BAD_POSITION;
@@ -69,7 +65,7 @@ pub extern "C" fn wtf8_truncate_bytes(
 
 /// Takes the last code point off, and writes it to `code_point`.
 #[unsafe(no_mangle)]
-pub extern "C" fn wtf8_pop(alloc: Global, string: &mut Wtf8String, code_point: &mut u32) -> i32
+pub extern "C" fn wtf8_pop(string: &mut Wtf8String, code_point: &mut u32) -> i32
     ensures code { (result ≡ OK) ⊎ (result ≡ END) }
     ensures end { result ≡ END ↔ (contents string.old).units ≡ [] }
     ensures ok { result ≡ OK → (contents string.old).form.points ≡ (contents string.new).form.points ++ code_point.new ∷ [] }
@@ -77,7 +73,7 @@ pub extern "C" fn wtf8_pop(alloc: Global, string: &mut Wtf8String, code_point: &
     ensures code_point { result ≡ END → code_point.new ≡ code_point.old }
     ensures capacity { (contents string.new).capacity ≡ (contents string.old).capacity }
 {
-    let held = string.take(alloc);
+    let held = string.take();
     match held {
         Some(mut buf) => {
             let code = pop_of(&mut buf, code_point);
@@ -126,11 +122,12 @@ pub extern "C" fn wtf8_slice_units(
     ensures position { result ≡ BAD_POSITION ↔ ¬ ((begin ≤ end) × (end ≤ length (contents string.old).units)) }
     ensures ok { result ≡ OK → (contents into.new).units ≡ drop begin (take end (contents string.old).units) }
     ensures kept { ¬ (result ≡ OK) → contents into.new ≡ contents into.old }
-    ensures room { IsTrue into.old.full → (begin ≤ end) × (end ≤ length (contents string.old).units) → FitWithin (drop begin (take end (contents string.old).units)) 0 (contents into.old).capacity → result ≡ OK }
+    ensures room { CanHoldUnits into.old → (begin ≤ end) × (end ≤ length (contents string.old).units) → FitWithin (drop begin (take end (contents string.old).units)) 0 (contents into.old).capacity → result ≡ OK }
     ensures string { contents string.new ≡ contents string.old }
     ensures capacity { (contents into.old).capacity ≤ (contents into.new).capacity }
+    ensures stays { IsTrue into.old.full → IsTrue into.new.full }
 {
-    let held = string.take(alloc);
+    let held = string.take();
     if end < begin || unit_len(&held) < end {
         string.put_back(held);
         return BAD_POSITION;
@@ -146,12 +143,13 @@ fn set_part(alloc: Global, string: &mut Wtf8String, slice: UnitSlice<'_>) -> i32
     ensures code { (result ≡ OK) ⊎ (result ≡ NO_MEMORY) }
     ensures ok { result ≡ OK → (contents string.new).units ≡ units_of_slice slice.entry }
     ensures kept { result ≡ NO_MEMORY → contents string.new ≡ contents string.old }
-    ensures room { IsTrue string.old.full → FitWithin (units_of_slice slice.entry) 0 (contents string.old).capacity → result ≡ OK }
+    ensures room { CanHoldUnits string.old → FitWithin (units_of_slice slice.entry) 0 (contents string.old).capacity → result ≡ OK }
     ensures capacity { (contents string.old).capacity ≤ (contents string.new).capacity }
+    ensures stays { IsTrue string.old.full → IsTrue string.new.full }
 {
     // A half of a pair has three bytes.
     let halves = usize::from(slice.trail.is_some()) + usize::from(slice.lead.is_some());
-    match string.take_if_fits(alloc, slice.whole.len(), 3 * halves) {
+    match string.take_if_fits(slice.whole.len(), 3 * halves) {
         Some(mut buf) => {
             buf.clear();
             let pushed = buf.push_unit_slice(slice);
@@ -161,7 +159,7 @@ fn set_part(alloc: Global, string: &mut Wtf8String, slice: UnitSlice<'_>) -> i32
         None => {
             let mut made = IndexedBuf::new(alloc);
             match made.push_unit_slice(slice) {
-                Ok(()) => replace(alloc, string, made),
+                Ok(()) => replace(string, made),
                 Err(_) => NO_MEMORY,
             }
         }
@@ -181,11 +179,12 @@ pub extern "C" fn wtf8_push_slice(
     ensures position { result ≡ BAD_POSITION ↔ ¬ ((begin ≤ end) × (end ≤ length (contents other.old).units)) }
     ensures ok { result ≡ OK → AppendsUnits (contents string.old) (drop begin (take end (contents other.old).units)) (contents string.new) }
     ensures kept { ¬ (result ≡ OK) → KeepsContents (contents string.old) (contents string.new) }
-    ensures room { IsTrue string.old.full → (begin ≤ end) × (end ≤ length (contents other.old).units) → HasRoomFor (contents string.old) (drop begin (take end (contents other.old).units)) → result ≡ OK }
+    ensures room { CanHoldUnits string.old → (begin ≤ end) × (end ≤ length (contents other.old).units) → HasRoomFor (contents string.old) (drop begin (take end (contents other.old).units)) → result ≡ OK }
     ensures other { contents other.new ≡ contents other.old }
     ensures capacity { (contents string.old).capacity ≤ (contents string.new).capacity }
+    ensures stays { IsTrue string.old.full → IsTrue string.new.full }
 {
-    let held = other.take(alloc);
+    let held = other.take();
     if end < begin || unit_len(&held) < end {
         other.put_back(held);
         return BAD_POSITION;
@@ -200,15 +199,14 @@ fn push_part(alloc: Global, string: &mut Wtf8String, slice: UnitSlice<'_>) -> i3
     ensures code { (result ≡ OK) ⊎ (result ≡ NO_MEMORY) }
     ensures ok { result ≡ OK → AppendsUnits (contents string.old) (units_of_slice slice.entry) (contents string.new) }
     ensures kept { result ≡ NO_MEMORY → KeepsContents (contents string.old) (contents string.new) }
-    ensures room { IsTrue string.old.full → HasRoomFor (contents string.old) (units_of_slice slice.entry) → result ≡ OK }
+    ensures room { CanHoldUnits string.old → HasRoomFor (contents string.old) (units_of_slice slice.entry) → result ≡ OK }
     ensures capacity { (contents string.old).capacity ≤ (contents string.new).capacity }
+    ensures stays { IsTrue string.old.full → IsTrue string.new.full }
 {
-    let Ok(mut buf) = string.open(alloc) else {
+    let Ok(()) = string.ready(alloc) else {
         return NO_MEMORY;
     };
-    let pushed = buf.push_unit_slice(slice);
-    string.put(buf);
-    code_of(pushed)
+    code_of(string.buffer().push_unit_slice(slice))
 }
 
 /// The part of the buffer's string from unit `begin` to before unit `end`.

@@ -9,7 +9,6 @@ ghost use Rattle.wtf8_c.specs.Hashing.{hash_of, seeded_with};
 
 use crate::handle::Wtf8String;
 use crate::opening::view;
-use std::alloc::Global;
 use std::hash::{DefaultHasher, Hash, Hasher};
 use wtf8::encode_front;
 
@@ -27,11 +26,11 @@ const END: u8 = 0xFE;
 
 /// The hash of the string under a seed of 128 bits, for tables.
 #[unsafe(no_mangle)]
-pub extern "C" fn wtf8_hash(alloc: Global, string: &mut Wtf8String, seed_0: u64, seed_1: u64) -> u64
+pub extern "C" fn wtf8_hash(string: &mut Wtf8String, seed_0: u64, seed_1: u64) -> u64
     ensures hash { result ≡ hash_of seed_0 seed_1 (contents string.old).bytes }
     ensures kept { contents string.new ≡ contents string.old }
 {
-    let held = string.take(alloc);
+    let held = string.take();
     let mut hasher = seeded(seed_0, seed_1);
     view(&held).hash(&mut hasher);
     string.put_back(held);

@@ -12,6 +12,7 @@ mod latin1;
 mod making;
 mod opening;
 mod parts;
+mod place;
 mod points_out;
 mod units_out;
 mod walking;

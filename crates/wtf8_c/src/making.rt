@@ -5,7 +5,7 @@ ghost use Rattle.std.specs.Str.Lossy.{utf8_valid_len};
 ghost use Rattle.wtf8.specs.Appending.{FitWithin, KeepsContents};
 ghost use Rattle.wtf8.specs.Unicode.{units};
 ghost use Rattle.wtf8.specs.View.{view_units};
-ghost use Rattle.wtf8_c.specs.Contents.{contents, no_string};
+ghost use Rattle.wtf8_c.specs.Contents.{contents, no_string, CanHoldUnits};
 
 use crate::codes::{NO_MEMORY, NOT_UTF8, OK, code_of};
 use crate::handle::Wtf8String;
@@ -24,35 +24,34 @@ pub extern "C" fn wtf8_set_units(alloc: Global, string: &mut Wtf8String, units: 
     ensures code { (result ≡ OK) ⊎ (result ≡ NO_MEMORY) }
     ensures ok { result ≡ OK → (contents string.new).units ≡ units.now }
     ensures kept { result ≡ NO_MEMORY → contents string.new ≡ contents string.old }
-    ensures room { IsTrue string.old.full → 3 * length units.now ≤ (contents string.old).capacity → result ≡ OK }
+    ensures room { CanHoldUnits string.old → 3 * length units.now ≤ (contents string.old).capacity → result ≡ OK }
     ensures counted { IsTrue string.old.full → ROOMY_UNITS < length units.now → FitWithin units.now 0 (contents string.old).capacity → result ≡ OK }
     ensures again { IsTrue string.old.full → length units.now ≤ ROOMY_UNITS → result ≡ OK → 3 * length units.now ≤ (contents string.new).capacity }
+    ensures stays { IsTrue string.old.full → IsTrue string.new.full }
 {
-    let is_again = string.is_full();
-    match take_for_units(alloc, string, units) {
+    if !string.is_full() {
+        return match IndexedBuf::from_units(alloc, units) {
+            Ok(made) => fill(string, made),
+            Err(_) => NO_MEMORY,
+        };
+    }
+    match take_for_units(string, units) {
         Some(mut buf) => {
             buf.clear();
             let pushed = buf.push_units(units);
             string.put(buf);
             code_of(pushed)
         }
-        None => {
-            let made = if is_again {
-                with_room_for_others(alloc, units)
-            } else {
-                IndexedBuf::from_units(alloc, units)
-            };
-            match made {
-                Ok(made) => replace(alloc, string, made),
-                Err(_) => NO_MEMORY,
-            }
-        }
+        None => match with_room_for_others(alloc, units) {
+            Ok(made) => replace(string, made),
+            Err(_) => NO_MEMORY,
+        },
     }
 }
 
 /// Takes the string's buffer out if it has room for the units: three bytes for each, or, for more than `ROOMY_UNITS`, the
 /// bytes that they take, which are counted then.
-fn take_for_units(alloc: Global, string: &mut Wtf8String, units: &[u16]) -> HeldBuf
+fn take_for_units(string: &mut Wtf8String, units: &[u16]) -> HeldBuf
     ensures contents { IfSome result (λ b. b.value ≡ contents string.old) }
     ensures fits { IfSome result (λ b. FitWithin units.now 0 b.value.capacity) }
     ensures roomy { length units.now ≤ ROOMY_UNITS → IfSome result (λ b. 3 * length units.now ≤ b.value.capacity) }
@@ -60,17 +59,19 @@ fn take_for_units(alloc: Global, string: &mut Wtf8String, units: &[u16]) -> Held
     ensures kept { IsNone result → contents string.new ≡ contents string.old }
     ensures room { IsTrue string.old.full → 3 * length units.now ≤ (contents string.old).capacity → IsSome result }
     ensures counted { IsTrue string.old.full → ROOMY_UNITS < length units.now → FitWithin units.now 0 (contents string.old).capacity → IsSome result }
+    ensures holds { IsNone result → CanHoldUnits string.old → CanHoldUnits string.new }
+    ensures stays { IsNone result → IsTrue string.old.full → IsTrue string.new.full }
 {
     if !string.is_full() {
         return None;
     }
-    if let Some(roomy) = string.take_if_fits(alloc, 3 * units.len(), 0) {
+    if let Some(roomy) = string.take_if_fits(3 * units.len(), 0) {
         return Some(roomy);
     }
     if units.len() <= ROOMY_UNITS {
         return None;
     }
-    string.take_if_fits(alloc, encoded_len(units), 0)
+    string.take_if_fits(encoded_len(units), 0)
 }
 
 /// Makes a buffer of units that replaces another. If there are at most `ROOMY_UNITS`, any units of that number will fit
@@ -100,10 +101,11 @@ pub extern "C" fn wtf8_set_utf8(
     ensures not_utf8 { result ≡ NOT_UTF8 ↔ ¬ (IsUtf8 text.now) }
     ensures ok { result ≡ OK → (contents string.new).units ≡ units (chars text.now) }
     ensures kept { ¬ (result ≡ OK) → contents string.new ≡ contents string.old }
-    ensures room { IsTrue string.old.full → IsUtf8 text.now → length text.now ≤ (contents string.old).capacity → result ≡ OK }
+    ensures room { CanHoldUnits string.old → IsUtf8 text.now → length text.now ≤ (contents string.old).capacity → result ≡ OK }
     ensures capacity { (contents string.old).capacity ≤ (contents string.new).capacity }
     ensures valid { result ≡ NOT_UTF8 → valid.new ≡ utf8_valid_len text.now }
     ensures valid_kept { ¬ (result ≡ NOT_UTF8) → valid.new ≡ valid.old }
+    ensures stays { IsTrue string.old.full → IsTrue string.new.full }
 {
     match from_utf8(text) {
         Ok(text) => set_view(alloc, string, Wtf8::from_str(text)),
@@ -124,11 +126,12 @@ pub extern "C" fn wtf8_set_string(
     ensures code { (result ≡ OK) ⊎ (result ≡ NO_MEMORY) }
     ensures ok { result ≡ OK → (contents string.new).units ≡ (contents other.old).units }
     ensures kept { result ≡ NO_MEMORY → contents string.new ≡ contents string.old }
-    ensures room { IsTrue string.old.full → length (contents other.old).bytes ≤ (contents string.old).capacity → result ≡ OK }
+    ensures room { CanHoldUnits string.old → length (contents other.old).bytes ≤ (contents string.old).capacity → result ≡ OK }
     ensures capacity { (contents string.old).capacity ≤ (contents string.new).capacity }
     ensures other { contents other.new ≡ contents other.old }
+    ensures stays { IsTrue string.old.full → IsTrue string.new.full }
 {
-    let held = other.take(alloc);
+    let held = other.take();
     let code = set_counted(alloc, string, view(&held), unit_len(&held));
     other.put_back(held);
     code
@@ -139,8 +142,9 @@ pub(crate) fn set_view(alloc: Global, string: &mut Wtf8String, view: Wtf8<'_>) -
     ensures code { (result ≡ OK) ⊎ (result ≡ NO_MEMORY) }
     ensures ok { result ≡ OK → (contents string.new).units ≡ view_units view.entry }
     ensures kept { result ≡ NO_MEMORY → contents string.new ≡ contents string.old }
-    ensures room { IsTrue string.old.full → length view.entry.bytes.now ≤ (contents string.old).capacity → result ≡ OK }
+    ensures room { CanHoldUnits string.old → length view.entry.bytes.now ≤ (contents string.old).capacity → result ≡ OK }
     ensures capacity { (contents string.old).capacity ≤ (contents string.new).capacity }
+    ensures stays { IsTrue string.old.full → IsTrue string.new.full }
 {
     set_counted(alloc, string, view, view.unit_len())
 }
@@ -156,10 +160,11 @@ pub(crate) fn set_counted(
     ensures code { (result ≡ OK) ⊎ (result ≡ NO_MEMORY) }
     ensures ok { result ≡ OK → (contents string.new).units ≡ view_units view.entry }
     ensures kept { result ≡ NO_MEMORY → contents string.new ≡ contents string.old }
-    ensures room { IsTrue string.old.full → length view.entry.bytes.now ≤ (contents string.old).capacity → result ≡ OK }
+    ensures room { CanHoldUnits string.old → length view.entry.bytes.now ≤ (contents string.old).capacity → result ≡ OK }
     ensures capacity { (contents string.old).capacity ≤ (contents string.new).capacity }
+    ensures stays { IsTrue string.old.full → IsTrue string.new.full }
 {
-    match string.take_if_fits(alloc, view.len(), 0) {
+    match string.take_if_fits(view.len(), 0) {
         Some(mut buf) => {
             buf.clear();
             let pushed = buf.push_counted(view, count);
@@ -169,7 +174,7 @@ pub(crate) fn set_counted(
         None => {
             let mut made = IndexedBuf::new(alloc);
             match made.push_counted(view, count) {
-                Ok(()) => replace(alloc, string, made),
+                Ok(()) => replace(string, made),
                 Err(_) => NO_MEMORY,
             }
         }
@@ -178,26 +183,23 @@ pub(crate) fn set_counted(
 
 /// Empties the string and keeps its capacity.
 #[unsafe(no_mangle)]
-pub extern "C" fn wtf8_clear(alloc: Global, string: &mut Wtf8String)
+pub extern "C" fn wtf8_clear(string: &mut Wtf8String)
     ensures units { (contents string.new).units ≡ [] }
     ensures capacity { (contents string.new).capacity ≡ (contents string.old).capacity }
+    ensures stays { IsTrue string.old.full → IsTrue string.new.full }
 {
-    match string.take(alloc) {
-        Some(mut emptied) => {
-            emptied.clear();
-            string.put(emptied);
-        }
-        None => (),
+    if string.is_full() {
+        string.buffer().clear();
     }
 }
 
 /// Frees what the string owns. It is the empty string then, and owns nothing.
 #[unsafe(no_mangle)]
-pub extern "C" fn wtf8_free(alloc: Global, string: &mut Wtf8String)
+pub extern "C" fn wtf8_free(string: &mut Wtf8String)
     ensures contents { contents string.new ≡ no_string }
     ensures owns { IsFalse string.new.full }
 {
-    drop(string.take(alloc));
+    drop(string.take());
 }
 
 /// Reserves capacity for at least `additional` more bytes.
@@ -210,30 +212,26 @@ pub extern "C" fn wtf8_reserve_bytes(
     ensures code { (result ≡ OK) ⊎ (result ≡ NO_MEMORY) }
     ensures ok { result ≡ OK → length (contents string.new).bytes + additional ≤ (contents string.new).capacity }
     ensures kept { KeepsContents (contents string.old) (contents string.new) }
-    ensures room { IsTrue string.old.full → length (contents string.old).bytes + additional ≤ (contents string.old).capacity → result ≡ OK }
+    ensures room { CanHoldUnits string.old → length (contents string.old).bytes + additional ≤ (contents string.old).capacity → result ≡ OK }
     ensures capacity { (contents string.old).capacity ≤ (contents string.new).capacity }
+    ensures stays { IsTrue string.old.full → IsTrue string.new.full }
 {
-    let Ok(mut buf) = string.open(alloc) else {
+    let Ok(()) = string.ready(alloc) else {
         return NO_MEMORY;
     };
-    let reserved = buf.reserve(additional);
-    string.put(buf);
-    code_of(reserved)
+    code_of(string.buffer().reserve(additional))
 }
 
 /// Gives back the capacity that the string does not use.
 #[unsafe(no_mangle)]
-pub extern "C" fn wtf8_shrink(alloc: Global, string: &mut Wtf8String)
+pub extern "C" fn wtf8_shrink(string: &mut Wtf8String)
     ensures kept { KeepsContents (contents string.old) (contents string.new) }
     ensures capacity { (contents string.new).capacity ≤ (contents string.old).capacity }
     ensures empty { (contents string.old).bytes ≡ [] → (contents string.new).capacity ≡ 0 }
+    ensures stays { IsTrue string.old.full → IsTrue string.new.full }
 {
-    match string.take(alloc) {
-        Some(mut buf) => {
-            buf.shrink_to_fit();
-            string.put(buf);
-        }
-        None => (),
+    if string.is_full() {
+        string.buffer().shrink_to_fit();
     }
 }
 
@@ -242,36 +240,43 @@ pub extern "C" fn wtf8_shrink(alloc: Global, string: &mut Wtf8String)
 pub extern "C" fn wtf8_mark(alloc: Global, string: &mut Wtf8String) -> i32
     ensures code { (result ≡ OK) ⊎ (result ≡ NO_MEMORY) }
     ensures kept { KeepsContents (contents string.old) (contents string.new) }
-    ensures full { IsTrue string.old.full → result ≡ OK }
+    ensures ok { CanHoldUnits string.old → result ≡ OK }
     ensures capacity { (contents string.old).capacity ≤ (contents string.new).capacity }
+    ensures stays { IsTrue string.old.full → IsTrue string.new.full }
 {
-    let Ok(mut marked) = string.open(alloc) else {
+    let Ok(()) = string.ready(alloc) else {
         return NO_MEMORY;
     };
-    marked.mark_units(alloc);
-    string.put(marked);
+    string.buffer().mark_units(alloc);
     OK
 }
 
-/// Replaces the string's buffer. Needs no memory if there is one.
-pub(crate) fn replace(alloc: Global, string: &mut Wtf8String, made: IndexedBuf<Global>) -> i32
+/// Replaces the string's buffer, or gives it one if it has none and a place for one.
+pub(crate) fn replace(string: &mut Wtf8String, made: IndexedBuf<Global>) -> i32
     ensures code { (result ≡ OK) ⊎ (result ≡ NO_MEMORY) }
-    ensures full { IsTrue string.old.full → result ≡ OK }
+    ensures room { CanHoldUnits string.old → result ≡ OK }
+    ensures ok { result ≡ OK → contents string.new ≡ made }
+    ensures kept { result ≡ NO_MEMORY → contents string.new ≡ contents string.old }
+    ensures stays { IsTrue string.old.full → IsTrue string.new.full }
+{
+    if string.is_full() {
+        *string.buffer() = made;
+        return OK;
+    }
+    fill(string, made)
+}
+
+/// Gives a string that has no buffer one if it has a place for it.
+fn fill(string: &mut Wtf8String, made: IndexedBuf<Global>) -> i32
+    requires { IsFalse string.old.full }
+    ensures code { (result ≡ OK) ⊎ (result ≡ NO_MEMORY) }
+    ensures room { CanHoldUnits string.old → result ≡ OK }
     ensures ok { result ≡ OK → contents string.new ≡ made }
     ensures kept { result ≡ NO_MEMORY → contents string.new ≡ contents string.old }
 {
-    match string.take(alloc) {
-        Some(mut held) => {
-            *held = made;
-            string.put(held);
-            OK
-        }
-        None => match Box::new(alloc, made) {
-            Ok(held) => {
-                string.put(held);
-                OK
-            }
-            Err(_) => NO_MEMORY,
-        },
+    if !string.has_place() {
+        return NO_MEMORY;
     }
+    string.fill(made);
+    OK
 }

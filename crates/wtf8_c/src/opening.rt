@@ -1,45 +1,47 @@
 // The buffer of a string, taken out for a call and put back.
 ghost use Rattle.std.specs.Prelude.{◌≡◌, [], ◌+◌, ◌≤◌, IsTrue, IsFalse, IsOk, IfOk, OnOk, OnErr, IfSome, IsSome, IsNone, length};
 ghost use Rattle.wtf8.specs.View.{view_points, view_units};
-ghost use Rattle.wtf8_c.specs.Contents.{contents, buffer_contents};
+ghost use Rattle.wtf8_c.specs.Contents.{contents, buffer_contents, CanHoldUnits};
 
 use crate::handle::Wtf8String;
 use crate::parts::Parts;
+use crate::place::Place;
 use std::alloc::{AllocError, Global};
 use unit_text::IndexedBuf;
 use wtf8::Wtf8;
 
 /// The buffer of a string while a call works on it, or `None` if the string has none.
-pub(crate) type HeldBuf = Option<Box<IndexedBuf<Global>, Global>>;
+pub(crate) type HeldBuf = Option<Box<IndexedBuf<Global>, Place>>;
 
 impl Wtf8String {
     /// Takes the buffer out, if there is one.
-    pub(crate) fn take(&mut self, alloc: Global) -> HeldBuf
+    pub(crate) fn take(&mut self) -> HeldBuf
         ensures contents { buffer_contents result ≡ contents self.old }
         ensures full { IsTrue self.old.full → IsSome result }
         ensures empty { IsFalse self.new.full }
     {
         if self.is_full() {
-            Some(self.take_parts(alloc).into_box())
+            Some(self.take_parts(Place).into_box())
         } else {
             None
         }
     }
 
     /// Takes the buffer out if there is one, with a capacity of at least `n` and `more` bytes together.
-    pub(crate) fn take_if_fits(&mut self, alloc: Global, n: usize, more: usize) -> HeldBuf
+    pub(crate) fn take_if_fits(&mut self, n: usize, more: usize) -> HeldBuf
         ensures contents { IfSome result (λ b. b.value ≡ contents self.old) }
         ensures fits { IfSome result (λ b. n + more ≤ b.value.capacity) }
         ensures empty { IsSome result → IsFalse self.new.full }
         ensures kept { IsNone result → contents self.new ≡ contents self.old }
         ensures full { IsNone result → IsTrue self.old.full → IsTrue self.new.full }
+        ensures holds { IsNone result → CanHoldUnits self.old → CanHoldUnits self.new }
         ensures room { IsTrue self.old.full → n + more ≤ (contents self.old).capacity → IsSome result }
         ensures no_room { IsNone result → (contents self.old).capacity ≤ n + more }
     {
         if !self.is_full() {
             return None;
         }
-        let buf = self.take_parts(alloc).into_box();
+        let buf = self.take_parts(Place).into_box();
         let capacity = buf.capacity();
         if capacity < n || capacity - n < more {
             self.put(buf);
@@ -59,27 +61,27 @@ impl Wtf8String {
         }
     }
 
-    /// Takes the buffer out, or makes one if there is none.
-    pub(crate) fn open(
-        &mut self,
-        alloc: Global,
-    ) -> Result<Box<IndexedBuf<Global>, Global>, AllocError>
-        ensures units { IfOk result (λ b. b.value.units ≡ (contents self.old).units) }
-        ensures bytes { IfOk result (λ b. b.value.bytes ≡ (contents self.old).bytes) }
-        ensures capacity { IfOk result (λ b. (contents self.old).capacity ≤ b.value.capacity) }
-        ensures held { IsTrue self.old.full → IfOk result (λ b. b.value ≡ contents self.old) }
-        ensures full { IsTrue self.old.full → IsOk result }
-        ensures empty { OnOk result (IsFalse self.new.full) }
+    /// Gives the string an empty buffer if it has none and a place for one.
+    pub(crate) fn ready(&mut self, alloc: Global) -> Result<(), AllocError>
+        ensures full { OnOk result (IsTrue self.new.full) }
+        ensures units { OnOk result (self.new.string.units ≡ (contents self.old).units) }
+        ensures bytes { OnOk result (self.new.string.bytes ≡ (contents self.old).bytes) }
+        ensures capacity { OnOk result ((contents self.old).capacity ≤ self.new.string.capacity) }
+        ensures ok { CanHoldUnits self.old → IsOk result }
         ensures kept { OnErr result (contents self.new ≡ contents self.old) }
     {
         if self.is_full() {
-            return Ok(self.take_parts(alloc).into_box());
+            return Ok(());
         }
-        Ok(Box::new(alloc, IndexedBuf::new(alloc))?)
+        if !self.has_place() {
+            return Err(AllocError);
+        }
+        self.fill(IndexedBuf::new(alloc));
+        Ok(())
     }
 
     /// Puts a buffer into a string that has none.
-    pub(crate) fn put(&mut self, buf: Box<IndexedBuf<Global>, Global>)
+    pub(crate) fn put(&mut self, buf: Box<IndexedBuf<Global>, Place>)
         requires { IsFalse self.old.full }
         ensures contents { contents self.new ≡ buf.value }
         ensures full { IsTrue self.new.full }

@@ -11,7 +11,6 @@ ghost use Rattle.wtf8_c.specs.Walks.{ArePointsBetween};
 use crate::codes::{BAD_POSITION, END, OK};
 use crate::handle::Wtf8String;
 use crate::opening::view;
-use std::alloc::Global;
 use wtf8::Wtf8;
 
 /// The most bytes of a part whose units are decoded together.
@@ -21,7 +20,6 @@ const PART: usize = 256;
 /// `position` past them.
 #[unsafe(no_mangle)]
 pub extern "C" fn wtf8_copy_code_points(
-    alloc: Global,
     string: &mut Wtf8String,
     position: &mut usize,
     out: &mut [u32],
@@ -40,7 +38,7 @@ pub extern "C" fn wtf8_copy_code_points(
     ensures len_kept { ¬ (result ≡ OK) → len.new ≡ len.old }
     ensures kept { contents string.new ≡ contents string.old }
 {
-    let held = string.take(alloc);
+    let held = string.take();
     let code = copy_from(view(&held), position, out, len);
     string.put_back(held);
     code

@@ -8,16 +8,10 @@ ghost use Rattle.wtf8_c.specs.Front.{with_front};
 use crate::codes::{ARRAY_TOO_SHORT, BAD_POSITION, HAS_SURROGATE, OK};
 use crate::handle::Wtf8String;
 use crate::opening::{HeldBuf, unit_len, view};
-use std::alloc::Global;
 
 /// Writes all units at the front of `out`, and their number to `len`.
 #[unsafe(no_mangle)]
-pub extern "C" fn wtf8_copy_units(
-    alloc: Global,
-    string: &mut Wtf8String,
-    out: &mut [u16],
-    len: &mut usize,
-) -> i32
+pub extern "C" fn wtf8_copy_units(string: &mut Wtf8String, out: &mut [u16], len: &mut usize) -> i32
     ensures code { (result ≡ OK) ⊎ (result ≡ ARRAY_TOO_SHORT) }
     ensures short { result ≡ ARRAY_TOO_SHORT ↔ length out.old < length (contents string.old).units }
     ensures ok { result ≡ OK → out.new ≡ with_front (contents string.old).units out.old }
@@ -25,7 +19,7 @@ pub extern "C" fn wtf8_copy_units(
     ensures len { len.new ≡ length (contents string.old).units }
     ensures kept { contents string.new ≡ contents string.old }
 {
-    let held = string.take(alloc);
+    let held = string.take();
     let code = write_units(&held, out, len);
     string.put_back(held);
     code
@@ -34,7 +28,6 @@ pub extern "C" fn wtf8_copy_units(
 /// Writes the units from index `begin` to before `end` at the front of `out`, and their number to `len`.
 #[unsafe(no_mangle)]
 pub extern "C" fn wtf8_copy_slice(
-    alloc: Global,
     string: &mut Wtf8String,
     begin: usize,
     end: usize,
@@ -50,7 +43,7 @@ pub extern "C" fn wtf8_copy_slice(
     ensures len_kept { result ≡ BAD_POSITION → len.new ≡ len.old }
     ensures kept { contents string.new ≡ contents string.old }
 {
-    let held = string.take(alloc);
+    let held = string.take();
     if end < begin || unit_len(&held) < end {
         string.put_back(held);
         return BAD_POSITION;
@@ -62,12 +55,7 @@ pub extern "C" fn wtf8_copy_slice(
 
 /// Writes the text at the front of `out` in UTF-8, and its length in bytes to `len`, if the string holds no surrogate.
 #[unsafe(no_mangle)]
-pub extern "C" fn wtf8_copy_utf8(
-    alloc: Global,
-    string: &mut Wtf8String,
-    out: &mut [u8],
-    len: &mut usize,
-) -> i32
+pub extern "C" fn wtf8_copy_utf8(string: &mut Wtf8String, out: &mut [u8], len: &mut usize) -> i32
     ensures code { (result ≡ OK) ⊎ ((result ≡ HAS_SURROGATE) ⊎ (result ≡ ARRAY_TOO_SHORT)) }
     ensures surrogate { result ≡ HAS_SURROGATE ↔ ¬ (AreScalar (contents string.old).form.points) }
     ensures short { result ≡ ARRAY_TOO_SHORT ↔ AreScalar (contents string.old).form.points × (length out.old < length (contents string.old).bytes) }
@@ -77,7 +65,7 @@ pub extern "C" fn wtf8_copy_utf8(
     ensures len_kept { result ≡ HAS_SURROGATE → len.new ≡ len.old }
     ensures kept { contents string.new ≡ contents string.old }
 {
-    let held = string.take(alloc);
+    let held = string.take();
     let code = match view(&held).as_str() {
         Some(text) => write_text(text.as_bytes(), out, len),
         None => HAS_SURROGATE,
@@ -88,12 +76,7 @@ pub extern "C" fn wtf8_copy_utf8(
 
 /// Writes the text with U+FFFD in place of each surrogate at the front of `out`, and its length in bytes to `len`.
 #[unsafe(no_mangle)]
-pub extern "C" fn wtf8_copy_lossy(
-    alloc: Global,
-    string: &mut Wtf8String,
-    out: &mut [u8],
-    len: &mut usize,
-) -> i32
+pub extern "C" fn wtf8_copy_lossy(string: &mut Wtf8String, out: &mut [u8], len: &mut usize) -> i32
     ensures code { (result ≡ OK) ⊎ (result ≡ ARRAY_TOO_SHORT) }
     ensures short { result ≡ ARRAY_TOO_SHORT ↔ length out.old < length (contents string.old).bytes }
     ensures ok { result ≡ OK → out.new ≡ with_front (bytes (lossy_points (contents string.old).form.points)) out.old }
@@ -101,7 +84,7 @@ pub extern "C" fn wtf8_copy_lossy(
     ensures len { len.new ≡ length (contents string.old).bytes }
     ensures kept { contents string.new ≡ contents string.old }
 {
-    let held = string.take(alloc);
+    let held = string.take();
     let code = write_lossy(&held, out, len);
     string.put_back(held);
     code

@@ -11,13 +11,11 @@ ghost use Rattle.wtf8_c.specs.Walks.{IsPointBetween};
 use crate::codes::{BAD_POSITION, END, OK};
 use crate::handle::Wtf8String;
 use crate::opening::view;
-use std::alloc::Global;
 use wtf8::{CodePoint, Wtf8};
 
 /// Writes the code point after `position` to `code_point`, and moves `position` past it.
 #[unsafe(no_mangle)]
 pub extern "C" fn wtf8_next_code_point(
-    alloc: Global,
     string: &mut Wtf8String,
     position: &mut usize,
     code_point: &mut u32,
@@ -30,7 +28,7 @@ pub extern "C" fn wtf8_next_code_point(
     ensures code_point { ¬ (result ≡ OK) → code_point.new ≡ code_point.old }
     ensures kept { contents string.new ≡ contents string.old }
 {
-    let held = string.take(alloc);
+    let held = string.take();
     let code = next_of(view(&held), position, code_point);
     string.put_back(held);
     code
@@ -39,7 +37,6 @@ pub extern "C" fn wtf8_next_code_point(
 /// Writes the code point before `position` to `code_point`, and moves `position` back to its start.
 #[unsafe(no_mangle)]
 pub extern "C" fn wtf8_previous_code_point(
-    alloc: Global,
     string: &mut Wtf8String,
     position: &mut usize,
     code_point: &mut u32,
@@ -52,7 +49,7 @@ pub extern "C" fn wtf8_previous_code_point(
     ensures code_point { ¬ (result ≡ OK) → code_point.new ≡ code_point.old }
     ensures kept { contents string.new ≡ contents string.old }
 {
-    let held = string.take(alloc);
+    let held = string.take();
     let code = previous_of(view(&held), position, code_point);
     string.put_back(held);
     code
@@ -61,7 +58,6 @@ pub extern "C" fn wtf8_previous_code_point(
 /// Writes the first surrogate after `position` to `unit`, and moves `position` past it.
 #[unsafe(no_mangle)]
 pub extern "C" fn wtf8_next_surrogate(
-    alloc: Global,
     string: &mut Wtf8String,
     position: &mut usize,
     unit: &mut u16,
@@ -74,7 +70,7 @@ pub extern "C" fn wtf8_next_surrogate(
     ensures unit { ¬ (result ≡ OK) → unit.new ≡ unit.old }
     ensures kept { contents string.new ≡ contents string.old }
 {
-    let held = string.take(alloc);
+    let held = string.take();
     let code = next_surrogate_of(view(&held), position, unit);
     string.put_back(held);
     code

@@ -14,24 +14,26 @@ returns-in_default c = record {
   kept = λ _. kept_same refl;
   room = λ _ is _. absurd (false≢true (c.in_default.ensures.some.1 is));
   capacity = le_refl _;
+  stays = λ full. full;
 }
 
-pub returns-in_default-open : goal.returns-in_default-open
-returns-in_default-open c = record {
+pub returns-in_default-ready : goal.returns-in_default-ready
+returns-in_default-ready c = record {
   code = inr (inl refl);
   bad_code_point = (other_code _ _ refl, λ not. absurd (not (c.in-Some.ensures.some.0 refl)));
   ok = other_code _ _ refl;
-  kept = λ _. kept_same c.in_default-open.ensures.kept;
-  room = λ full _ _. absurd (false≢true (c.in_default-open.ensures.full full));
-  capacity = capacity_same c.in_default-open.ensures.kept;
+  kept = λ _. kept_same c.in_default-ready.ensures.kept;
+  room = λ can _ _. absurd (false≢true (c.in_default-ready.ensures.ok can));
+  capacity = capacity_same c.in_default-ready.ensures.kept;
+  stays = λ full. absurd (false≢true (c.in_default-ready.ensures.ok (inl full)));
 }
 
-code : (c : goal.After-code_of) → IsCodeOf c.push-pushed.result (to_z w32 (of_z w32 c.code_of.result))
+code : (c : goal.After-code_of) → IsCodeOf c.push.result (to_z w32 (of_z w32 c.code_of.result))
 code c = returned c.code_of.type_inv c.code_of.ensures.ok c.code_of.ensures.memory
 
-taken : (c : goal.After-code_of) → Opened (contents c.args.string.now) c.deref_mut.result.now c.args.string.now.full
+taken : (c : goal.After-code_of) → Opened (contents c.args.string.now) c.buffer.result.now
 taken c =
-    opened c.deref_mut.ensures.value c.in-Ok.ensures.units c.in-Ok.ensures.bytes c.in-Ok.ensures.capacity c.in-Ok.ensures.held
+    opened c.buffer.ensures.value c.in-Ok.ensures.units c.in-Ok.ensures.bytes c.in-Ok.ensures.capacity
 
 pub returns-clause-code : goal.returns-clause-code
 returns-clause-code c = or_third (ok_or_no_memory _ _ (code c))
@@ -42,14 +44,14 @@ returns-clause-bad_code_point c =
 
 pub returns-clause-ok : goal.returns-clause-ok
 returns-clause-ok c =
-    appended _ (code c) (taken c) c.put.ensures.contents (rw (← c.in-Some.ensures.number) c.push-pushed.ensures.ok)
+    appended _ (code c) (taken c) (rw (← c.in-Some.ensures.number) c.push.ensures.ok)
 
 pub returns-clause-kept : goal.returns-clause-kept
-returns-clause-kept c = kept_unless_ok (code c) (taken c) c.put.ensures.contents c.push-pushed.ensures.kept
+returns-clause-kept c = kept_unless_ok (code c) (taken c) c.push.ensures.kept
 
 pub returns-clause-room : goal.returns-clause-room
 returns-clause-room c full _ =
-    room _ (code c) (taken c) (rw (← c.in-Some.ensures.number) c.push-pushed.ensures.room) full
+    room _ (code c) (taken c) (rw (← c.in-Some.ensures.number) c.push.ensures.room) full
 
 pub returns-clause-capacity : goal.returns-clause-capacity
-returns-clause-capacity c = capacity_kept (taken c) c.put.ensures.contents c.push-pushed.ensures.capacity
+returns-clause-capacity c = capacity_kept (taken c) c.push.ensures.capacity

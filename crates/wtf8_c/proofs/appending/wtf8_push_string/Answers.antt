@@ -1,4 +1,4 @@
-use Rattle.std.proofs.Common.{rules, refl, inr, ◌∙◌, to_z, of_z, w32}
+use Rattle.std.proofs.Common.{rules, refl, inl, inr, ◌∙◌, to_z, of_z, w32}
 use Rattle.std.proofs.lemmas.Bool.{false≢true}
 use Rattle.wtf8_c.specs.Contents.{contents}
 use Rattle.wtf8_c.proofs.Outcomes.{other_code, IsCodeOf, returned, ok_or_no_memory, Opened, opened, kept, kept_same, capacity_kept}
@@ -11,16 +11,17 @@ returns-in_default c = record {
   ok = other_code _ _ refl;
   kept = λ _. kept_same c.in_default.ensures.kept;
   other = refl;
-  room = λ full _. absurd (false≢true (c.in_default.ensures.full full));
+  room = λ can _. absurd (false≢true (c.in_default.ensures.ok can));
   capacity = capacity_same c.in_default.ensures.kept;
+  stays = λ full. absurd (false≢true (c.in_default.ensures.ok (inl full)));
 }
 
 code : (c : goal.After-code_of) → IsCodeOf c.push_counted-pushed.result (to_z w32 (of_z w32 c.code_of.result))
 code c = returned c.code_of.type_inv c.code_of.ensures.ok c.code_of.ensures.memory
 
-taken : (c : goal.After-code_of) → Opened (contents c.args.string.now) c.deref_mut.result.now c.args.string.now.full
+taken : (c : goal.After-code_of) → Opened (contents c.args.string.now) c.buffer.result.now
 taken c =
-    opened c.deref_mut.ensures.value c.in-Ok.ensures.units c.in-Ok.ensures.bytes c.in-Ok.ensures.capacity c.in-Ok.ensures.held
+    opened c.buffer.ensures.value c.in-Ok.ensures.units c.in-Ok.ensures.bytes c.in-Ok.ensures.capacity
 
 pub returns-clause-code : goal.returns-clause-code
 returns-clause-code c = ok_or_no_memory _ _ (code c)
@@ -29,7 +30,7 @@ pub returns-clause-ok : goal.returns-clause-ok
 returns-clause-ok c = search rules
 
 pub returns-clause-kept : goal.returns-clause-kept
-returns-clause-kept c = kept (code c) (taken c) c.put.ensures.contents c.push_counted-pushed.ensures.kept
+returns-clause-kept c = kept (code c) (taken c) c.push_counted-pushed.ensures.kept
 
 pub returns-clause-other : goal.returns-clause-other
 returns-clause-other c = c.put_back.ensures ∙ c.take-held.ensures.contents
@@ -38,4 +39,4 @@ pub returns-clause-room : goal.returns-clause-room
 returns-clause-room c = search rules
 
 pub returns-clause-capacity : goal.returns-clause-capacity
-returns-clause-capacity c = capacity_kept (taken c) c.put.ensures.contents c.push_counted-pushed.ensures.capacity
+returns-clause-capacity c = capacity_kept (taken c) c.push_counted-pushed.ensures.capacity

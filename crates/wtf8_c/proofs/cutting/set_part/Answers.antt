@@ -1,10 +1,11 @@
-use Rattle.std.proofs.Common.{rules, ◌≡◌, ◌++◌, ap, ◌∙◌, sym, subst, refl, to_z, of_z, w32, pos, arith}
-use Rattle.std.proofs.lemmas.Bool.{false≢true}
+use Rattle.std.proofs.Common.{rules, ◌≡◌, false, if◌then◌else◌, inl, inr, ◌++◌, ap, ◌∙◌, sym, subst, refl, to_z, of_z, w32, pos, arith}
+use Rattle.std.proofs.lemmas.Bool.{false≢true, cases_Bool}
 use mir.Val.{bool_byte}
 use Rattle.wtf8.specs.Appending.{FitWithin}
 use Rattle.wtf8.specs.Form.{IsForm}
 use Rattle.wtf8.specs.UnitPosition.{units_of_slice}
-use Rattle.wtf8_c.specs.Contents.{contents}
+use Rattle.wtf8_c.specs.Contents.{contents, no_string}
+use Rattle.wtf8_c.specs.declared.handle.Wtf8String.{Wtf8String}
 use Rattle.wtf8_c.proofs.Halves.{slice_length, slice_fits}
 use Rattle.wtf8_c.proofs.Outcomes.{IsCodeOf, returned, other_code, replaced_no_smaller}
 use Rattle.wtf8_c.proofs.cutting.set_part.Goals as goal
@@ -26,16 +27,26 @@ pub returns-in-Some-clause-kept : goal.returns-in-Some-clause-kept
 returns-in-Some-clause-kept c e = other_code 0 1 refl (sym (done c (fits c)) ∙ e)
 
 pub returns-in-Ok-clause-room : goal.returns-in-Ok-clause-room
-returns-in-Ok-clause-room c full fit =
-    let long = slice_length c.args.slice c.requires c.len.result c.from.result c.from-2.result c.len.ensures.bytes
-    (c.from.ensures ∙ ap bool_byte c.is_some.ensures) (c.from-2.ensures ∙ ap bool_byte c.is_some-2.ensures) fit.whole fit.form in
-    absurd (false≢true (c.in-None.ensures.room full (omega (arith, long, fit.within))))
+returns-in-Ok-clause-room c = search rules
+
+-- a string without a buffer has no capacity
+no_capacity : (s : Wtf8String) → s.full ≡ false → (contents s).capacity ≡ 0
+no_capacity s e = ap (λ b. (if b then s.string else no_string).capacity) e
 
 pub returns-in-Err-clause-room : goal.returns-in-Err-clause-room
-returns-in-Err-clause-room c full fit =
-    let long = slice_length c.args.slice c.requires c.len.result c.from.result c.from-2.result c.len.ensures.bytes
-    (c.from.ensures ∙ ap bool_byte c.is_some.ensures) (c.from-2.ensures ∙ ap bool_byte c.is_some-2.ensures) fit.whole fit.form in
-    absurd (false≢true (c.in-None.ensures.room full (omega (arith, long, fit.within))))
+returns-in-Err-clause-room c can fit = elim (cases_Bool c.args.string.now.full) [
+  | inl full ↦
+      let long = slice_length c.args.slice c.requires c.len.result c.from.result c.from-2.result c.len.ensures.bytes
+      (c.from.ensures ∙ ap bool_byte c.is_some.ensures) (c.from-2.ensures ∙ ap bool_byte c.is_some-2.ensures) fit.whole fit.form in
+      absurd (false≢true (c.in-None.ensures.room full (omega (arith, long, fit.within))))
+  | inr none ↦
+      let units = units_of_slice c.args.slice in
+      absurd (false≢true (c.in-Err.ensures.room (record {
+        whole = fit.whole;
+        form = subst (λ u. IsForm fit.whole (u ++ units)) (sym c.new-made.ensures.units) fit.form;
+        within = omega (arith, fit.within, no_capacity c.args.string.now none);
+      })))
+]
 
 pub returns-in-Ok-clause-capacity : goal.returns-in-Ok-clause-capacity
 returns-in-Ok-clause-capacity c =

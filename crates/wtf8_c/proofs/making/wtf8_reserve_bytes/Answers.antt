@@ -1,4 +1,4 @@
-use Rattle.std.proofs.Common.{refl, inr, sym, ap, subst, ◌∙◌, ◌+◌, ◌≤◌, length, to_z, of_z, w32}
+use Rattle.std.proofs.Common.{refl, inl, inr, arith, ap, ◌∙◌, length, to_z, of_z, w32}
 use Rattle.std.proofs.lemmas.Bool.{false≢true}
 use Rattle.wtf8_c.specs.Contents.{contents}
 use Rattle.wtf8_c.proofs.Outcomes.{other_code, IsCodeOf, returned, ok_or_no_memory, Opened, opened, once_ok, kept_same, capacity_kept}
@@ -10,34 +10,33 @@ returns-in_default c = record {
   code = inr refl;
   ok = other_code _ _ refl;
   kept = kept_same c.in_default.ensures.kept;
-  room = λ full _. absurd (false≢true (c.in_default.ensures.full full));
+  room = λ can _. absurd (false≢true (c.in_default.ensures.ok can));
   capacity = capacity_same c.in_default.ensures.kept;
+  stays = λ full. absurd (false≢true (c.in_default.ensures.ok (inl full)));
 }
 
-code : (c : goal.After-code_of) → IsCodeOf c.reserve-reserved.result (to_z w32 (of_z w32 c.code_of.result))
+code : (c : goal.After-code_of) → IsCodeOf c.reserve.result (to_z w32 (of_z w32 c.code_of.result))
 code c = returned c.code_of.type_inv c.code_of.ensures.ok c.code_of.ensures.memory
 
-taken : (c : goal.After-code_of) → Opened (contents c.args.string.now) c.deref_mut.result.now c.args.string.now.full
+taken : (c : goal.After-code_of) → Opened (contents c.args.string.now) c.buffer.result.now
 taken c =
-    opened c.deref_mut.ensures.value c.in-Ok.ensures.units c.in-Ok.ensures.bytes c.in-Ok.ensures.capacity c.in-Ok.ensures.held
+    opened c.buffer.ensures.value c.in-Ok.ensures.units c.in-Ok.ensures.bytes c.in-Ok.ensures.capacity
 
 pub returns-clause-code : goal.returns-clause-code
 returns-clause-code c = ok_or_no_memory _ _ (code c)
 
 pub returns-clause-ok : goal.returns-clause-ok
-returns-clause-ok c e =
-    let fits = once_ok (code c) c.reserve-reserved.ensures.ok e in
-    subst (λ x. length x.bytes + c.args.additional ≤ x.capacity) (sym c.put.ensures.contents) fits
+returns-clause-ok c = once_ok (code c) c.reserve.ensures.ok
 
 pub returns-clause-kept : goal.returns-clause-kept
 returns-clause-kept c = record {
-  units = ap (λ x. x.units) c.put.ensures.contents ∙ c.reserve-reserved.ensures.units ∙ (taken c).units;
-  bytes = ap (λ x. x.bytes) c.put.ensures.contents ∙ c.reserve-reserved.ensures.bytes ∙ (taken c).bytes;
+  units = c.reserve.ensures.units ∙ (taken c).units;
+  bytes = c.reserve.ensures.bytes ∙ (taken c).bytes;
 }
 
 pub returns-clause-room : goal.returns-clause-room
-returns-clause-room c full fits =
-    (code c).ok.1 (c.reserve-reserved.ensures.room (subst (λ x. length x.bytes + c.args.additional ≤ x.capacity) (sym ((taken c).held full)) fits))
+returns-clause-room c _ fits =
+    (code c).ok.1 (c.reserve.ensures.room (omega (arith, fits, ap length (taken c).bytes, (taken c).capacity)))
 
 pub returns-clause-capacity : goal.returns-clause-capacity
-returns-clause-capacity c = capacity_kept (taken c) c.put.ensures.contents c.reserve-reserved.ensures.capacity
+returns-clause-capacity c = capacity_kept (taken c) c.reserve.ensures.capacity

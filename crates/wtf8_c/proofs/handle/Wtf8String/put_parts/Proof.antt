@@ -9,8 +9,8 @@ use Rattle.wtf8_c.proofs.Steps.{Goes-ref, ends_at, RattleType, Valss, within, sh
 use Rattle.std.proofs.BoxSteps.Form.{D, word, box_typed}
 use Rattle.std.proofs.BoxSteps.Steps.{box_out}
 use Rattle.std.specs.Box.Ownership.{box_owns}
-use Rattle.std.specs.contracts.alloc.Global as heap
-use Rattle.std.specs.contracts.impls.GlobalAllocator.TheImpl.{ghosts}
+use Rattle.wtf8_c.specs.contracts.place.Place as place
+use Rattle.wtf8_c.specs.contracts.place.PlaceAllocator.TheImpl.{ghosts}
 use Rattle.wtf8_c.specs.Ownership.{Held}
 use Rattle.wtf8_c.proofs.Boxed.{E}
 use Rattle.wtf8_c.specs.contracts.parts.Parts as parts
@@ -21,7 +21,7 @@ use Rattle.wtf8_c.specs.contracts.handle.Wtf8String.{the_row as R, the_type}
 use Rattle.wtf8_c.proofs.handle.Wtf8String.TheLaws.{lowers}
 
 abbrev From : RattleType
-From = parts.the_row Held heap.the_row ghosts
+From = parts.the_row Held place.the_row ghosts
 
 abbrev stayed : Stays f.ended.signature.params f.ended.kept
 stayed = (stay_ref (0 ∷ []) tt (plain (λ _. R)), (stay_dropped (plain (λ _. From)) yes, tt))
@@ -56,12 +56,13 @@ put_parts_spec 𝓤 𝓛 𝓜 𝓡 wired =
     assigns ! (of_opd ! (get ! refl)) (through ! refl (fld ! refl (stop !))) (store_in ! 0 (sub ! 0 refl (whole !)) (tt, tt)) $
     assigns ! (of_opd ! (true_lit !)) (through ! refl (fld ! refl (stop !))) (store_in ! 0 (sub ! 1 refl (whole !)) (tt, tt)) $
     sets ! (of_opd ! (unit_lit !)) refl (tt, tt) $
-    let h' : R.Denot = record { at = block_ptr b' o'; full = true; string = v.value } in
+    let h' : R.Denot = record { at = block_ptr b' o'; full = true; has_place = h.has_place; string = v.value } in
     let w' = lowers.lowered h' in
-    nothing ! $ feq_i ! (List Val) (vbool true ∷ []) (vbool true ∷ []) refl $ fjoin ! $
+    nothing ! $ feq_i ! (List Val) (vbool h.has_place ∷ []) (vbool h.has_place ∷ []) refl $ fjoin ! $
+    feq_i ! (List Val) (vbool true ∷ []) (vbool true ∷ []) refl $ fjoin ! $
     feq_i ! (List Val) (vptr b' o' ∷ []) (vptr b' o' ∷ []) refl $ fjoin ! $ feq_i ! (List Val) (w' ∷ []) (w' ∷ []) refl $ fjoin ! $
-    fpack ! (Valss (RawPtr ∷ bool ∷ [])) (within (shape the_type) (block_ptr b' o', (true, tt)) (w' ∷ []))
-    (vptr b' o' ∷ [], (vbool true ∷ [], tt)) $
+    fpack ! (Valss (RawPtr ∷ bool ∷ bool ∷ [])) (within (shape the_type) (block_ptr b' o', (true, (h.has_place, tt))) (w' ∷ []))
+    (vptr b' o' ∷ [], (vbool true ∷ [], (vbool h.has_place ∷ [], tt))) $
     move ! (0 ∷ 6 ∷ []) $ fjoin ! $ move ! (1 ∷ 0 ∷ []) $ closes ! tt R h' (w' ∷ []) b o $
     returns ! (look_at ! 0 refl) $ free_all ! refl $ keep ! (0 ∷ 1 ∷ 2 ∷ []) $ feq_i ! (List Val) z.0.4.0 (vptr b o ∷ []) same $
     suffices ! _ (ends_at 𝓛 f.ended stayed c z vunit tt (h', (tt, tt)) (tt, (tt, tt))) $ says_two ! (refl, refl) $
