@@ -622,7 +622,8 @@ int main(int count, char **words) {
         enum call call = (enum call)below(CALLS);
         if (p->n + q->n > MOST) { wtf8_clear(&p->string); p->n = 0; }
         if (p->n + q->n > MOST) { wtf8_clear(&q->string); q->n = 0; }
-        refuse_after = below(10) ? -1 : (long)below(4);
+        /* Most calls request one block at most: in a twelfth of the steps that request is refused. */
+        refuse_after = below(4) ? -1 : (long)below(3);
         refuse_once = (int)below(2);
         step(call, p, q);
         refuse_after = -1;
