@@ -1,6 +1,8 @@
 // Conversion of UTF-16 code units to WTF-8 bytes. Which way the next units take:
 //
 //     Units left              They begin with                 Way
+//     all, `QUARTER_BLOCK`    ASCII, and are ASCII            as two blocks, which may overlap: `short_ascii`
+//     to `TWO_BLOCKS` - 1
 //     all, `FEW_UNITS`        any, if none completes a lead   one code point at a time, on the stack: `few`
 //     or fewer                before them
 //     `TWO_BLOCKS` or more    ASCII                           the ASCII run in `TWO_BLOCKS`; after it `letters`, if at most
@@ -18,6 +20,7 @@ pub(crate) mod few;
 pub(crate) mod front;
 pub(crate) mod kernel;
 pub(crate) mod letters;
+pub(crate) mod short_ascii;
 pub(crate) mod shuffle_table;
 pub(crate) mod transcode;
 

@@ -10,6 +10,7 @@ use crate::from_utf16::encoded_len::{Growth, make_room};
 use crate::from_utf16::few::{self, FEW_UNITS};
 use crate::from_utf16::kernel::{self, MIN_SPARE, Progress};
 use crate::from_utf16::letters::{LETTERS_SPARE, append_letters, is_letter};
+use crate::from_utf16::short_ascii::{self, is_short_ascii};
 use crate::from_utf16::{BLOCK_UNITS, HALF_BLOCK, QUARTER_BLOCK, TWO_BLOCKS, decode};
 use crate::lanes::ascii::first_not_ascii;
 use crate::vec::spare_capacity;
@@ -264,26 +265,10 @@ fn append_rest<A: Allocator>(
     Ok(is_utf8)
 }
 
-/// Whether the first and the last `N` units, which may overlap, are ASCII.
-#[inline(always)]
-fn are_ends_ascii<const N: usize>(units: &[u16]) -> bool
-    requires { (N ≤ u64.BITS) × (N ≤ length units.now) }
-{
-    let front = Simd::<u16, N>::from_slice(units);
-    let back = Simd::<u16, N>::from_slice(&units[units.len() - N..]);
-    front.simd_max(back).simd_ge(Simd::splat(0x80)).to_bitmask() == 0
-}
-
-/// Whether a byte for each unit may be enough: the units are ASCII, or many and the first is.
+/// Whether a byte for each unit may be enough: they are many, and the first is ASCII.
 #[inline(always)]
 fn may_be_ascii(units: &[u16]) -> bool {
-    match units.len() {
-        0..QUARTER_BLOCK => false,
-        QUARTER_BLOCK..HALF_BLOCK => are_ends_ascii::<QUARTER_BLOCK>(units),
-        HALF_BLOCK..BLOCK_UNITS => are_ends_ascii::<HALF_BLOCK>(units),
-        BLOCK_UNITS..TWO_BLOCKS => are_ends_ascii::<BLOCK_UNITS>(units),
-        _ => units[0] < 0x80,
-    }
+    TWO_BLOCKS <= units.len() && units[0] < 0x80
 }
 
 /// Reserves a byte for each unit from index `at` on, if that may be enough.
@@ -338,6 +323,10 @@ pub(crate) fn encode<A: Allocator>(alloc: A, v: &[u16]) -> Result<(Vec<u8, A>, b
     ensures form { IfOk result (λ r. IsKnownForm r.0.items v.now r.1) }
     ensures empty { v.now ≡ [] → IsOk result }
 {
+    if is_short_ascii(v) {
+        let narrowed = short_ascii::encode(alloc, v)?;
+        return Ok((narrowed, true));
+    }
     if v.len() <= FEW_UNITS {
         return few::encode(alloc, v);
     }

@@ -5,7 +5,7 @@ ghost use Rattle.wtf8.specs.CodePoint.{number};
 ghost use Rattle.wtf8.specs.Concatenation.{MeetsAsPair};
 ghost use Rattle.wtf8.specs.Form.{IsWellFormed, Reads, encoding};
 ghost use Rattle.wtf8.specs.private.EncodedBytes.{ExtendsForm, BecomesOrKeeps, ExtendsFormOrKeeps};
-ghost use Rattle.wtf8.specs.private.Prefixes.{AreScalarTo, FrontsFit, IsKnownForm};
+ghost use Rattle.wtf8.specs.private.Prefixes.{AreAscii, AreScalarTo, FrontsFit, IsKnownForm};
 ghost use Rattle.wtf8.specs.Surrogates.{AreScalar};
 ghost use Rattle.wtf8.specs.Unicode.{units, units_of, pair, IsSurrogate, IsLead, IsTrail};
 ghost use Rattle.wtf8.specs.View.{view_points, view_units};
@@ -15,7 +15,8 @@ use crate::codec::encoding;
 use crate::from_utf16::encoded_len::Growth;
 use crate::from_utf16::few::{self, FEW_UNITS};
 use crate::from_utf16::kernel::Progress;
-use crate::from_utf16::transcode;
+use crate::from_utf16::short_ascii::{self, is_short_ascii};
+use crate::from_utf16::{QUARTER_BLOCK, TWO_BLOCKS, transcode};
 use crate::strings::utf8_prefix::Utf8Prefix;
 use crate::strings::view::Wtf8;
 use crate::vec::spare_capacity;
@@ -350,6 +351,18 @@ fn push_few<A: Allocator>(
     Ok(())
 }
 
+/// `push_utf16` of units of which `is_short_ascii` is true.
+#[inline(always)]
+fn push_short_ascii<A: Allocator>(bytes: &mut Vec<u8, A>, v: &[u16]) -> Result<(), AllocError>
+    requires well_formed { IsWellFormed bytes.old.items }
+    requires len { (QUARTER_BLOCK ≤ length v.now) × (length v.now < TWO_BLOCKS) }
+    requires ascii { AreAscii v.now }
+    ensures extends { ExtendsFormOrKeeps bytes.old v.now bytes.new result }
+    ensures scalar { (c : List ℕ) → Reads c v.now → AreScalar c }
+{
+    short_ascii::append(bytes, v)
+}
+
 /// Appends code units as `push_utf16` does. Few units take a shorter way. Inlined, so that a caller saves no registers
 /// for `push_utf16` before it chooses.
 #[inline(always)]
@@ -364,6 +377,9 @@ pub(crate) fn push_units<A: Allocator>(
     ensures order { utf8_prefix.new.len ≤ utf8_prefix.old.len }
     ensures scalar { length bytes.old.items < utf8_prefix.new.len → OnOk result ((c : List ℕ) → Reads c v.now → AreScalar c) }
 {
+    if is_short_ascii(v) {
+        return push_short_ascii(bytes, v);
+    }
     if v.len() <= FEW_UNITS {
         // A string without surrogates has no lead at its end.
         if bytes.len() <= utf8_prefix.len || !begins_with_trail(v) {

@@ -1,5 +1,5 @@
 -- ASCII lanes of a block.
-use Rattle.wtf8.proofs.Common.{◌≡◌, ℕ, zero, suc, ◌+◌, ◌-◌, ◌%◌, ◌^◌, ◌<◌, ◌≤◌, leb, le-leb, cond, List, [], ◌∷◌, map, length, take, get_or}
+use Rattle.wtf8.proofs.Common.{◌≡◌, ℕ, zero, suc, ◌+◌, ◌-◌, ◌*◌, ◌%◌, ◌^◌, ◌<◌, ◌≤◌, leb, le-leb, cond, List, [], ◌∷◌, map, length, take, get_or}
 use Rattle.wtf8.proofs.Common.{replicate, refl, ap, ltb, lt-ltb, le-ltb, cases_lt, inl, inr, ◌∙◌, arith, subst, false, Each1, Option}
 use Rattle.wtf8.proofs.Common.{None, Some, IfSome, tops_compared, zip2, mask_l, top, AreAscii, length-take, NoneIn, Each2, IsTrue, eqb, eqb-true}
 use Rattle.wtf8.proofs.Common.{take_all, chunk, length-chunk, get_or-chunk, length-map, sel_l, min, Each1-from_get_or, IsFirstIn}
@@ -7,7 +7,7 @@ use Rattle.wtf8.proofs.Common.{IsFirstSet, IsSet, mask_l-mod, lt-leb, ◌/◌, d
 use native.Mathlib.Nat.{pow-suc, mul_comm, zero-div, div-one, div-div-eq-div-mul}
 use Rattle.wtf8.specs.private.Search.{IsLetterMask}
 use Rattle.std.specs.Option.{IfNone}
-use Rattle.std.proofs.lemmas.List.{get_or-map, get_or-take, drop-map, drop-take, drop-drop}
+use Rattle.std.proofs.lemmas.List.{get_or-map, get_or-take, take-map, drop-map, drop-take, drop-drop}
 use Rattle.std.proofs.lemmas.Simd.{zip2_splat_left, Each1-get_or, Each2-splat, Each1-all}
 use mir.Syntax.{Width}
 use mir.Val.{bits, hbits}
@@ -123,13 +123,41 @@ saturated_lanes (suc n) (x ∷ xs) e = λ i. lane i ∷ saturated_lanes n xs (om
     lane = elim (cases_lt x 0xFF) [ inl l ↦ rw (lt-ltb x 0xFF l) (omega (arith, l)) | inr g ↦ rw (le-ltb x 0xFF g) (omega (arith, g)) ]
 
 -- ASCII units are unchanged by saturation
-pub saturated_ascii : (k : ℕ) (xs : List ℕ) → AreAscii (take k xs) → take k (map (λ n. min n 0xFF) xs) ≡ take k xs
-saturated_ascii zero xs h = refl
-saturated_ascii (suc k) [] h = refl
-saturated_ascii (suc k) (x ∷ xs) h = let same : min x 0xFF ≡ x = omega (arith, h.0) in λ i. same i ∷ saturated_ascii k xs h.1 i
+pub saturated : (xs : List ℕ) → AreAscii xs → map (λ n. min n 0xFF) xs ≡ xs
+saturated [] h = refl
+saturated (x ∷ xs) h = let same : min x 0xFF ≡ x = omega (arith, h.0) in λ i. same i ∷ saturated xs h.1 i
 
--- lanes that are ASCII after saturation are unchanged by it
+-- units that are ASCII after saturation are ASCII
+pub ascii_saturated : (xs : List ℕ) → AreAscii (map (λ n. min n 0xFF) xs) → AreAscii xs
+ascii_saturated [] h = tt
+ascii_saturated (x ∷ xs) h = (omega (arith, h.0), ascii_saturated xs h.1)
+
+pub saturated_ascii : (k : ℕ) (xs : List ℕ) → AreAscii (take k xs) → take k (map (λ n. min n 0xFF) xs) ≡ take k xs
+saturated_ascii k xs h = take-map (λ n. min n 0xFF) k xs ∙ saturated (take k xs) h
+
 pub saturated_front : (k : ℕ) (xs : List ℕ) → AreAscii (take k (map (λ n. min n 0xFF) xs)) → take k (map (λ n. min n 0xFF) xs) ≡ take k xs
-saturated_front zero xs h = refl
-saturated_front (suc k) [] h = refl
-saturated_front (suc k) (x ∷ xs) h = let same : min x 0xFF ≡ x = omega (arith, h.0) in λ i. same i ∷ saturated_front k xs h.1 i
+saturated_front k xs h = saturated_ascii k xs (ascii_saturated (take k xs) (subst AreAscii (take-map (λ n. min n 0xFF) k xs) h))
+
+-- a list is ASCII if its first `n` members and its last `n`, which cover it, are
+pub ascii_ends : (w : List ℕ) (n : ℕ) → n ≤ length w → length w ≤ 2 * n → AreAscii (chunk 0 n w) → AreAscii (chunk (length w - n) n w)
+    → AreAscii w
+ascii_ends w n some all front back = Each1-from_get_or (λ b. b < 0x80) w 0 (λ i l. elim (cases_lt i n) [
+  | inl first ↦ ascii_in_block n 0 w (omega (arith, some)) front i (omega arith) (omega (arith, first))
+  | inr last ↦ ascii_in_block n (length w - n) w (omega (arith, some)) back i (omega (arith, some, all, last)) (omega (arith, some, l))
+])
+
+-- two lists are ASCII if the greater of each two lanes is
+pub ascii_greater : (xs ys : List ℕ) → length xs ≡ length ys
+    → AreAscii (sel_l (map (top 15) (zip2 (λ a b. cond (ltb a b) 0xFFFF 0) xs ys)) ys xs) → AreAscii xs × AreAscii ys
+ascii_greater [] [] e h = (tt, tt)
+ascii_greater [] (y ∷ ys) e h = absurd (omega (arith, e))
+ascii_greater (x ∷ xs) [] e h = absurd (omega (arith, e))
+ascii_greater (x ∷ xs) (y ∷ ys) e h =
+    let rest = ascii_greater xs ys (omega (arith, e)) h.1 in
+    ((omega (arith, h.0, greater.0), rest.0), (omega (arith, h.0, greater.1), rest.1))
+  where
+    greater : (x ≤ cond (top 15 (cond (ltb x y) 0xFFFF 0)) y x) × (y ≤ cond (top 15 (cond (ltb x y) 0xFFFF 0)) y x)
+    greater = elim (cases_lt x y) [
+      | inl l ↦ rw (lt-ltb x y l) (omega (arith, l), omega arith)
+      | inr g ↦ rw (le-ltb x y g) (omega arith, omega (arith, g))
+    ]
