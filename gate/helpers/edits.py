@@ -1,4 +1,9 @@
-"""The must-fail edits of this repository: where they are, how they are applied, and which functions they change."""
+"""The must-fail edits of this repository: where they are, how they are applied, and which functions they change.
+
+A file of gate/must_fail has the edits of one module, in the order of its source: a line `edit: NAME`, or `control: NAME`
+for one that keeps the meaning, then a line `file: PATH` and pairs of lines `old: TEXT` and `new: TEXT`, as a file of
+crates/*/must-fail, which has one edit.
+"""
 import pathlib
 import re
 
@@ -10,13 +15,25 @@ class CannotApply(Exception):
 
 
 class Edit:
-    """An edit: pairs of an old and a new text of a file, both within one line, so that no line moves."""
+    """An edit: pairs of an old and a new text of a file, both within one line, so that no line moves. A control is an edit
+    that keeps the meaning. `is_alone` is of those that `rt ci` tries too, each in a check of its own."""
 
-    def __init__(self, file, crate):
-        self.file, self.crate, self.name = file, crate, file.stem
-        self.pairs = []
+    def __init__(self, crate, name, lines, file, is_control=False):
+        self.crate, self.name, self.lines, self.file, self.is_control = crate, name, lines, file, is_control
+        self.is_alone = file.parent.name == "must-fail"
+
+    def __repr__(self):
+        return f"{self.crate}/{'control ' if self.is_control else ''}{self.name}"
+
+    def text(self):
+        """Returns it as `rt must-fail` reads it."""
+        return "\n".join([*self.lines, ""])
+
+    def pairs(self):
+        """Returns its path, old and new texts."""
+        pairs = []
         path = old = None
-        for line in file.read_text(encoding="utf-8").splitlines():
+        for line in self.lines:
             key, _, text = line.partition(":")
             text = text.removeprefix(" ")
             if key == "file":
@@ -26,25 +43,27 @@ class Edit:
             elif key == "new":
                 if not (path and old):
                     raise CannotApply("a new: line without a file: and an old: line")
-                self.pairs.append((path, old, text))
+                pairs.append((path, old, text))
                 old = None
             elif line.strip():
                 raise CannotApply(f"a line that is no file:, old: or new: line: {line}")
-        if not self.pairs or old is not None:
+        if not pairs or old is not None:
             raise CannotApply("no pair of an old: and a new: line, or one without the other")
+        return pairs
 
     def applied(self, text_of):
         """Returns the edited texts by path, the pairs applied one after another to what `text_of` gives for a path."""
         texts = {}
-        for path, old, new in self.pairs:
+        for path, old, new in self.pairs():
             if path not in texts and (text := text_of(path)) is None:
                 raise CannotApply(f"there is no file {path}")
             before = texts.get(path, text if path not in texts else None)
             if before.count(old) != 1:
                 raise CannotApply(f"its old: text occurs {before.count(old)} times in {path}: {old.strip()}")
             texts[path] = before.replace(old, new)
-        if all(code_of(text) == code_of(text_of(path)) for path, text in texts.items()):
-            raise CannotApply("it changes no code")
+            at = before[: before.index(old)].count("\n")
+            if tokens_of(before.split("\n")[at]) == tokens_of(texts[path].split("\n")[at]):
+                raise CannotApply(f"it changes no code: {new.strip()}")
         return texts
 
     def changed_lines(self, text_of):
@@ -66,6 +85,15 @@ def code_of(text):
     return re.sub(r"[ \t]+$", "", without, flags=re.M)
 
 
+def tokens_of(line):
+    """Returns the texts, words and signs of a line without its comment, so that lines of the same code are equal.
+
+    >>> tokens_of("if a<b { // less") == tokens_of("if a < b {  ")
+    True
+    """
+    return re.findall(r"\"(?:[^\"\\]|\\.)*\"|\w+|[^\w\s]", code_of(line))
+
+
 def reader(folder):
     """Returns a function that gives the text of a path below a crate's folder, or None; it reads each file once."""
     texts = {}
@@ -81,18 +109,34 @@ def reader(folder):
 
 def crates():
     """Returns the names of the crates that have edits."""
-    folders = [*ROOT.glob("crates/*/must-fail"), *ROOT.glob("gate/must_fail/*")]
-    return sorted({folder.parent.name if folder.name == "must-fail" else folder.name for folder in folders if folder.is_dir()})
+    alone = {folder.parent.name for folder in ROOT.glob("crates/*/must-fail")}
+    return sorted(alone | {path.stem for path in (ROOT / "gate/must_fail").iterdir()})
 
 
-def files(crate):
-    """Returns the files of a crate's edits: those that `rt ci` tries alone too, and those of the shared check alone."""
-    return sorted(ROOT.glob(f"crates/{crate}/must-fail/*.edit")) + sorted(ROOT.glob(f"gate/must_fail/{crate}/*.edit"))
+def of(crate):
+    """Returns the edits and controls of a crate: those that `rt ci` tries alone too, each a file of its own, and those of
+    the shared check, in a file for each module below the crate's root, or in one for the crate."""
+    found = [
+        Edit(crate, file.stem, file.read_text(encoding="utf-8").splitlines(), file)
+        for file in sorted(ROOT.glob(f"crates/{crate}/must-fail/*.edit"))
+    ]
+    for file in [*sorted(ROOT.glob(f"gate/must_fail/{crate}/*.edits")), *ROOT.glob(f"gate/must_fail/{crate}.edits")]:
+        found += in_file(crate, file)
+    return found
 
 
-def controls(crate):
-    """Returns the files of a crate's controls: edits that keep the meaning, which no check may refuse."""
-    return sorted(ROOT.glob(f"gate/must_fail/{crate}/controls/*.edit"))
+def in_file(crate, file):
+    """Returns the edits and controls of a file: each is a line with its name and the lines after it."""
+    found = []
+    for line in file.read_text(encoding="utf-8").splitlines():
+        kind, _, name = line.partition(": ")
+        if kind in ("edit", "control"):
+            found.append(Edit(crate, name, [], file, kind == "control"))
+        elif found:
+            found[-1].lines.append(line)
+        elif line.strip():
+            raise CannotApply(f"{file.relative_to(ROOT)}: a line before the first edit: or control: line")
+    return found
 
 
 class Item:
