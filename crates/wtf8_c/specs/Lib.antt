@@ -1,4 +1,3 @@
-pub mod Contents
 pub mod Front
 pub mod Halves
 pub mod Hashing

@@ -5,12 +5,10 @@ ghost use Rattle.wtf8.specs.Form.{encoding};
 ghost use Rattle.wtf8.specs.Position.{IsBoundary};
 ghost use Rattle.wtf8.specs.SurrogatePosition.{IsNextSurrogate, IsTextFrom};
 ghost use Rattle.wtf8.specs.View.{view_units};
-ghost use Rattle.wtf8_c.specs.Contents.{contents};
 ghost use Rattle.wtf8_c.specs.Walks.{IsPointBetween};
 
 use crate::codes::{BAD_POSITION, END, OK};
 use crate::handle::Wtf8String;
-use crate::opening::view;
 use wtf8::{CodePoint, Wtf8};
 
 /// Writes the code point after `position` to `code_point`, and moves `position` past it.
@@ -21,17 +19,14 @@ pub extern "C" fn wtf8_next_code_point(
     code_point: &mut u32,
 ) -> i32
     ensures code { (result ≡ OK) ⊎ ((result ≡ BAD_POSITION) ⊎ (result ≡ END)) }
-    ensures position { result ≡ BAD_POSITION ↔ ¬ (IsBoundary (contents string.old).units position.old) }
-    ensures end { result ≡ END ↔ position.old ≡ length (contents string.old).bytes }
-    ensures ok { result ≡ OK → IsPointBetween (contents string.old).units position.old position.new code_point.new }
+    ensures position { result ≡ BAD_POSITION ↔ ¬ (IsBoundary string.old.buf.units position.old) }
+    ensures end { result ≡ END ↔ position.old ≡ length string.old.buf.bytes }
+    ensures ok { result ≡ OK → IsPointBetween string.old.buf.units position.old position.new code_point.new }
     ensures position_kept { ¬ (result ≡ OK) → position.new ≡ position.old }
     ensures code_point { ¬ (result ≡ OK) → code_point.new ≡ code_point.old }
-    ensures kept { contents string.new ≡ contents string.old }
+    ensures kept { string.new ≡ string.old }
 {
-    let held = string.take();
-    let code = next_of(view(&held), position, code_point);
-    string.put_back(held);
-    code
+    next_of(string.buffer().as_wtf8(), position, code_point)
 }
 
 /// Writes the code point before `position` to `code_point`, and moves `position` back to its start.
@@ -42,17 +37,14 @@ pub extern "C" fn wtf8_previous_code_point(
     code_point: &mut u32,
 ) -> i32
     ensures code { (result ≡ OK) ⊎ ((result ≡ BAD_POSITION) ⊎ (result ≡ END)) }
-    ensures position { result ≡ BAD_POSITION ↔ ¬ (IsBoundary (contents string.old).units position.old) }
+    ensures position { result ≡ BAD_POSITION ↔ ¬ (IsBoundary string.old.buf.units position.old) }
     ensures end { result ≡ END ↔ position.old ≡ 0 }
-    ensures ok { result ≡ OK → IsPointBetween (contents string.old).units position.new position.old code_point.new }
+    ensures ok { result ≡ OK → IsPointBetween string.old.buf.units position.new position.old code_point.new }
     ensures position_kept { ¬ (result ≡ OK) → position.new ≡ position.old }
     ensures code_point { ¬ (result ≡ OK) → code_point.new ≡ code_point.old }
-    ensures kept { contents string.new ≡ contents string.old }
+    ensures kept { string.new ≡ string.old }
 {
-    let held = string.take();
-    let code = previous_of(view(&held), position, code_point);
-    string.put_back(held);
-    code
+    previous_of(string.buffer().as_wtf8(), position, code_point)
 }
 
 /// Writes the first surrogate after `position` to `unit`, and moves `position` past it.
@@ -63,17 +55,14 @@ pub extern "C" fn wtf8_next_surrogate(
     unit: &mut u16,
 ) -> i32
     ensures code { (result ≡ OK) ⊎ ((result ≡ BAD_POSITION) ⊎ (result ≡ END)) }
-    ensures position { result ≡ BAD_POSITION ↔ ¬ (IsBoundary (contents string.old).units position.old) }
-    ensures end { result ≡ END ↔ IsTextFrom (contents string.old).units position.old }
-    ensures ok { result ≡ OK → IsNextSurrogate (contents string.old).units position.old position.new unit.new }
+    ensures position { result ≡ BAD_POSITION ↔ ¬ (IsBoundary string.old.buf.units position.old) }
+    ensures end { result ≡ END ↔ IsTextFrom string.old.buf.units position.old }
+    ensures ok { result ≡ OK → IsNextSurrogate string.old.buf.units position.old position.new unit.new }
     ensures position_kept { ¬ (result ≡ OK) → position.new ≡ position.old }
     ensures unit { ¬ (result ≡ OK) → unit.new ≡ unit.old }
-    ensures kept { contents string.new ≡ contents string.old }
+    ensures kept { string.new ≡ string.old }
 {
-    let held = string.take();
-    let code = next_surrogate_of(view(&held), position, unit);
-    string.put_back(held);
-    code
+    next_surrogate_of(string.buffer().as_wtf8(), position, unit)
 }
 
 /// The first surrogate of `text` after `position`, as `wtf8_next_surrogate` writes it.

@@ -1,25 +1,23 @@
--- `fill` writes the buffer into the place, and the handle owns it.
-use Rattle.wtf8_c.proofs.Steps.{◌≡◌, List, [], ◌∷◌, ◌++◌, refl, sym, subst, ap, ◌∙◌, Bool, true, false, IsFalse, IsTrue, proved_at, full_share, ent, id⊢}
-use Rattle.wtf8_c.proofs.Steps.{ftrue, fsep, flft, named, Val, vunit, vptr, vbool, fact, tables, ⋆, Item, ‵, raw, ◌⊛◌, ◌$◌, ◌∵◌, !, qed, by, done, move}
+-- `fill` writes the buffer into the memory, and the room owns it.
+use Rattle.wtf8_c.proofs.Steps.{◌≡◌, List, [], ◌∷◌, ◌++◌, refl, sym, subst, ap, ◌∙◌, proved_at, full_share, ent, id⊢}
+use Rattle.wtf8_c.proofs.Steps.{ftrue, fsep, flft, named, Val, vunit, vptr, fact, tables, ⋆, Item, ‵, raw, ◌⊛◌, ◌$◌, ◌∵◌, !, qed, by, done, move}
 use Rattle.wtf8_c.proofs.Steps.{keep, drop, use2, split, join, fsplit, fsplit3, fjoin, fpack, feq_i, rewrite, suffices, frame, group, enter, of_opd, load}
-use Rattle.wtf8_c.proofs.Steps.{unit_lit, stop, fld, assigns, assigns_last, first, blocks, exec, returns, alloc_all, pass_all, free_all, look_at, look_in, get}
-use Rattle.wtf8_c.proofs.Steps.{through, sets, true_lit, store_in, sub, whole, bool, yes, shows, cell_at, part_at, Ptr, RawPtr, block_ptr, in_a_block, MutRef}
+use Rattle.wtf8_c.proofs.Steps.{unit_lit, stop, fld, assigns_last, first, blocks, exec, returns, alloc_all, pass_all, free_all, look_at, look_in, get}
+use Rattle.wtf8_c.proofs.Steps.{through, sets, sub, whole, yes, shows, cell_at, part_at, Ptr, RawPtr, block_ptr, in_a_block, MutRef}
 use Rattle.wtf8_c.proofs.Steps.{mut_Tells, plain, nothing, opens, closes, heard, peeks, Stays, walk_of, says_two, stay_dropped, Goes-dropped, stay_ref}
 use Rattle.wtf8_c.proofs.Steps.{Goes-ref, ends_at, Valss, within, shape, WpFn, env, at_ret, after}
-use mir.Raw.{raw as bare}
-use denote.Memory.{lone}
-use denote.RawPtr.{room_for}
+use denote.RawPtr.{room_at}
 use types.Run.{init}
-use Rattle.std.proofs.RawLayout.{as_written}
-use Rattle.std.proofs.BoxSteps.Form.{τ, own, R as Element}
+use Rattle.std.proofs.BoxSteps.Form.{own, R as Element}
 use Rattle.std.proofs.BoxSteps.Steps.{el_in, el_tells}
-use Rattle.wtf8_c.specs.Ownership.{Held, string_owns}
+use Rattle.std.specs.Prelude.{Option, Some, None}
+use Rattle.wtf8_c.specs.Ownership.{Held, room_owns}
 use Rattle.wtf8_c.proofs.Boxed.{E}
-use Rattle.wtf8_c.specs.contracts.handle.Wtf8String.fill as f
-use Rattle.wtf8_c.proofs.handle.Wtf8String.fill.Statement.{statement}
-use Rattle.wtf8_c.proofs.handle.Wtf8String.fill.Code as code
-use Rattle.wtf8_c.specs.contracts.handle.Wtf8String.{the_row as R, the_type}
-use Rattle.wtf8_c.proofs.handle.Wtf8String.TheLaws.{lowers}
+use Rattle.wtf8_c.specs.contracts.handle.Room.fill as f
+use Rattle.wtf8_c.proofs.handle.Room.fill.Statement.{statement}
+use Rattle.wtf8_c.proofs.handle.Room.fill.Code as code
+use Rattle.wtf8_c.specs.contracts.handle.Room.{the_row as R, the_type}
+use Rattle.wtf8_c.proofs.handle.Room.TheLaws.{lowers}
 
 abbrev stayed : Stays f.ended.signature.params f.ended.kept
 stayed = (stay_ref (0 ∷ []) tt (plain (λ _. R)), (stay_dropped (plain (λ _. Held)) yes, tt))
@@ -32,8 +30,8 @@ fill_spec 𝓤 𝓛 𝓜 𝓡 wired =
     let κs = z.0.0 in let qs = z.0.1 in let a = z.0.3 in let b = a.0.ref_ptr.0 in let o = a.0.ref_ptr.1 in let h = a.0.now in let x = a.1.0 in
     let same : z.0.4.0 ≡ vptr b o ∷ [] = mut_Tells (named 0) κs.0 R a.0 z.0.4.0 are.0 in
     qed 𝓛 (((‵ (flft κs.0 qs.0) ⊛ ‵ ftrue) ⊛ ‵ (fsep ((MutRef (named 0) κs.0 R).own_val a.0 z.0.4.0)
-    (fsep (Held.own_val x z.0.4.1.0) ftrue))) ∷ (raw (fact 𝓤 (IsFalse h.full)) ⊛ raw (fact 𝓤 (IsTrue h.has_place))) ∷ []) ∵
-    move ! (1 ∷ []) $ split ! $ heard ! _ (λ empty. heard ! _ (λ place. split ! $ split ! $ move ! (2 ∷ []) $ fsplit ! $ move ! (1 ∷ []) $ fsplit ! $
+    (fsep (Held.own_val x z.0.4.1.0) ftrue))) ∷ raw (fact 𝓤 (h.buf ≡ None)) ∷ []) ∵
+    move ! (1 ∷ []) $ heard ! _ (λ empty. split ! $ split ! $ move ! (2 ∷ []) $ fsplit ! $ move ! (1 ∷ []) $ fsplit ! $
     el_tells E ! x z.0.4.1.0 (λ v ev t. keep ! (0 ∷ 2 ∷ 3 ∷ []) $
     rewrite ! 1 (λ (us : List Val). ‵ ((MutRef (named 0) κs.0 R).own_val a.0 us)) same refl $
     let Γ : List (Item 𝓤) = ‵ (own E x (v ∷ [])) ∷ ‵ ((MutRef (named 0) κs.0 R).own_val a.0 (vptr b o ∷ [])) ∷ ‵ (flft κs.0 qs.0) ∷ [] in
@@ -43,32 +41,27 @@ fill_spec 𝓤 𝓛 𝓜 𝓡 wired =
     alloc_all ! (λ l. pass_all ! refl ((tt, tt), (t, tt)) $
     move ! (1 ∷ []) $ fsplit3 ! $ move ! (1 ∷ 2 ∷ 4 ∷ []) $ opens ! tt R b o (λ us.
     move ! (1 ∷ []) $ peeks ! R _ (shows 𝓛 R) h us (λ is. fsplit ! $ move ! (1 ∷ []) $
-    rewrite ! 0 (λ (t : Bool). ‵ (string_owns t h.has_place h.at h.string)) empty refl $
-    rewrite ! 0 (λ (t : Bool). ‵ (string_owns false t h.at h.string)) place refl $
-    in_a_block ! h.at (room_for (bare (lone Held.mir))) (id⊢ 𝓤 _) (λ b' o' e.
+    rewrite ! 0 (λ (m : Option Held.Denot). ‵ (room_owns h.at m)) empty refl $
+    in_a_block ! h.at (room_at Held) (id⊢ 𝓤 _) (λ b' o' e.
     let at_block = lowers.val_is h us is ∙ ap (λ (p : Ptr). lowers.lowered (record h { at = p }) ∷ []) e in
     let Cell = λ (ws : List Val). ‵ (cell_at full_share R.mir ws b o) in
-    rewrite ! 2 Cell at_block refl $ as_written ! (τ E) b' o' $
-    -- [the place; what the fields own; the handle's cell; the open borrow, in three entries; the reference; the buffer]
+    rewrite ! 2 Cell at_block refl $
+    -- [the room; what the fields own; the handle's cell; the open borrow, in three entries; the reference; the buffer]
     sets ! (of_opd ! (load ! (through ! refl (fld ! refl (stop !))) (look_in ! 2 (sub ! 0 refl (whole !))))) refl (tt, tt) $
     sets ! (of_opd ! (get ! refl)) refl (tt, tt) $
     first ! $ blocks ! $ sets ! (of_opd ! (get ! refl)) refl t $
     assigns_last ! (of_opd ! (get ! refl)) (through ! refl (stop !)) (init ! 0 refl t) $
     exec ! 𝓣.C 𝓣.Λ (env code.Mir.locals l) (after 3 (code.function).body) (at_ret _ (W.post z)) $
-    assigns ! (of_opd ! (true_lit !)) (through ! refl (fld ! refl (stop !))) (store_in ! 2 (sub ! 1 refl (whole !)) (tt, tt)) $
     sets ! (of_opd ! (unit_lit !)) refl (tt, tt) $
-    let h' : R.Denot = record { at = block_ptr b' o'; full = true; has_place = h.has_place; string = x } in
+    let h' : R.Denot = record { at = block_ptr b' o'; buf = Some x } in
     let w' = lowers.lowered h' in
-    move ! (0 ∷ 7 ∷ []) $ use2 𝓛 (‵ (part_at (Element E) full_share x b' o')) (el_in E 𝓛 x b' o' v) $ nothing ! $ move ! (1 ∷ 0 ∷ []) $ fjoin ! $
+    move ! (0 ∷ 7 ∷ []) $ use2 𝓛 (‵ (part_at (Element E) full_share x b' o')) (el_in E 𝓛 x b' o' v) $
     move ! (1 ∷ []) $ drop ! $
-    nothing ! $ feq_i ! (List Val) (vbool h.has_place ∷ []) (vbool h.has_place ∷ []) refl $ fjoin ! $
-    feq_i ! (List Val) (vbool true ∷ []) (vbool true ∷ []) refl $ fjoin ! $
-    feq_i ! (List Val) (vptr b' o' ∷ []) (vptr b' o' ∷ []) refl $ fjoin ! $ feq_i ! (List Val) (w' ∷ []) (w' ∷ []) refl $ fjoin ! $
-    fpack ! (Valss (RawPtr ∷ bool ∷ bool ∷ [])) (within (shape the_type) (block_ptr b' o', (true, (h.has_place, tt))) (w' ∷ []))
-    (vptr b' o' ∷ [], (vbool true ∷ [], (vbool h.has_place ∷ [], tt))) $
+    nothing ! $ feq_i ! (List Val) (vptr b' o' ∷ []) (vptr b' o' ∷ []) refl $ fjoin ! $ feq_i ! (List Val) (w' ∷ []) (w' ∷ []) refl $ fjoin ! $
+    fpack ! (Valss (RawPtr ∷ [])) (within (shape the_type) (block_ptr b' o', tt) (w' ∷ [])) (vptr b' o' ∷ [], tt) $
     fjoin ! $ move ! (1 ∷ 0 ∷ []) $ closes ! tt R h' (w' ∷ []) b o $
     returns ! (look_at ! 0 refl) $ free_all ! refl $ keep ! (0 ∷ 1 ∷ 2 ∷ []) $ feq_i ! (List Val) z.0.4.0 (vptr b o ∷ []) same $
-    suffices ! _ (ends_at 𝓛 f.ended stayed c z vunit tt (h', (tt, tt)) (tt, (tt, tt))) $ says_two ! (refl, refl) $
+    suffices ! _ (ends_at 𝓛 f.ended stayed c z vunit tt (h', (tt, tt)) (tt, (tt, tt))) $ says_two ! (refl, sym e) $
     group ! 3 $ nothing ! $ nothing ! $ join ! $ move ! (1 ∷ 0 ∷ []) $ join ! $ nothing ! $ move ! (2 ∷ 0 ∷ []) $ join ! $
     frame ! $ frame ! $
-    feq_i ! _ (vunit ∷ []) _ refl $ done !))))))))))
+    feq_i ! _ (vunit ∷ []) _ refl $ done !)))))))))
