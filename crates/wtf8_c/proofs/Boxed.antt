@@ -1,4 +1,5 @@
 -- A buffer as a value that is moved into memory.
+use mathlib.Core.List.{[]}
 use mir.Syntax.{impl, tnil, dnil}
 use Rattle.std.proofs.BoxSteps.Form.{Bx}
 use Rattle.std.specs.contracts.alloc.Global as heap

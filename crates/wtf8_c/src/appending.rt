@@ -5,6 +5,7 @@ ghost use Rattle.std.specs.Str.Lossy.{utf8_valid_len};
 ghost use Rattle.wtf8.specs.Appending.{AppendsUnits, KeepsContents, HasRoomFor};
 ghost use Rattle.wtf8.specs.Unicode.{IsCodePoint, units, units_of};
 ghost use Rattle.wtf8_c.specs.Utf8Front.{utf8_front, bad_len};
+ghost use Rattle.wtf8_c.specs.Kept.{IsKept};
 
 use crate::codes::{BAD_CODE_POINT, NO_MEMORY, NOT_UTF8, OK, code_of};
 use crate::handle::Wtf8String;
@@ -72,11 +73,7 @@ pub extern "C" fn wtf8_push_latin1(string: &mut Wtf8String, text: &[u8]) -> i32
 /// Appends a text, which must be UTF-8. If it is not, the length of its longest front that is UTF-8 is written to
 /// `valid`.
 #[unsafe(no_mangle)]
-pub extern "C" fn wtf8_push_utf8(
-    string: &mut Wtf8String,
-    text: &[u8],
-    valid: &mut usize,
-) -> i32
+pub extern "C" fn wtf8_push_utf8(string: &mut Wtf8String, text: &[u8], valid: &mut usize) -> i32
     ensures code { (result ≡ OK) ⊎ ((result ≡ NO_MEMORY) ⊎ (result ≡ NOT_UTF8)) }
     ensures not_utf8 { result ≡ NOT_UTF8 ↔ ¬ (IsUtf8 text.now) }
     ensures ok { result ≡ OK → AppendsUnits string.old.buf (units (chars text.now)) string.new.buf }
@@ -142,18 +139,19 @@ fn read_front(text: &[u8]) -> (&str, usize)
 
 /// Appends another string.
 #[unsafe(no_mangle)]
-pub extern "C" fn wtf8_push_string(
-    string: &mut Wtf8String,
-    other: &mut Wtf8String,
-) -> i32
+pub extern "C" fn wtf8_push_string(string: &mut Wtf8String, other: &mut Wtf8String) -> i32
     ensures code { (result ≡ OK) ⊎ (result ≡ NO_MEMORY) }
     ensures ok { result ≡ OK → AppendsUnits string.old.buf other.old.buf.units string.new.buf }
     ensures kept { result ≡ NO_MEMORY → KeepsContents string.old.buf string.new.buf }
-    ensures other { other.new ≡ other.old }
+    ensures other { IsKept other.old other.new }
     ensures room { HasRoomFor string.old.buf other.old.buf.units → result ≡ OK }
     ensures capacity { string.old.buf.capacity ≤ string.new.buf.capacity }
     ensures lies { string.new.at ≡ string.old.at }
 {
     let more = other.buffer();
-    code_of(string.buffer().push_counted(more.as_wtf8(), more.unit_len()))
+    code_of(
+        string
+            .buffer()
+            .push_counted(more.as_wtf8(), more.unit_len()),
+    )
 }

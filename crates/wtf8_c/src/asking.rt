@@ -7,6 +7,7 @@ ghost use Rattle.wtf8.specs.Position.{IsBoundary, IsFront};
 ghost use Rattle.wtf8.specs.Surrogates.{AreScalar};
 ghost use Rattle.wtf8.specs.UnitPosition.{DividesPair};
 ghost use Rattle.unit_text.specs.Positions.{AreUnitsBefore};
+ghost use Rattle.wtf8_c.specs.Kept.{IsKept};
 
 use crate::codes::{AFTER, BAD_POSITION, BEFORE, OK, SAME, code_of_order};
 use crate::handle::Wtf8String;
@@ -16,7 +17,7 @@ use wtf8::encoded_len;
 #[unsafe(no_mangle)]
 pub extern "C" fn wtf8_unit_len(string: &mut Wtf8String) -> usize
     ensures len { result ≡ length string.old.buf.units }
-    ensures kept { string.new ≡ string.old }
+    ensures kept { IsKept string.old string.new }
 {
     string.buffer().unit_len()
 }
@@ -33,7 +34,7 @@ pub extern "C" fn wtf8_encoded_len(units: &[u16]) -> usize
 #[unsafe(no_mangle)]
 pub extern "C" fn wtf8_byte_len(string: &mut Wtf8String) -> usize
     ensures len { result ≡ length string.old.buf.bytes }
-    ensures kept { string.new ≡ string.old }
+    ensures kept { IsKept string.old string.new }
 {
     string.buffer().as_wtf8().len()
 }
@@ -42,7 +43,7 @@ pub extern "C" fn wtf8_byte_len(string: &mut Wtf8String) -> usize
 #[unsafe(no_mangle)]
 pub extern "C" fn wtf8_capacity(string: &mut Wtf8String) -> usize
     ensures capacity { result ≡ string.old.buf.capacity }
-    ensures kept { string.new ≡ string.old }
+    ensures kept { IsKept string.old string.new }
 {
     string.buffer().capacity()
 }
@@ -59,7 +60,7 @@ pub extern "C" fn wtf8_position_at(
     ensures whole { result ≡ OK → ¬ (DividesPair string.old.buf.units index) → IsFront string.old.buf.units position.new (take index string.old.buf.units) }
     ensures divided { result ≡ OK → DividesPair string.old.buf.units index → IsFront string.old.buf.units position.new (take (index - 1) string.old.buf.units) }
     ensures position_kept { result ≡ BAD_POSITION → position.new ≡ position.old }
-    ensures kept { string.new ≡ string.old }
+    ensures kept { IsKept string.old string.new }
 {
     let buf = string.buffer();
     if buf.unit_len() < index {
@@ -73,7 +74,7 @@ pub extern "C" fn wtf8_position_at(
 #[unsafe(no_mangle)]
 pub extern "C" fn wtf8_unit_before(string: &mut Wtf8String, position: usize) -> usize
     ensures before { AreUnitsBefore string.old.buf.units position result }
-    ensures kept { string.new ≡ string.old }
+    ensures kept { IsKept string.old string.new }
 {
     string.buffer().unit_before(position)
 }
@@ -85,7 +86,7 @@ pub extern "C" fn wtf8_unit_at(string: &mut Wtf8String, index: usize, unit: &mut
     ensures position { result ≡ BAD_POSITION ↔ length string.old.buf.units ≤ index }
     ensures ok { result ≡ OK → slice_get string.old.buf.units index ≡ Some unit.new }
     ensures unit { result ≡ BAD_POSITION → unit.new ≡ unit.old }
-    ensures kept { string.new ≡ string.old }
+    ensures kept { IsKept string.old string.new }
 {
     match string.buffer().unit_at(index) {
         Some(value) => {
@@ -100,7 +101,7 @@ pub extern "C" fn wtf8_unit_at(string: &mut Wtf8String, index: usize, unit: &mut
 #[unsafe(no_mangle)]
 pub extern "C" fn wtf8_is_boundary(string: &mut Wtf8String, position: usize) -> bool
     ensures boundary { IsTrue result ↔ IsBoundary string.old.buf.units position }
-    ensures kept { string.new ≡ string.old }
+    ensures kept { IsKept string.old string.new }
 {
     string.buffer().as_wtf8().is_code_point_boundary(position)
 }
@@ -109,7 +110,7 @@ pub extern "C" fn wtf8_is_boundary(string: &mut Wtf8String, position: usize) -> 
 #[unsafe(no_mangle)]
 pub extern "C" fn wtf8_is_utf8(string: &mut Wtf8String) -> bool
     ensures utf8 { IsTrue result ↔ ((c : List ℕ) → Reads c string.old.buf.units → AreScalar c) }
-    ensures kept { string.new ≡ string.old }
+    ensures kept { IsKept string.old string.new }
 {
     string.buffer().as_wtf8().as_str().is_some()
 }
@@ -118,8 +119,8 @@ pub extern "C" fn wtf8_is_utf8(string: &mut Wtf8String) -> bool
 #[unsafe(no_mangle)]
 pub extern "C" fn wtf8_equal(string: &mut Wtf8String, other: &mut Wtf8String) -> bool
     ensures equal { IsTrue result ↔ string.old.buf.units ≡ other.old.buf.units }
-    ensures kept { string.new ≡ string.old }
-    ensures other { other.new ≡ other.old }
+    ensures kept { IsKept string.old string.new }
+    ensures other { IsKept other.old other.new }
 {
     string.buffer().as_wtf8() == other.buffer().as_wtf8()
 }
@@ -131,10 +132,15 @@ pub extern "C" fn wtf8_compare_units(string: &mut Wtf8String, other: &mut Wtf8St
     ensures before { result ≡ BEFORE → Before string.old.buf.units other.old.buf.units }
     ensures same { result ≡ SAME → string.old.buf.units ≡ other.old.buf.units }
     ensures after { result ≡ AFTER → Before other.old.buf.units string.old.buf.units }
-    ensures kept { string.new ≡ string.old }
-    ensures other { other.new ≡ other.old }
+    ensures kept { IsKept string.old string.new }
+    ensures other { IsKept other.old other.new }
 {
-    code_of_order(string.buffer().as_wtf8().cmp_units(&other.buffer().as_wtf8()))
+    code_of_order(
+        string
+            .buffer()
+            .as_wtf8()
+            .cmp_units(&other.buffer().as_wtf8()),
+    )
 }
 
 /// Compares two strings by their code points.
@@ -144,8 +150,8 @@ pub extern "C" fn wtf8_compare_code_points(string: &mut Wtf8String, other: &mut 
     ensures before { result ≡ BEFORE → Before string.old.buf.form.points other.old.buf.form.points }
     ensures same { result ≡ SAME → string.old.buf.form.points ≡ other.old.buf.form.points }
     ensures after { result ≡ AFTER → Before other.old.buf.form.points string.old.buf.form.points }
-    ensures kept { string.new ≡ string.old }
-    ensures other { other.new ≡ other.old }
+    ensures kept { IsKept string.old string.new }
+    ensures other { IsKept other.old other.new }
 {
     code_of_order(string.buffer().as_wtf8().cmp(&other.buffer().as_wtf8()))
 }

@@ -4,6 +4,7 @@ ghost use Rattle.std.specs.Str.{chars, IsUtf8};
 ghost use Rattle.wtf8.specs.Order.{Before};
 ghost use Rattle.wtf8.specs.Unicode.{units};
 ghost use Rattle.wtf8.specs.View.{view_units};
+ghost use Rattle.wtf8_c.specs.Kept.{IsKept};
 
 use crate::codes::{AFTER, BEFORE, SAME, code_of_order};
 use crate::handle::Wtf8String;
@@ -13,7 +14,7 @@ use wtf8::{Wtf8, from_utf8};
 #[unsafe(no_mangle)]
 pub extern "C" fn wtf8_equal_units(string: &mut Wtf8String, units: &[u16]) -> bool
     ensures equal { IsTrue result ↔ string.old.buf.units ≡ units.now }
-    ensures kept { string.new ≡ string.old }
+    ensures kept { IsKept string.old string.new }
 {
     string.buffer().eq_units(units)
 }
@@ -22,7 +23,7 @@ pub extern "C" fn wtf8_equal_units(string: &mut Wtf8String, units: &[u16]) -> bo
 #[unsafe(no_mangle)]
 pub extern "C" fn wtf8_equal_utf8(string: &mut Wtf8String, text: &[u8]) -> bool
     ensures equal { IsTrue result ↔ (IsUtf8 text.now × (string.old.buf.units ≡ units (chars text.now))) }
-    ensures kept { string.new ≡ string.old }
+    ensures kept { IsKept string.old string.new }
 {
     is_text(string.buffer().as_wtf8(), text)
 }
@@ -34,7 +35,7 @@ pub extern "C" fn wtf8_compare_with_units(string: &mut Wtf8String, units: &[u16]
     ensures before { result ≡ BEFORE → Before string.old.buf.units units.now }
     ensures same { result ≡ SAME → string.old.buf.units ≡ units.now }
     ensures after { result ≡ AFTER → Before units.now string.old.buf.units }
-    ensures kept { string.new ≡ string.old }
+    ensures kept { IsKept string.old string.new }
 {
     code_of_order(string.buffer().as_wtf8().cmp_with_units(units))
 }
@@ -48,8 +49,8 @@ pub extern "C" fn wtf8_starts_with(
     other: &mut Wtf8String,
 ) -> bool
     ensures starts { IsTrue result ↔ take (length other.old.buf.units) (drop index string.old.buf.units) ≡ other.old.buf.units }
-    ensures kept { string.new ≡ string.old }
-    ensures other { other.new ≡ other.old }
+    ensures kept { IsKept string.old string.new }
+    ensures other { IsKept other.old other.new }
 {
     string.buffer().starts_with_at(index, other.buffer())
 }
@@ -62,7 +63,7 @@ pub extern "C" fn wtf8_starts_with_units(
     units: &[u16],
 ) -> bool
     ensures starts { IsTrue result ↔ take (length units.now) (drop index string.old.buf.units) ≡ units.now }
-    ensures kept { string.new ≡ string.old }
+    ensures kept { IsKept string.old string.new }
 {
     string.buffer().starts_with_units_at(index, units)
 }

@@ -1,9 +1,10 @@
 // Calls that shorten a string, and that copy or append a part of one.
-ghost use Rattle.std.specs.Prelude.{◌≡◌, [], ◌∷◌, ◌++◌, ◌⊎◌, ◌<◌, ◌≤◌, ◌↔◌, IsOk, OnOk, OnErr, length, take, drop};
+ghost use Rattle.std.specs.Prelude.{◌≡◌, [], ◌∷◌, ◌++◌, ◌⊎◌, ◌<◌, ◌≤◌, ◌↔◌, IsTrue, IsOk, OnOk, OnErr, length, take, drop};
 ghost use Rattle.wtf8.specs.Appending.{AppendsUnits, KeepsContents, HasRoomFor, FitWithin};
 ghost use Rattle.wtf8.specs.Position.{IsBoundary, IsFront};
 ghost use Rattle.wtf8.specs.UnitPosition.{units_of_slice};
 ghost use Rattle.wtf8_c.specs.Halves.{AreHalves};
+ghost use Rattle.wtf8_c.specs.Kept.{IsKept};
 
 use crate::codes::{BAD_POSITION, END, NO_MEMORY, OK, code_of};
 use crate::handle::Wtf8String;
@@ -18,7 +19,7 @@ pub extern "C" fn wtf8_truncate_units(string: &mut Wtf8String, n: usize) -> i32
     ensures code { (result ≡ OK) ⊎ (result ≡ BAD_POSITION) }
     ensures position { result ≡ BAD_POSITION ↔ length string.old.buf.units < n }
     ensures ok { result ≡ OK → string.new.buf.units ≡ take n string.old.buf.units }
-    ensures kept { result ≡ BAD_POSITION → string.new ≡ string.old }
+    ensures kept { result ≡ BAD_POSITION → IsKept string.old string.new }
     ensures capacity { string.new.buf.capacity ≡ string.old.buf.capacity }
     ensures lies { string.new.at ≡ string.old.at }
 {
@@ -36,7 +37,7 @@ pub extern "C" fn wtf8_truncate_bytes(string: &mut Wtf8String, position: usize) 
     ensures code { (result ≡ OK) ⊎ (result ≡ BAD_POSITION) }
     ensures position { result ≡ BAD_POSITION ↔ ¬ (IsBoundary string.old.buf.units position) }
     ensures ok { result ≡ OK → IsFront string.old.buf.units position string.new.buf.units }
-    ensures kept { result ≡ BAD_POSITION → string.new ≡ string.old }
+    ensures kept { result ≡ BAD_POSITION → IsKept string.old string.new }
     ensures capacity { string.new.buf.capacity ≡ string.old.buf.capacity }
     ensures lies { string.new.at ≡ string.old.at }
 {
@@ -54,7 +55,7 @@ pub extern "C" fn wtf8_pop(string: &mut Wtf8String, code_point: &mut u32) -> i32
     ensures code { (result ≡ OK) ⊎ (result ≡ END) }
     ensures end { result ≡ END ↔ string.old.buf.units ≡ [] }
     ensures ok { result ≡ OK → string.old.buf.form.points ≡ string.new.buf.form.points ++ code_point.new ∷ [] }
-    ensures kept { result ≡ END → string.new ≡ string.old }
+    ensures kept { result ≡ END → IsKept string.old string.new }
     ensures code_point { result ≡ END → code_point.new ≡ code_point.old }
     ensures capacity { string.new.buf.capacity ≡ string.old.buf.capacity }
     ensures lies { string.new.at ≡ string.old.at }
@@ -99,9 +100,9 @@ pub extern "C" fn wtf8_slice_units(
     ensures code { (result ≡ OK) ⊎ ((result ≡ NO_MEMORY) ⊎ (result ≡ BAD_POSITION)) }
     ensures position { result ≡ BAD_POSITION ↔ ¬ ((begin ≤ end) × (end ≤ length string.old.buf.units)) }
     ensures ok { result ≡ OK → into.new.buf.units ≡ drop begin (take end string.old.buf.units) }
-    ensures kept { ¬ (result ≡ OK) → into.new ≡ into.old }
+    ensures kept { ¬ (result ≡ OK) → IsKept into.old into.new }
     ensures room { (begin ≤ end) × (end ≤ length string.old.buf.units) → FitWithin (drop begin (take end string.old.buf.units)) 0 into.old.buf.capacity → result ≡ OK }
-    ensures string { string.new ≡ string.old }
+    ensures string { IsKept string.old string.new }
     ensures capacity { into.old.buf.capacity ≤ into.new.buf.capacity }
     ensures lies { into.new.at ≡ into.old.at }
 {
@@ -124,9 +125,7 @@ fn set_part(
     ensures room { FitWithin (units_of_slice slice.entry) 0 buf.old.capacity → IsOk result }
     ensures capacity { buf.old.capacity ≤ buf.new.capacity }
 {
-    // A half of a pair has three bytes.
-    let halves = usize::from(slice.trail.is_some()) + usize::from(slice.lead.is_some());
-    if slice.whole.len() <= buf.capacity() && 3 * halves <= buf.capacity() - slice.whole.len() {
+    if has_room(buf.capacity(), slice) {
         buf.clear();
         return buf.push_unit_slice(slice);
     }
@@ -134,6 +133,17 @@ fn set_part(
     made.push_unit_slice(slice)?;
     *buf = made;
     Ok(())
+}
+
+/// Whether a capacity has room for a slice.
+fn has_room(capacity: usize, slice: UnitSlice<'_>) -> bool
+    requires { AreHalves slice }
+    ensures { IsTrue result ↔ FitWithin (units_of_slice slice.entry) 0 capacity }
+{
+    // A half of a pair has three bytes.
+    let halves = usize::from(slice.trail.is_some()) + usize::from(slice.lead.is_some());
+    let whole = slice.whole.len();
+    whole <= capacity && 3 * halves <= capacity - whole
 }
 
 /// Appends the units of `other` from index `begin` to before `end`.
@@ -149,7 +159,7 @@ pub extern "C" fn wtf8_push_slice(
     ensures ok { result ≡ OK → AppendsUnits string.old.buf (drop begin (take end other.old.buf.units)) string.new.buf }
     ensures kept { ¬ (result ≡ OK) → KeepsContents string.old.buf string.new.buf }
     ensures room { (begin ≤ end) × (end ≤ length other.old.buf.units) → HasRoomFor string.old.buf (drop begin (take end other.old.buf.units)) → result ≡ OK }
-    ensures other { other.new ≡ other.old }
+    ensures other { IsKept other.old other.new }
     ensures capacity { string.old.buf.capacity ≤ string.new.buf.capacity }
     ensures lies { string.new.at ≡ string.old.at }
 {

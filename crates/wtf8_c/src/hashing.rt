@@ -5,6 +5,7 @@ ghost use Rattle.std.specs.Str.{chars, IsUtf8};
 ghost use Rattle.wtf8.specs.Form.{IsForm};
 ghost use Rattle.wtf8.specs.Unicode.{units};
 ghost use Rattle.wtf8_c.specs.Hashing.{hash_of, seeded_with};
+ghost use Rattle.wtf8_c.specs.Kept.{IsKept};
 
 use crate::handle::Wtf8String;
 use std::hash::{DefaultHasher, Hash, Hasher};
@@ -26,7 +27,7 @@ const END: u8 = 0xFE;
 #[unsafe(no_mangle)]
 pub extern "C" fn wtf8_hash(string: &mut Wtf8String, seed_0: u64, seed_1: u64) -> u64
     ensures hash { result ≡ hash_of seed_0 seed_1 string.old.buf.bytes }
-    ensures kept { string.new ≡ string.old }
+    ensures kept { IsKept string.old string.new }
 {
     let mut hasher = seeded(seed_0, seed_1);
     string.buffer().as_wtf8().hash(&mut hasher);

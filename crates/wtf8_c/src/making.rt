@@ -5,8 +5,9 @@ ghost use Rattle.std.specs.Str.Lossy.{utf8_valid_len};
 ghost use Rattle.wtf8.specs.Appending.{FitWithin, KeepsContents};
 ghost use Rattle.wtf8.specs.Unicode.{units};
 ghost use Rattle.wtf8.specs.View.{view_units};
+ghost use Rattle.wtf8_c.specs.Kept.{IsKept};
 
-use crate::codes::{NOT_UTF8, OK, NO_MEMORY, code_of};
+use crate::codes::{NO_MEMORY, NOT_UTF8, OK, code_of};
 use crate::handle::{Wtf8String, empty};
 use std::alloc::{AllocError, Global};
 use unit_text::IndexedBuf;
@@ -21,7 +22,7 @@ const ROOMY_UNITS: usize = 1024;
 pub extern "C" fn wtf8_set_units(alloc: Global, string: &mut Wtf8String, units: &[u16]) -> i32
     ensures code { (result ≡ OK) ⊎ (result ≡ NO_MEMORY) }
     ensures ok { result ≡ OK → string.new.buf.units ≡ units.now }
-    ensures kept { result ≡ NO_MEMORY → string.new ≡ string.old }
+    ensures kept { result ≡ NO_MEMORY → IsKept string.old string.new }
     ensures room { 3 * length units.now ≤ string.old.buf.capacity → result ≡ OK }
     ensures counted { ROOMY_UNITS < length units.now → FitWithin units.now 0 string.old.buf.capacity → result ≡ OK }
     ensures again { length units.now ≤ ROOMY_UNITS → result ≡ OK → 3 * length units.now ≤ string.new.buf.capacity }
@@ -32,11 +33,7 @@ pub extern "C" fn wtf8_set_units(alloc: Global, string: &mut Wtf8String, units: 
 }
 
 /// Replaces the units of a buffer, in its capacity if they fit.
-fn set_units(
-    alloc: Global,
-    buf: &mut IndexedBuf<Global>,
-    units: &[u16],
-) -> Result<(), AllocError>
+fn set_units(alloc: Global, buf: &mut IndexedBuf<Global>, units: &[u16]) -> Result<(), AllocError>
     ensures ok { OnOk result (buf.new.units ≡ units.now) }
     ensures kept { OnErr result (buf.new ≡ buf.old) }
     ensures room { 3 * length units.now ≤ buf.old.capacity → IsOk result }
@@ -89,7 +86,7 @@ pub extern "C" fn wtf8_set_utf8(
     ensures code { (result ≡ OK) ⊎ ((result ≡ NO_MEMORY) ⊎ (result ≡ NOT_UTF8)) }
     ensures not_utf8 { result ≡ NOT_UTF8 ↔ ¬ (IsUtf8 text.now) }
     ensures ok { result ≡ OK → string.new.buf.units ≡ units (chars text.now) }
-    ensures kept { ¬ (result ≡ OK) → string.new ≡ string.old }
+    ensures kept { ¬ (result ≡ OK) → IsKept string.old string.new }
     ensures room { IsUtf8 text.now → length text.now ≤ string.old.buf.capacity → result ≡ OK }
     ensures capacity { string.old.buf.capacity ≤ string.new.buf.capacity }
     ensures valid { result ≡ NOT_UTF8 → valid.new ≡ utf8_valid_len text.now }
@@ -117,10 +114,10 @@ pub extern "C" fn wtf8_set_string(
 ) -> i32
     ensures code { (result ≡ OK) ⊎ (result ≡ NO_MEMORY) }
     ensures ok { result ≡ OK → string.new.buf.units ≡ other.old.buf.units }
-    ensures kept { result ≡ NO_MEMORY → string.new ≡ string.old }
+    ensures kept { result ≡ NO_MEMORY → IsKept string.old string.new }
     ensures room { length other.old.buf.bytes ≤ string.old.buf.capacity → result ≡ OK }
     ensures capacity { string.old.buf.capacity ≤ string.new.buf.capacity }
-    ensures other { other.new ≡ other.old }
+    ensures other { IsKept other.old other.new }
     ensures lies { string.new.at ≡ string.old.at }
 {
     let from = other.buffer();

@@ -6,6 +6,7 @@ ghost use Rattle.wtf8.specs.Surrogates.{AreScalar};
 ghost use Rattle.wtf8.specs.Unicode.{IsSurrogate};
 ghost use Rattle.wtf8.specs.View.{view_points, view_units};
 ghost use Rattle.wtf8_c.specs.Walks.{ArePointsBetween};
+ghost use Rattle.wtf8_c.specs.Kept.{IsKept};
 
 use crate::codes::{BAD_POSITION, END, OK};
 use crate::handle::Wtf8String;
@@ -34,7 +35,7 @@ pub extern "C" fn wtf8_copy_code_points(
     ensures out { ¬ (result ≡ OK) → out.new ≡ out.old }
     ensures position_kept { ¬ (result ≡ OK) → position.new ≡ position.old }
     ensures len_kept { ¬ (result ≡ OK) → len.new ≡ len.old }
-    ensures kept { string.new ≡ string.old }
+    ensures kept { IsKept string.old string.new }
 {
     copy_from(string.buffer().as_wtf8(), position, out, len)
 }

@@ -3,6 +3,7 @@ ghost use Rattle.std.specs.Prelude.{◌≡◌, ◌⊎◌, ◌+◌, ◌<◌, ◌�
 ghost use Rattle.wtf8.specs.Form.{bytes};
 ghost use Rattle.wtf8.specs.Surrogates.{AreScalar, lossy_points};
 ghost use Rattle.wtf8_c.specs.Front.{with_front};
+ghost use Rattle.wtf8_c.specs.Kept.{IsKept};
 
 use crate::codes::{ARRAY_TOO_SHORT, BAD_POSITION, HAS_SURROGATE, OK};
 use crate::handle::Wtf8String;
@@ -15,7 +16,7 @@ pub extern "C" fn wtf8_copy_units(string: &mut Wtf8String, out: &mut [u16], len:
     ensures ok { result ≡ OK → out.new ≡ with_front string.old.buf.units out.old }
     ensures out { ¬ (result ≡ OK) → out.new ≡ out.old }
     ensures len { len.new ≡ length string.old.buf.units }
-    ensures kept { string.new ≡ string.old }
+    ensures kept { IsKept string.old string.new }
 {
     let buf = string.buffer();
     let needed = buf.unit_len();
@@ -43,7 +44,7 @@ pub extern "C" fn wtf8_copy_slice(
     ensures out { ¬ (result ≡ OK) → out.new ≡ out.old }
     ensures len { ¬ (result ≡ BAD_POSITION) → begin + len.new ≡ end }
     ensures len_kept { result ≡ BAD_POSITION → len.new ≡ len.old }
-    ensures kept { string.new ≡ string.old }
+    ensures kept { IsKept string.old string.new }
 {
     let buf = string.buffer();
     if end < begin || buf.unit_len() < end {
@@ -68,7 +69,7 @@ pub extern "C" fn wtf8_copy_utf8(string: &mut Wtf8String, out: &mut [u8], len: &
     ensures out { ¬ (result ≡ OK) → out.new ≡ out.old }
     ensures len { ¬ (result ≡ HAS_SURROGATE) → len.new ≡ length string.old.buf.bytes }
     ensures len_kept { result ≡ HAS_SURROGATE → len.new ≡ len.old }
-    ensures kept { string.new ≡ string.old }
+    ensures kept { IsKept string.old string.new }
 {
     match string.buffer().as_wtf8().as_str() {
         Some(text) => write_text(text.as_bytes(), out, len),
@@ -84,7 +85,7 @@ pub extern "C" fn wtf8_copy_lossy(string: &mut Wtf8String, out: &mut [u8], len: 
     ensures ok { result ≡ OK → out.new ≡ with_front (bytes (lossy_points string.old.buf.form.points)) out.old }
     ensures out { ¬ (result ≡ OK) → out.new ≡ out.old }
     ensures len { len.new ≡ length string.old.buf.bytes }
-    ensures kept { string.new ≡ string.old }
+    ensures kept { IsKept string.old string.new }
 {
     let text = string.buffer().as_wtf8();
     // U+FFFD has the three bytes of a surrogate.

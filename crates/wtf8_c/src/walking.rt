@@ -6,6 +6,7 @@ ghost use Rattle.wtf8.specs.Position.{IsBoundary};
 ghost use Rattle.wtf8.specs.SurrogatePosition.{IsNextSurrogate, IsTextFrom};
 ghost use Rattle.wtf8.specs.View.{view_units};
 ghost use Rattle.wtf8_c.specs.Walks.{IsPointBetween};
+ghost use Rattle.wtf8_c.specs.Kept.{IsKept};
 
 use crate::codes::{BAD_POSITION, END, OK};
 use crate::handle::Wtf8String;
@@ -24,7 +25,7 @@ pub extern "C" fn wtf8_next_code_point(
     ensures ok { result ≡ OK → IsPointBetween string.old.buf.units position.old position.new code_point.new }
     ensures position_kept { ¬ (result ≡ OK) → position.new ≡ position.old }
     ensures code_point { ¬ (result ≡ OK) → code_point.new ≡ code_point.old }
-    ensures kept { string.new ≡ string.old }
+    ensures kept { IsKept string.old string.new }
 {
     next_of(string.buffer().as_wtf8(), position, code_point)
 }
@@ -42,7 +43,7 @@ pub extern "C" fn wtf8_previous_code_point(
     ensures ok { result ≡ OK → IsPointBetween string.old.buf.units position.new position.old code_point.new }
     ensures position_kept { ¬ (result ≡ OK) → position.new ≡ position.old }
     ensures code_point { ¬ (result ≡ OK) → code_point.new ≡ code_point.old }
-    ensures kept { string.new ≡ string.old }
+    ensures kept { IsKept string.old string.new }
 {
     previous_of(string.buffer().as_wtf8(), position, code_point)
 }
@@ -60,7 +61,7 @@ pub extern "C" fn wtf8_next_surrogate(
     ensures ok { result ≡ OK → IsNextSurrogate string.old.buf.units position.old position.new unit.new }
     ensures position_kept { ¬ (result ≡ OK) → position.new ≡ position.old }
     ensures unit { ¬ (result ≡ OK) → unit.new ≡ unit.old }
-    ensures kept { string.new ≡ string.old }
+    ensures kept { IsKept string.old string.new }
 {
     next_surrogate_of(string.buffer().as_wtf8(), position, unit)
 }
