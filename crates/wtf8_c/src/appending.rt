@@ -148,10 +148,7 @@ pub extern "C" fn wtf8_push_string(string: &mut Wtf8String, other: &mut Wtf8Stri
     ensures capacity { string.old.buf.capacity ≤ string.new.buf.capacity }
     ensures lies { string.new.at ≡ string.old.at }
 {
+    let own = string.buffer();
     let more = other.buffer();
-    code_of(
-        string
-            .buffer()
-            .push_counted(more.as_wtf8(), more.unit_len()),
-    )
+    code_of(own.push_counted(more.as_wtf8(), more.unit_len()))
 }

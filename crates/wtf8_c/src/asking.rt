@@ -135,12 +135,8 @@ pub extern "C" fn wtf8_compare_units(string: &mut Wtf8String, other: &mut Wtf8St
     ensures kept { IsKept string.old string.new }
     ensures other { IsKept other.old other.new }
 {
-    code_of_order(
-        string
-            .buffer()
-            .as_wtf8()
-            .cmp_units(&other.buffer().as_wtf8()),
-    )
+    let others = other.buffer().as_wtf8();
+    code_of_order(string.buffer().as_wtf8().cmp_units(&others))
 }
 
 /// Compares two strings by their code points.
@@ -153,5 +149,6 @@ pub extern "C" fn wtf8_compare_code_points(string: &mut Wtf8String, other: &mut 
     ensures kept { IsKept string.old string.new }
     ensures other { IsKept other.old other.new }
 {
-    code_of_order(string.buffer().as_wtf8().cmp(&other.buffer().as_wtf8()))
+    let others = other.buffer().as_wtf8();
+    code_of_order(string.buffer().as_wtf8().cmp(&others))
 }

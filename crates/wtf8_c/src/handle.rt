@@ -1,6 +1,8 @@
 // The string of a C program while a call works on it.
-ghost use Rattle.std.specs.Prelude.{◌≡◌, [], ℕ, length, Option, Some, None, IsSome, IfSome};
+ghost use Rattle.std.specs.Prelude.{◌≡◌, [], Option, Some, None, IsSome, IfSome};
 ghost use Rattle.std.specs.Mem.{type_size};
+ghost use denote.Memory.{lone};
+ghost use prog.Memory.{align};
 ghost use Rattle.wtf8.specs.UnitString.{UnitString};
 ghost use Rattle.wtf8_c.specs.Ownership.{Held, held_coded, written_coded};
 
@@ -98,7 +100,9 @@ pub extern "C" fn wtf8_buffer_size() -> usize
 
 /// The alignment of a buffer: that of the struct in `c/wtf8.h`, as `c/build` makes sure.
 #[unsafe(no_mangle)]
-pub extern "C" fn wtf8_buffer_alignment() -> usize {
+pub extern "C" fn wtf8_buffer_alignment() -> usize
+    ensures { result ≡ align (lone Held.mir) }
+{
     align_of::<IndexedBuf<Global>>()
 }
 

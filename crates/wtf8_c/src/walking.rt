@@ -27,7 +27,19 @@ pub extern "C" fn wtf8_next_code_point(
     ensures code_point { ¬ (result ≡ OK) → code_point.new ≡ code_point.old }
     ensures kept { IsKept string.old string.new }
 {
-    next_of(string.buffer().as_wtf8(), position, code_point)
+    let text = string.buffer().as_wtf8();
+    let begin = *position;
+    if !text.is_code_point_boundary(begin) {
+        return BAD_POSITION;
+    }
+    match code_point_at(text, begin) {
+        Some(found) => {
+            *position = begin + found.encoded_len();
+            *code_point = found.to_u32();
+            OK
+        }
+        None => END,
+    }
 }
 
 /// Writes the code point before `position` to `code_point`, and moves `position` back to its start.
@@ -45,7 +57,19 @@ pub extern "C" fn wtf8_previous_code_point(
     ensures code_point { ¬ (result ≡ OK) → code_point.new ≡ code_point.old }
     ensures kept { IsKept string.old string.new }
 {
-    previous_of(string.buffer().as_wtf8(), position, code_point)
+    let text = string.buffer().as_wtf8();
+    let end = *position;
+    if !text.is_code_point_boundary(end) {
+        return BAD_POSITION;
+    }
+    match code_point_before(text, end) {
+        Some((found, before)) => {
+            *position = before;
+            *code_point = found.to_u32();
+            OK
+        }
+        None => END,
+    }
 }
 
 /// Writes the first surrogate after `position` to `unit`, and moves `position` past it.
@@ -63,18 +87,7 @@ pub extern "C" fn wtf8_next_surrogate(
     ensures unit { ¬ (result ≡ OK) → unit.new ≡ unit.old }
     ensures kept { IsKept string.old string.new }
 {
-    next_surrogate_of(string.buffer().as_wtf8(), position, unit)
-}
-
-/// The first surrogate of `text` after `position`, as `wtf8_next_surrogate` writes it.
-fn next_surrogate_of(text: Wtf8<'_>, position: &mut usize, unit: &mut u16) -> i32
-    ensures code { (result ≡ OK) ⊎ ((result ≡ BAD_POSITION) ⊎ (result ≡ END)) }
-    ensures position { result ≡ BAD_POSITION ↔ ¬ (IsBoundary (view_units text.entry) position.old) }
-    ensures end { result ≡ END ↔ IsTextFrom (view_units text.entry) position.old }
-    ensures ok { result ≡ OK → IsNextSurrogate (view_units text.entry) position.old position.new unit.new }
-    ensures position_kept { ¬ (result ≡ OK) → position.new ≡ position.old }
-    ensures unit { ¬ (result ≡ OK) → unit.new ≡ unit.old }
-{
+    let text = string.buffer().as_wtf8();
     let begin = *position;
     if !text.is_code_point_boundary(begin) {
         return BAD_POSITION;
@@ -83,52 +96,6 @@ fn next_surrogate_of(text: Wtf8<'_>, position: &mut usize, unit: &mut u16) -> i3
         Some((surrogate, end)) => {
             *position = end;
             *unit = surrogate.to_u32() as u16;
-            OK
-        }
-        None => END,
-    }
-}
-
-/// The code point of `text` after `position`, as `wtf8_next_code_point` writes it.
-fn next_of(text: Wtf8<'_>, position: &mut usize, code_point: &mut u32) -> i32
-    ensures code { (result ≡ OK) ⊎ ((result ≡ BAD_POSITION) ⊎ (result ≡ END)) }
-    ensures position { result ≡ BAD_POSITION ↔ ¬ (IsBoundary (view_units text.entry) position.old) }
-    ensures end { result ≡ END ↔ position.old ≡ length text.entry.bytes.now }
-    ensures ok { result ≡ OK → IsPointBetween (view_units text.entry) position.old position.new code_point.new }
-    ensures position_kept { ¬ (result ≡ OK) → position.new ≡ position.old }
-    ensures code_point { ¬ (result ≡ OK) → code_point.new ≡ code_point.old }
-{
-    let begin = *position;
-    if !text.is_code_point_boundary(begin) {
-        return BAD_POSITION;
-    }
-    match code_point_at(text, begin) {
-        Some(found) => {
-            *position = begin + found.encoded_len();
-            *code_point = found.to_u32();
-            OK
-        }
-        None => END,
-    }
-}
-
-/// The code point of `text` before `position`, as `wtf8_previous_code_point` writes it.
-fn previous_of(text: Wtf8<'_>, position: &mut usize, code_point: &mut u32) -> i32
-    ensures code { (result ≡ OK) ⊎ ((result ≡ BAD_POSITION) ⊎ (result ≡ END)) }
-    ensures position { result ≡ BAD_POSITION ↔ ¬ (IsBoundary (view_units text.entry) position.old) }
-    ensures end { result ≡ END ↔ position.old ≡ 0 }
-    ensures ok { result ≡ OK → IsPointBetween (view_units text.entry) position.new position.old code_point.new }
-    ensures position_kept { ¬ (result ≡ OK) → position.new ≡ position.old }
-    ensures code_point { ¬ (result ≡ OK) → code_point.new ≡ code_point.old }
-{
-    let end = *position;
-    if !text.is_code_point_boundary(end) {
-        return BAD_POSITION;
-    }
-    match code_point_before(text, end) {
-        Some((found, before)) => {
-            *position = before;
-            *code_point = found.to_u32();
             OK
         }
         None => END,
