@@ -181,11 +181,13 @@ static uint16_t nothing[1];
 static uint32_t no_points[1];
 
 wtf8_result wtf8_set_units(wtf8_string *string, const uint16_t *units, size_t n) {
-    bool is_new = !has_buffer(string);
+    bool has_none = !has_buffer(string);
     handle changed = opened(string);
-    /* A new string gets just the bytes that it needs, as by an append. */
-    if (is_new) return PROVED(push_units)(&changed, n ? units : nothing, n);
-    return PROVED(set_units)(&changed, n ? units : nothing, n);
+    if (!has_none) return PROVED(set_units)(&changed, n ? units : nothing, n);
+    /* The first units get just the bytes that they take, as by an append, which may leave capacity if it is refused. */
+    wtf8_result code = PROVED(push_units)(&changed, n ? units : nothing, n);
+    if (code != WTF8_OK) PROVED(free)(&changed);
+    return code;
 }
 
 wtf8_result wtf8_set_utf8(wtf8_string *string, const uint8_t *text, size_t n, size_t *valid) {
