@@ -4,8 +4,9 @@ import re
 
 SOURCES = pathlib.Path(__file__).resolve().parent.parent / "crates/wtf8_c/src"
 EXPORT = re.compile(r'pub extern "C" fn (\w+)\(([^)]*)\)(?:\s*->\s*(\w+))?((?:\s*(?:requires|ensures)[^\n]*)*)\s*\{')
-# What the header does not have: what c/build asks the proved code, and what c/wtf8.c alone calls.
-OF_THE_LIBRARY = {"wtf8_buffer_size", "wtf8_buffer_alignment", "wtf8_init"}
+# What c/build alone asks the proved code, and what c/wtf8.c alone calls.
+IN_BUILD = {"wtf8_buffer_size", "wtf8_buffer_alignment"}
+IN_C = {"wtf8_init", "wtf8_init_units"}
 TYPES = {"u8": "uint8_t", "u16": "uint16_t", "u32": "uint32_t", "u64": "uint64_t", "usize": "size_t", "i32": "int32_t",
          "bool": "bool", "Wtf8String": "wtf8_string", "": "void"}
 

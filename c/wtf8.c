@@ -73,6 +73,7 @@ typedef struct {
 #define PROVED(name) builds_##name[__atomic_load_n(&build, __ATOMIC_RELAXED)]
 
 DECLARE(void, init, handle *)
+DECLARE(wtf8_result, init_units, handle *, const uint16_t *, size_t)
 DECLARE(wtf8_result, set_units, handle *, const uint16_t *, size_t)
 DECLARE(wtf8_result, set_utf8, handle *, const uint8_t *, size_t, size_t *)
 DECLARE(wtf8_result, set_string, handle *, handle *)
@@ -180,14 +181,45 @@ static inline handle asked(const wtf8_string *string, wtf8_string *empty) {
 static uint16_t nothing[1];
 static uint32_t no_points[1];
 
-wtf8_result wtf8_set_units(wtf8_string *string, const uint16_t *units, size_t n) {
-    bool has_none = !has_buffer(string);
-    handle changed = opened(string);
-    if (!has_none) return PROVED(set_units)(&changed, n ? units : nothing, n);
-    /* The first units get just the bytes that they take, as by an append, which may leave capacity if it is refused. */
-    wtf8_result code = PROVED(push_units)(&changed, n ? units : nothing, n);
-    if (code != WTF8_OK) PROVED(free)(&changed);
+/* Defines wtf8_NAME(parameters), a call that changes `string`. `names` are the names of the parameters, `arguments` what
+ * the proved call is given. What makes a buffer is a function of its own, so that this one saves no registers. */
+#define DEFINE_CHANGE(name, parameters, names, arguments)                                          \
+    static __attribute__((noinline)) wtf8_result first_##name parameters {                         \
+        init(string);                                                                              \
+        return wtf8_##name names;                                                                  \
+    }                                                                                              \
+    wtf8_result wtf8_##name parameters {                                                           \
+        if (!has_buffer(string)) return first_##name names;                                        \
+        handle changed = {string};                                                                 \
+        return PROVED(name) arguments;                                                             \
+    }
+
+DEFINE_CHANGE(reserve_bytes, (wtf8_string *string, size_t additional), (string, additional), (&changed, additional))
+DEFINE_CHANGE(mark, (wtf8_string *string), (string), (&changed))
+DEFINE_CHANGE(push_unit, (wtf8_string *string, uint16_t unit), (string, unit), (&changed, unit))
+DEFINE_CHANGE(push_code_point, (wtf8_string *string, uint32_t value), (string, value), (&changed, value))
+DEFINE_CHANGE(push_units, (wtf8_string *string, const uint16_t *units, size_t n), (string, units, n),
+              (&changed, n ? units : nothing, n))
+DEFINE_CHANGE(push_latin1, (wtf8_string *string, const uint8_t *text, size_t n), (string, text, n),
+              (&changed, n ? text : (const uint8_t *)nothing, n))
+DEFINE_CHANGE(push_utf8_part, (wtf8_string *string, const uint8_t *text, size_t n, size_t *used, size_t *bad),
+              (string, text, n, used, bad), (&changed, n ? text : (const uint8_t *)nothing, n, used, bad))
+DEFINE_CHANGE(truncate_bytes, (wtf8_string *string, size_t position), (string, position), (&changed, position))
+DEFINE_CHANGE(truncate_units, (wtf8_string *string, size_t n), (string, n), (&changed, n))
+DEFINE_CHANGE(pop, (wtf8_string *string, uint32_t *code_point), (string, code_point), (&changed, code_point))
+
+/* The first units of a string, which get just the bytes that they take. */
+static __attribute__((noinline)) wtf8_result first_set_units(wtf8_string *string, const uint16_t *units, size_t n) {
+    handle room = {string};
+    wtf8_result code = PROVED(init_units)(&room, n ? units : nothing, n);
+    if (code != WTF8_OK) *string = (wtf8_string)WTF8_EMPTY;
     return code;
+}
+
+wtf8_result wtf8_set_units(wtf8_string *string, const uint16_t *units, size_t n) {
+    if (!has_buffer(string)) return first_set_units(string, units, n);
+    handle changed = {string};
+    return PROVED(set_units)(&changed, n ? units : nothing, n);
 }
 
 wtf8_result wtf8_set_utf8(wtf8_string *string, const uint8_t *text, size_t n, size_t *valid) {
@@ -216,51 +248,16 @@ void wtf8_free(wtf8_string *string) {
     *string = (wtf8_string)WTF8_EMPTY;
 }
 
-wtf8_result wtf8_reserve_bytes(wtf8_string *string, size_t additional) {
-    handle changed = opened(string);
-    return PROVED(reserve_bytes)(&changed, additional);
-}
-
 void wtf8_shrink(wtf8_string *string) {
     if (!has_buffer(string)) return;
     handle changed = {string};
     PROVED(shrink)(&changed);
 }
 
-wtf8_result wtf8_mark(wtf8_string *string) {
-    handle changed = opened(string);
-    return PROVED(mark)(&changed);
-}
-
-wtf8_result wtf8_push_unit(wtf8_string *string, uint16_t unit) {
-    handle changed = opened(string);
-    return PROVED(push_unit)(&changed, unit);
-}
-
-wtf8_result wtf8_push_code_point(wtf8_string *string, uint32_t value) {
-    handle changed = opened(string);
-    return PROVED(push_code_point)(&changed, value);
-}
-
-wtf8_result wtf8_push_units(wtf8_string *string, const uint16_t *units, size_t n) {
-    handle changed = opened(string);
-    return PROVED(push_units)(&changed, n ? units : nothing, n);
-}
-
-wtf8_result wtf8_push_latin1(wtf8_string *string, const uint8_t *text, size_t n) {
-    handle changed = opened(string);
-    return PROVED(push_latin1)(&changed, n ? text : (const uint8_t *)nothing, n);
-}
-
 wtf8_result wtf8_push_utf8(wtf8_string *string, const uint8_t *text, size_t n, size_t *valid) {
     size_t unused;
     handle changed = opened(string);
     return PROVED(push_utf8)(&changed, n ? text : (const uint8_t *)nothing, n, valid ? valid : &unused);
-}
-
-wtf8_result wtf8_push_utf8_part(wtf8_string *string, const uint8_t *text, size_t n, size_t *used, size_t *bad) {
-    handle changed = opened(string);
-    return PROVED(push_utf8_part)(&changed, n ? text : (const uint8_t *)nothing, n, used, bad);
 }
 
 wtf8_result wtf8_push_string(wtf8_string *string, const wtf8_string *other) {
@@ -424,21 +421,6 @@ bool wtf8_starts_with_units(const wtf8_string *string, size_t index, const uint1
     wtf8_string empty;
     handle copy = asked(string, &empty);
     return PROVED(starts_with_units)(&copy, index, n ? units : nothing, n);
-}
-
-wtf8_result wtf8_truncate_bytes(wtf8_string *string, size_t position) {
-    handle changed = opened(string);
-    return PROVED(truncate_bytes)(&changed, position);
-}
-
-wtf8_result wtf8_truncate_units(wtf8_string *string, size_t n) {
-    handle changed = opened(string);
-    return PROVED(truncate_units)(&changed, n);
-}
-
-wtf8_result wtf8_pop(wtf8_string *string, uint32_t *code_point) {
-    handle changed = opened(string);
-    return PROVED(pop)(&changed, code_point);
 }
 
 wtf8_result wtf8_slice_units(wtf8_string *into, const wtf8_string *string, size_t begin, size_t end) {

@@ -1,11 +1,12 @@
 // The string of a C program while a call works on it.
-ghost use Rattle.std.specs.Prelude.{◌≡◌, [], Option, Some, None, IsSome, IfSome};
+ghost use Rattle.std.specs.Prelude.{◌≡◌, ◌⊎◌, [], Option, Some, None, IsSome, IfSome};
 ghost use Rattle.std.specs.Mem.{type_size};
 ghost use denote.Memory.{lone};
 ghost use prog.Memory.{align};
 ghost use Rattle.wtf8.specs.UnitString.{UnitString};
 ghost use Rattle.wtf8_c.specs.Ownership.{Held, held_coded, written_coded};
 
+use crate::codes::{NO_MEMORY, OK};
 use std::alloc::Global;
 use std::marker::Model;
 use std::mem::{align_of, size_of};
@@ -76,6 +77,26 @@ pub extern "C" fn wtf8_init(alloc: Global, room: &mut Room)
     ensures lies { room.new.at ≡ room.old.at }
 {
     room.fill(empty(alloc));
+}
+
+/// Writes a buffer of units, with just the bytes that they take, where there is none.
+#[unsafe(no_mangle)]
+pub extern "C" fn wtf8_init_units(alloc: Global, room: &mut Room, units: &[u16]) -> i32
+    requires { room.old.buf ≡ None }
+    ensures code { (result ≡ OK) ⊎ (result ≡ NO_MEMORY) }
+    ensures written { result ≡ OK → IsSome room.new.buf }
+    ensures units { result ≡ OK → IfSome room.new.buf (λ b. b.units ≡ units.now) }
+    ensures kept { result ≡ NO_MEMORY → room.new ≡ room.old }
+    ensures empty { units.now ≡ [] → result ≡ OK }
+    ensures lies { room.new.at ≡ room.old.at }
+{
+    match IndexedBuf::from_units(alloc, units) {
+        Ok(made) => {
+            room.fill(made);
+            OK
+        }
+        Err(_) => NO_MEMORY,
+    }
 }
 
 /// A buffer that owns no memory.
