@@ -1,6 +1,6 @@
-/* What stands between a C program and the proved calls. It takes the build for the processor's widest vectors, says where
- * the buffer of a string lies, which is the program's struct, and whether it has one, gives an array of length 0 an
- * address, passes no string twice to one call, and requests memory by the functions that the program names. */
+/* What stands between a C program and the proved calls. It takes the build for the processor's widest vectors, sees to it
+ * that each string has a buffer, gives an array of length 0 an address, passes no string twice to one call, and requests
+ * memory by the functions that the program names. c/duties tests what it owes the proved calls. */
 #define WTF8_SILENT
 #include "wtf8.h"
 
@@ -57,11 +57,9 @@ __attribute__((constructor)) static void choose_build(void) {
     __atomic_store_n(&build, widest_build(), __ATOMIC_RELAXED);
 }
 
-/* A string as the proved calls take it: where its buffer lies, whether it has one, and, if it has none, whether one may be
- * written there. The first word of a buffer is the address of its bytes, which is never NULL: c/run_tests tries it. */
+/* A string as the proved calls take it: where its buffer lies. */
 typedef struct {
     void *at;
-    bool full, has_place;
 } handle;
 
 /* Declares the three builds of a proved call, and a table of them. */
@@ -74,6 +72,8 @@ typedef struct {
 /* The proved call of the build that is taken. */
 #define PROVED(name) builds_##name[__atomic_load_n(&build, __ATOMIC_RELAXED)]
 
+DECLARE(void, init, handle *)
+DECLARE(wtf8_result, init_units, handle *, const uint16_t *, size_t)
 DECLARE(wtf8_result, set_units, handle *, const uint16_t *, size_t)
 DECLARE(wtf8_result, set_utf8, handle *, const uint8_t *, size_t, size_t *)
 DECLARE(wtf8_result, set_string, handle *, handle *)
@@ -152,220 +152,213 @@ void wtf8_own_free(void *block) {
     memory.release(block);
 }
 
-/* A string that a call asks. Of one without a buffer nothing is read, and nothing is written. */
-static inline handle asked(const wtf8_string *string) {
-    return (handle){(void *)string, string->words[0] != 0, false};
+/* Whether the struct holds a buffer. The first word of one is the address of its bytes, which is never NULL: c/run_tests
+ * tries it. */
+static inline bool has_buffer(const wtf8_string *string) {
+    return __builtin_expect(string->words[0] != 0, 1);
 }
 
-/* A string that a call changes. */
+/* Writes an empty buffer into the struct, which holds none. It owns nothing, so it need not be freed. */
+static __attribute__((noinline)) void init(wtf8_string *string) {
+    handle room = {string};
+    PROVED(init)(&room);
+}
+
+/* A string that a call changes, which has a buffer from now on. */
 static inline handle opened(wtf8_string *string) {
-    bool has_buffer = string->words[0] != 0;
-    return (handle){string, has_buffer, !has_buffer};
+    if (!has_buffer(string)) init(string);
+    return (handle){string};
 }
 
-/* Leaves a string without a buffer as the empty one. Returns the code of the call that changed it. */
-static inline wtf8_result closed(wtf8_string *string, const handle *changed, wtf8_result code) {
-    if (__builtin_expect(!changed->full, 0)) *string = (wtf8_string)WTF8_EMPTY;
-    return code;
+/* A string that a call asks. If it has no buffer, `empty` is asked, since nothing may be written to the string. */
+static inline handle asked(const wtf8_string *string, wtf8_string *empty) {
+    if (has_buffer(string)) return (handle){(void *)string};
+    init(empty);
+    return (handle){empty};
 }
 
 /* What an array of length 0 points to. Nothing is read or written there. */
 static uint16_t nothing[1];
 static uint32_t no_points[1];
 
-/* A string that has a buffer. */
-static inline handle full(wtf8_string *string) {
-    handle held;
-    held.at = string;
-    held.full = true;
-    held.has_place = false;
-    return held;
-}
-
-/* Defines change_NAME(parameters), a proved call that changes `string` and leaves it a buffer if it has one, as clause
- * `stays` of its contract says. `names` are the names of the parameters, `arguments` what the call is given. */
+/* Defines wtf8_NAME(parameters), a call that changes `string`. `names` are the names of the parameters, `arguments` what
+ * the proved call is given. What makes a buffer is a function of its own, so that this one saves no registers. */
 #define DEFINE_CHANGE(name, parameters, names, arguments)                                          \
-    static __attribute__((noinline)) wtf8_result change_empty_##name parameters {                  \
-        handle changed = opened(string);                                                           \
-        return closed(string, &changed, PROVED(name) arguments);                                   \
+    static __attribute__((noinline)) wtf8_result first_##name parameters {                         \
+        init(string);                                                                              \
+        return wtf8_##name names;                                                                  \
     }                                                                                              \
-    static inline wtf8_result change_##name parameters {                                           \
-        if (__builtin_expect(string->words[0] == 0, 0)) return change_empty_##name names;          \
-        handle changed = full(string);                                                             \
+    wtf8_result wtf8_##name parameters {                                                           \
+        if (!has_buffer(string)) return first_##name names;                                        \
+        handle changed = {string};                                                                 \
         return PROVED(name) arguments;                                                             \
     }
 
-DEFINE_CHANGE(set_units, (wtf8_string *string, const uint16_t *units, size_t n), (string, units, n),
-              (&changed, n ? units : nothing, n))
-DEFINE_CHANGE(set_utf8, (wtf8_string *string, const uint8_t *text, size_t n, size_t *valid), (string, text, n, valid),
-              (&changed, n ? text : (const uint8_t *)nothing, n, valid))
-DEFINE_CHANGE(set_string, (wtf8_string *string, handle *other), (string, other), (&changed, other))
-DEFINE_CHANGE(slice_units, (wtf8_string *string, handle *other, size_t begin, size_t end), (string, other, begin, end),
-              (&changed, other, begin, end))
-DEFINE_CHANGE(mark, (wtf8_string *string), (string), (&changed))
 DEFINE_CHANGE(reserve_bytes, (wtf8_string *string, size_t additional), (string, additional), (&changed, additional))
+DEFINE_CHANGE(mark, (wtf8_string *string), (string), (&changed))
 DEFINE_CHANGE(push_unit, (wtf8_string *string, uint16_t unit), (string, unit), (&changed, unit))
 DEFINE_CHANGE(push_code_point, (wtf8_string *string, uint32_t value), (string, value), (&changed, value))
 DEFINE_CHANGE(push_units, (wtf8_string *string, const uint16_t *units, size_t n), (string, units, n),
               (&changed, n ? units : nothing, n))
 DEFINE_CHANGE(push_latin1, (wtf8_string *string, const uint8_t *text, size_t n), (string, text, n),
               (&changed, n ? text : (const uint8_t *)nothing, n))
-DEFINE_CHANGE(push_utf8, (wtf8_string *string, const uint8_t *text, size_t n, size_t *valid), (string, text, n, valid),
-              (&changed, n ? text : (const uint8_t *)nothing, n, valid))
 DEFINE_CHANGE(push_utf8_part, (wtf8_string *string, const uint8_t *text, size_t n, size_t *used, size_t *bad),
               (string, text, n, used, bad), (&changed, n ? text : (const uint8_t *)nothing, n, used, bad))
-DEFINE_CHANGE(push_string, (wtf8_string *string, handle *other), (string, other), (&changed, other))
-DEFINE_CHANGE(push_slice, (wtf8_string *string, handle *other, size_t begin, size_t end), (string, other, begin, end),
-              (&changed, other, begin, end))
+DEFINE_CHANGE(truncate_bytes, (wtf8_string *string, size_t position), (string, position), (&changed, position))
+DEFINE_CHANGE(truncate_units, (wtf8_string *string, size_t n), (string, n), (&changed, n))
+DEFINE_CHANGE(pop, (wtf8_string *string, uint32_t *code_point), (string, code_point), (&changed, code_point))
+
+/* The first units of a string, which get just the bytes that they take. */
+static __attribute__((noinline)) wtf8_result first_set_units(wtf8_string *string, const uint16_t *units, size_t n) {
+    handle room = {string};
+    wtf8_result code = PROVED(init_units)(&room, n ? units : nothing, n);
+    if (code != WTF8_OK) *string = (wtf8_string)WTF8_EMPTY;
+    return code;
+}
 
 wtf8_result wtf8_set_units(wtf8_string *string, const uint16_t *units, size_t n) {
-    return change_set_units(string, units, n);
+    if (!has_buffer(string)) return first_set_units(string, units, n);
+    handle changed = {string};
+    return PROVED(set_units)(&changed, n ? units : nothing, n);
 }
 
 wtf8_result wtf8_set_utf8(wtf8_string *string, const uint8_t *text, size_t n, size_t *valid) {
     size_t unused;
-    return change_set_utf8(string, text, n, valid ? valid : &unused);
+    handle changed = opened(string);
+    return PROVED(set_utf8)(&changed, n ? text : (const uint8_t *)nothing, n, valid ? valid : &unused);
 }
 
 wtf8_result wtf8_set_string(wtf8_string *string, const wtf8_string *other) {
+    wtf8_string empty;
     if (string == other) return WTF8_OK;
-    handle copy = asked(other);
-    return change_set_string(string, &copy);
+    handle changed = opened(string), copy = asked(other, &empty);
+    return PROVED(set_string)(&changed, &copy);
 }
 
 void wtf8_clear(wtf8_string *string) {
-    if (string->words[0] == 0) return;
-    handle changed = full(string);
+    if (!has_buffer(string)) return;
+    handle changed = {string};
     PROVED(clear)(&changed);
 }
 
 void wtf8_free(wtf8_string *string) {
-    if (string->words[0] == 0) return;
-    handle changed = full(string);
+    if (!has_buffer(string)) return;
+    handle changed = {string};
     PROVED(free)(&changed);
     *string = (wtf8_string)WTF8_EMPTY;
 }
 
-wtf8_result wtf8_reserve_bytes(wtf8_string *string, size_t additional) {
-    return change_reserve_bytes(string, additional);
-}
-
 void wtf8_shrink(wtf8_string *string) {
-    if (string->words[0] == 0) return;
-    handle changed = full(string);
+    if (!has_buffer(string)) return;
+    handle changed = {string};
     PROVED(shrink)(&changed);
-}
-
-wtf8_result wtf8_mark(wtf8_string *string) {
-    return change_mark(string);
-}
-
-wtf8_result wtf8_push_unit(wtf8_string *string, uint16_t unit) {
-    return change_push_unit(string, unit);
-}
-
-wtf8_result wtf8_push_code_point(wtf8_string *string, uint32_t value) {
-    return change_push_code_point(string, value);
-}
-
-wtf8_result wtf8_push_units(wtf8_string *string, const uint16_t *units, size_t n) {
-    return change_push_units(string, units, n);
-}
-
-wtf8_result wtf8_push_latin1(wtf8_string *string, const uint8_t *text, size_t n) {
-    return change_push_latin1(string, text, n);
 }
 
 wtf8_result wtf8_push_utf8(wtf8_string *string, const uint8_t *text, size_t n, size_t *valid) {
     size_t unused;
-    return change_push_utf8(string, text, n, valid ? valid : &unused);
-}
-
-wtf8_result wtf8_push_utf8_part(wtf8_string *string, const uint8_t *text, size_t n, size_t *used, size_t *bad) {
-    return change_push_utf8_part(string, text, n, used, bad);
+    handle changed = opened(string);
+    return PROVED(push_utf8)(&changed, n ? text : (const uint8_t *)nothing, n, valid ? valid : &unused);
 }
 
 wtf8_result wtf8_push_string(wtf8_string *string, const wtf8_string *other) {
-    handle copy = asked(other);
-    if (string != other) return change_push_string(string, &copy);
+    wtf8_string second;
     handle changed = opened(string);
-    wtf8_string second = WTF8_EMPTY;
-    handle made = opened(&second);
-    wtf8_result code = PROVED(set_string)(&made, &copy);
+    if (string != other) {
+        handle copy = asked(other, &second);
+        return PROVED(push_string)(&changed, &copy);
+    }
+    init(&second);
+    handle made = {&second};
+    wtf8_result code = PROVED(set_string)(&made, &changed);
     if (code == WTF8_OK) code = PROVED(push_string)(&changed, &made);
     PROVED(free)(&made);
-    return closed(string, &changed, code);
+    return code;
 }
 
 wtf8_result wtf8_push_slice(wtf8_string *string, const wtf8_string *other, size_t begin, size_t end) {
-    handle copy = asked(other);
-    if (string != other) return change_push_slice(string, &copy, begin, end);
+    wtf8_string part;
     handle changed = opened(string);
-    wtf8_string part = WTF8_EMPTY;
-    handle made = opened(&part);
-    wtf8_result code = PROVED(slice_units)(&made, &copy, begin, end);
+    if (string != other) {
+        handle copy = asked(other, &part);
+        return PROVED(push_slice)(&changed, &copy, begin, end);
+    }
+    init(&part);
+    handle made = {&part};
+    wtf8_result code = PROVED(slice_units)(&made, &changed, begin, end);
     if (code == WTF8_OK) code = PROVED(push_string)(&changed, &made);
     PROVED(free)(&made);
-    return closed(string, &changed, code);
+    return code;
 }
 
 size_t wtf8_unit_len(const wtf8_string *string) {
-    handle copy = asked(string);
+    wtf8_string empty;
+    handle copy = asked(string, &empty);
     return PROVED(unit_len)(&copy);
 }
 
 size_t wtf8_byte_len(const wtf8_string *string) {
-    handle copy = asked(string);
+    wtf8_string empty;
+    handle copy = asked(string, &empty);
     return PROVED(byte_len)(&copy);
 }
 
 size_t wtf8_capacity(const wtf8_string *string) {
-    handle copy = asked(string);
+    wtf8_string empty;
+    handle copy = asked(string, &empty);
     return PROVED(capacity)(&copy);
 }
 
 wtf8_result wtf8_position_at(const wtf8_string *string, size_t index, size_t *position) {
-    handle copy = asked(string);
+    wtf8_string empty;
+    handle copy = asked(string, &empty);
     return PROVED(position_at)(&copy, index, position);
 }
 
 size_t wtf8_unit_before(const wtf8_string *string, size_t position) {
-    handle copy = asked(string);
+    wtf8_string empty;
+    handle copy = asked(string, &empty);
     return PROVED(unit_before)(&copy, position);
 }
 
 wtf8_result wtf8_unit_at(const wtf8_string *string, size_t index, uint16_t *unit) {
-    handle copy = asked(string);
+    wtf8_string empty;
+    handle copy = asked(string, &empty);
     return PROVED(unit_at)(&copy, index, unit);
 }
 
 bool wtf8_is_boundary(const wtf8_string *string, size_t position) {
-    handle copy = asked(string);
+    wtf8_string empty;
+    handle copy = asked(string, &empty);
     return PROVED(is_boundary)(&copy, position);
 }
 
 bool wtf8_is_utf8(const wtf8_string *string) {
-    handle copy = asked(string);
+    wtf8_string empty;
+    handle copy = asked(string, &empty);
     return PROVED(is_utf8)(&copy);
 }
 
 bool wtf8_equal(const wtf8_string *string, const wtf8_string *other) {
-    handle copy = asked(string), others = asked(other);
+    wtf8_string empty, empty_other;
+    handle copy = asked(string, &empty), others = asked(other, &empty_other);
     return string == other || PROVED(equal)(&copy, &others);
 }
 
 int32_t wtf8_compare_units(const wtf8_string *string, const wtf8_string *other) {
-    handle copy = asked(string), others = asked(other);
+    wtf8_string empty, empty_other;
+    handle copy = asked(string, &empty), others = asked(other, &empty_other);
     return string == other ? 0 : PROVED(compare_units)(&copy, &others);
 }
 
 int32_t wtf8_compare_code_points(const wtf8_string *string, const wtf8_string *other) {
-    handle copy = asked(string), others = asked(other);
+    wtf8_string empty, empty_other;
+    handle copy = asked(string, &empty), others = asked(other, &empty_other);
     return string == other ? 0 : PROVED(compare_code_points)(&copy, &others);
 }
 
 uint64_t wtf8_hash(const wtf8_string *string, uint64_t seed_0, uint64_t seed_1) {
-    handle copy = asked(string);
+    wtf8_string empty;
+    handle copy = asked(string, &empty);
     return PROVED(hash)(&copy, seed_0, seed_1);
 }
 
@@ -382,99 +375,97 @@ uint64_t wtf8_hash_utf8(const uint8_t *text, size_t n, uint64_t seed_0, uint64_t
 }
 
 wtf8_result wtf8_next_surrogate(const wtf8_string *string, size_t *position, uint16_t *unit) {
-    handle copy = asked(string);
+    wtf8_string empty;
+    handle copy = asked(string, &empty);
     return PROVED(next_surrogate)(&copy, position, unit);
 }
 
 wtf8_result wtf8_next_code_point(const wtf8_string *string, size_t *position, uint32_t *code_point) {
-    handle copy = asked(string);
+    wtf8_string empty;
+    handle copy = asked(string, &empty);
     return PROVED(next_code_point)(&copy, position, code_point);
 }
 
 wtf8_result wtf8_previous_code_point(const wtf8_string *string, size_t *position, uint32_t *code_point) {
-    handle copy = asked(string);
+    wtf8_string empty;
+    handle copy = asked(string, &empty);
     return PROVED(previous_code_point)(&copy, position, code_point);
 }
 
 bool wtf8_equal_units(const wtf8_string *string, const uint16_t *units, size_t n) {
-    handle copy = asked(string);
+    wtf8_string empty;
+    handle copy = asked(string, &empty);
     return PROVED(equal_units)(&copy, n ? units : nothing, n);
 }
 
 int32_t wtf8_compare_with_units(const wtf8_string *string, const uint16_t *units, size_t n) {
-    handle copy = asked(string);
+    wtf8_string empty;
+    handle copy = asked(string, &empty);
     return PROVED(compare_with_units)(&copy, n ? units : nothing, n);
 }
 
 bool wtf8_equal_utf8(const wtf8_string *string, const uint8_t *text, size_t n) {
-    handle copy = asked(string);
+    wtf8_string empty;
+    handle copy = asked(string, &empty);
     return PROVED(equal_utf8)(&copy, n ? text : (const uint8_t *)nothing, n);
 }
 
 bool wtf8_starts_with(const wtf8_string *string, size_t index, const wtf8_string *other) {
-    handle copy = asked(string), others = asked(other);
+    wtf8_string empty, empty_other;
+    handle copy = asked(string, &empty), others = asked(other, &empty_other);
     if (string != other) return PROVED(starts_with)(&copy, index, &others);
     return index == 0 || PROVED(unit_len)(&copy) == 0;
 }
 
 bool wtf8_starts_with_units(const wtf8_string *string, size_t index, const uint16_t *units, size_t n) {
-    handle copy = asked(string);
+    wtf8_string empty;
+    handle copy = asked(string, &empty);
     return PROVED(starts_with_units)(&copy, index, n ? units : nothing, n);
 }
 
-wtf8_result wtf8_truncate_bytes(wtf8_string *string, size_t position) {
-    handle changed = opened(string);
-    return closed(string, &changed, PROVED(truncate_bytes)(&changed, position));
-}
-
-wtf8_result wtf8_truncate_units(wtf8_string *string, size_t n) {
-    handle changed = opened(string);
-    return closed(string, &changed, PROVED(truncate_units)(&changed, n));
-}
-
-wtf8_result wtf8_pop(wtf8_string *string, uint32_t *code_point) {
-    handle changed = opened(string);
-    return closed(string, &changed, PROVED(pop)(&changed, code_point));
-}
-
 wtf8_result wtf8_slice_units(wtf8_string *into, const wtf8_string *string, size_t begin, size_t end) {
-    handle copy = asked(string);
-    if (string != into) return change_slice_units(into, &copy, begin, end);
+    wtf8_string part;
     handle changed = opened(into);
-    wtf8_string part = WTF8_EMPTY;
-    handle made = opened(&part);
-    wtf8_result code = PROVED(slice_units)(&made, &copy, begin, end);
-    if (code == WTF8_OK) {
-        PROVED(free)(&changed);
-        *into = part;
-        return closed(into, &made, code);
+    if (string != into) {
+        handle copy = asked(string, &part);
+        return PROVED(slice_units)(&changed, &copy, begin, end);
     }
-    PROVED(free)(&made);
+    init(&part);
+    handle made = {&part};
+    wtf8_result code = PROVED(slice_units)(&made, &changed, begin, end);
+    if (code != WTF8_OK) return code;
+    PROVED(free)(&changed);
+    *into = part;
     return code;
 }
 
 wtf8_result wtf8_copy_units(const wtf8_string *string, uint16_t *out, size_t size, size_t *len) {
-    handle copy = asked(string);
+    wtf8_string empty;
+    handle copy = asked(string, &empty);
     return PROVED(copy_units)(&copy, size ? out : nothing, size, len);
 }
 
 wtf8_result wtf8_copy_code_points(const wtf8_string *string, size_t *position, uint32_t *out, size_t size, size_t *len) {
-    handle copy = asked(string);
+    wtf8_string empty;
+    handle copy = asked(string, &empty);
     return PROVED(copy_code_points)(&copy, position, size ? out : no_points, size, len);
 }
 
 wtf8_result wtf8_copy_slice(const wtf8_string *string, size_t begin, size_t end, uint16_t *out, size_t size, size_t *len) {
-    handle copy = asked(string);
+    wtf8_string empty;
+    handle copy = asked(string, &empty);
     return PROVED(copy_slice)(&copy, begin, end, size ? out : nothing, size, len);
 }
 
 wtf8_result wtf8_copy_utf8(const wtf8_string *string, uint8_t *out, size_t size, size_t *len) {
-    handle copy = asked(string);
+    wtf8_string empty;
+    handle copy = asked(string, &empty);
     return PROVED(copy_utf8)(&copy, size ? out : (uint8_t *)nothing, size, len);
 }
 
 wtf8_result wtf8_copy_lossy(const wtf8_string *string, uint8_t *out, size_t size, size_t *len) {
-    handle copy = asked(string);
+    wtf8_string empty;
+    handle copy = asked(string, &empty);
     return PROVED(copy_lossy)(&copy, size ? out : (uint8_t *)nothing, size, len);
 }
 

@@ -65,7 +65,7 @@ slice_form s halves =
     (unpaired_after_trail s.trail (view_units s.whole ++ lead) halves.trail)
 
 -- the form of a slice has the bytes of its whole code points, and three for each half of a pair
-pub slice_length : (s : UnitSlice) → AreHalves s → (n a b : ℕ) → n ≡ length s.whole.bytes.now → a ≡ bool_byte (is_some s.trail)
+slice_length : (s : UnitSlice) → AreHalves s → (n a b : ℕ) → n ≡ length s.whole.bytes.now → a ≡ bool_byte (is_some s.trail)
     → b ≡ bool_byte (is_some s.lead) → (w : List ℕ) → IsForm w (units_of_slice s) → length w ≡ n + 3 * (a + b)
 slice_length s halves n a b has_n has_a has_b w form =
     let trail = bytes (option_to_list s.trail) in
@@ -82,12 +82,15 @@ slice_length s halves n a b has_n has_a has_b w form =
       half_length s.lead (lead_is_surrogate s.lead halves.lead),
     )
 
--- a slice fits a capacity of that many bytes
-pub slice_fits : (s : UnitSlice) → AreHalves s → (n a b : ℕ) → n ≡ length s.whole.bytes.now → a ≡ bool_byte (is_some s.trail)
-    → b ≡ bool_byte (is_some s.lead) → {capacity : ℕ} → n + 3 * (a + b) ≤ capacity → FitWithin (units_of_slice s) 0 capacity
-slice_fits s halves n a b has_n has_a has_b fits =
-    let form = slice_form s halves in
-    record { whole = slice_bytes s; form = form; within = omega (arith, slice_length s halves n a b has_n has_a has_b (slice_bytes s) form) }
+-- a slice fits a capacity exactly if that has room for these bytes
+pub slice_room : (s : UnitSlice) → AreHalves s → (n a b capacity : ℕ) → n ≡ length s.whole.bytes.now → a ≡ bool_byte (is_some s.trail)
+    → b ≡ bool_byte (is_some s.lead) → (n + 3 * (a + b) ≤ capacity) ↔ FitWithin (units_of_slice s) 0 capacity
+slice_room s halves n a b capacity has_n has_a has_b =
+    let long = slice_length s halves n a b has_n has_a has_b in
+    let form = slice_form s halves in (
+      λ fits. record { whole = slice_bytes s; form = form; within = omega (arith, long (slice_bytes s) form, fits) },
+      λ fit. omega (arith, long fit.whole fit.form, fit.within),
+    )
 
 -- the halves of the part of `u` from `begin` to before `end` are those of the pairs that its ends divide
 

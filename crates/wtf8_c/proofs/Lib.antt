@@ -1,5 +1,4 @@
 pub mod Boxed
-pub mod Empty
 pub mod Halves
 pub mod Outcomes
 pub mod Steps

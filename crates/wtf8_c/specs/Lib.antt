@@ -1,7 +1,7 @@
-pub mod Contents
 pub mod Front
 pub mod Halves
 pub mod Hashing
+pub mod Kept
 pub mod Lending
 pub mod Ownership
 pub mod Utf8Front

@@ -1,34 +1,32 @@
 -- What a string of C owns.
-use mathlib.Core.Bool.{Bool, true, false}
-use mir.Raw.{raw}
-use base.Fml.{Fml, ftrue}
+use base.Fml.{Fml}
+use base.Fraction.{full_share}
 use base.Stored.{Coded}
-use denote.Memory.{lone}
 use denote.RattleType.{RattleType}
-use denote.RawPtr.{Ptr, room_for}
-use Rattle.std.specs.Box.Ownership.{box_owns}
+use denote.RawPtr.{Ptr, lies_at, room_at}
+use Rattle.std.specs.Coded.{coded_option}
+use Rattle.std.specs.Prelude.{Option, Some, None}
 use Rattle.std.specs.contracts.alloc.Global as heap
 use Rattle.std.specs.contracts.impls.GlobalAllocator.TheImpl.{ghosts}
 use Rattle.unit_text.specs.contracts.indexed.IndexedBuf as buf
 
--- The type of the buffers that full strings own.
+-- The type of the buffers of strings.
 abbrev pub Held : RattleType
 Held = buf.the_row heap.the_row ghosts
 
--- A string without a buffer owns the memory for one at its pointer, or nothing if it has no place for a buffer.
-abbrev pub place_owned : Bool → Ptr → Fml
-place_owned has_place at = elim has_place [
-  | true ↦ room_for (raw (lone Held.mir)) at
-  | false ↦ ftrue
-]
+-- A string owns the memory at its pointer, with a buffer in it.
+abbrev pub holds_buffer : Ptr → Held.Denot → Fml
+holds_buffer at b = lies_at Held full_share at b
 
--- A full string owns the memory at its pointer with a buffer in it.
-abbrev pub string_owns : Bool → Bool → Ptr → Held.Denot → Fml
-string_owns full has_place at s = elim full [
-  | true ↦ box_owns (λ _ _. ftrue) Held at s
-  | false ↦ place_owned has_place at
-]
+-- Room for a buffer owns the memory at its pointer, with a buffer in it once that is written.
+abbrev pub room_owns : Ptr → Option Held.Denot → Fml
+room_owns at None = room_at Held at
+room_owns at (Some b) = holds_buffer at b
 
 -- the coding of a buffer
 abbrev pub held_coded : Coded Held.Denot
 held_coded = Held.coded
+
+-- the coding of a buffer that may not be written yet
+abbrev pub written_coded : Coded (Option Held.Denot)
+written_coded = coded_option Held.coded

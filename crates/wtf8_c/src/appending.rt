@@ -1,109 +1,91 @@
 // Calls that append.
-ghost use Rattle.std.specs.Prelude.{◌≡◌, ◌++◌, ◌∷◌, [], ◌≤◌, ◌⊎◌, ◌↔◌, IsTrue, length};
+ghost use Rattle.std.specs.Prelude.{◌≡◌, ◌∷◌, [], ◌≤◌, ◌⊎◌, ◌↔◌, length};
 ghost use Rattle.std.specs.Str.{chars, IsUtf8};
 ghost use Rattle.std.specs.Str.Lossy.{utf8_valid_len};
 ghost use Rattle.wtf8.specs.Appending.{AppendsUnits, KeepsContents, HasRoomFor};
 ghost use Rattle.wtf8.specs.Unicode.{IsCodePoint, units, units_of};
-ghost use Rattle.wtf8_c.specs.Contents.{contents, CanHoldUnits};
 ghost use Rattle.wtf8_c.specs.Utf8Front.{utf8_front, bad_len};
+ghost use Rattle.wtf8_c.specs.Kept.{IsKept};
 
 use crate::codes::{BAD_CODE_POINT, NO_MEMORY, NOT_UTF8, OK, code_of};
 use crate::handle::Wtf8String;
 use crate::latin1::push_bytes;
-use crate::opening::{unit_len, view};
 use std::alloc::Global;
 use std::str;
 use wtf8::{CodePoint, from_utf8};
 
 /// Appends a unit. A trail after a lead completes the pair.
 #[unsafe(no_mangle)]
-pub extern "C" fn wtf8_push_unit(alloc: Global, string: &mut Wtf8String, unit: u16) -> i32
+pub extern "C" fn wtf8_push_unit(string: &mut Wtf8String, unit: u16) -> i32
     ensures code { (result ≡ OK) ⊎ (result ≡ NO_MEMORY) }
-    ensures ok { result ≡ OK → AppendsUnits (contents string.old) (unit ∷ []) (contents string.new) }
-    ensures kept { result ≡ NO_MEMORY → KeepsContents (contents string.old) (contents string.new) }
-    ensures room { CanHoldUnits string.old → HasRoomFor (contents string.old) (units_of unit) → result ≡ OK }
-    ensures capacity { (contents string.old).capacity ≤ (contents string.new).capacity }
-    ensures stays { IsTrue string.old.full → IsTrue string.new.full }
+    ensures ok { result ≡ OK → AppendsUnits string.old.buf (unit ∷ []) string.new.buf }
+    ensures kept { result ≡ NO_MEMORY → KeepsContents string.old.buf string.new.buf }
+    ensures room { HasRoomFor string.old.buf (units_of unit) → result ≡ OK }
+    ensures capacity { string.old.buf.capacity ≤ string.new.buf.capacity }
+    ensures lies { string.new.at ≡ string.old.at }
 {
-    let Ok(()) = string.ready(alloc) else {
-        return NO_MEMORY;
-    };
     code_of(string.buffer().push_unit(unit))
 }
 
 /// Appends a code point.
 #[unsafe(no_mangle)]
-pub extern "C" fn wtf8_push_code_point(alloc: Global, string: &mut Wtf8String, value: u32) -> i32
+pub extern "C" fn wtf8_push_code_point(string: &mut Wtf8String, value: u32) -> i32
     ensures code { (result ≡ OK) ⊎ ((result ≡ NO_MEMORY) ⊎ (result ≡ BAD_CODE_POINT)) }
     ensures bad_code_point { result ≡ BAD_CODE_POINT ↔ ¬ (IsCodePoint value) }
-    ensures ok { result ≡ OK → AppendsUnits (contents string.old) (units_of value) (contents string.new) }
-    ensures kept { ¬ (result ≡ OK) → KeepsContents (contents string.old) (contents string.new) }
-    ensures room { CanHoldUnits string.old → IsCodePoint value → HasRoomFor (contents string.old) (units_of value) → result ≡ OK }
-    ensures capacity { (contents string.old).capacity ≤ (contents string.new).capacity }
-    ensures stays { IsTrue string.old.full → IsTrue string.new.full }
+    ensures ok { result ≡ OK → AppendsUnits string.old.buf (units_of value) string.new.buf }
+    ensures kept { ¬ (result ≡ OK) → KeepsContents string.old.buf string.new.buf }
+    ensures room { IsCodePoint value → HasRoomFor string.old.buf (units_of value) → result ≡ OK }
+    ensures capacity { string.old.buf.capacity ≤ string.new.buf.capacity }
+    ensures lies { string.new.at ≡ string.old.at }
 {
     let Some(point) = CodePoint::from_u32(value) else {
         return BAD_CODE_POINT;
-    };
-    let Ok(()) = string.ready(alloc) else {
-        return NO_MEMORY;
     };
     code_of(string.buffer().push(point))
 }
 
 /// Appends units.
 #[unsafe(no_mangle)]
-pub extern "C" fn wtf8_push_units(alloc: Global, string: &mut Wtf8String, units: &[u16]) -> i32
+pub extern "C" fn wtf8_push_units(string: &mut Wtf8String, units: &[u16]) -> i32
     ensures code { (result ≡ OK) ⊎ (result ≡ NO_MEMORY) }
-    ensures ok { result ≡ OK → AppendsUnits (contents string.old) units.now (contents string.new) }
-    ensures kept { result ≡ NO_MEMORY → KeepsContents (contents string.old) (contents string.new) }
-    ensures room { CanHoldUnits string.old → HasRoomFor (contents string.old) units.now → result ≡ OK }
-    ensures capacity { (contents string.old).capacity ≤ (contents string.new).capacity }
-    ensures stays { IsTrue string.old.full → IsTrue string.new.full }
+    ensures ok { result ≡ OK → AppendsUnits string.old.buf units.now string.new.buf }
+    ensures kept { result ≡ NO_MEMORY → KeepsContents string.old.buf string.new.buf }
+    ensures room { HasRoomFor string.old.buf units.now → result ≡ OK }
+    ensures capacity { string.old.buf.capacity ≤ string.new.buf.capacity }
+    ensures lies { string.new.at ≡ string.old.at }
 {
-    let Ok(()) = string.ready(alloc) else {
-        return NO_MEMORY;
-    };
     code_of(string.buffer().push_units(units))
 }
 
 /// Appends a text in Latin-1: the code points of its bytes.
 #[unsafe(no_mangle)]
-pub extern "C" fn wtf8_push_latin1(alloc: Global, string: &mut Wtf8String, text: &[u8]) -> i32
+pub extern "C" fn wtf8_push_latin1(string: &mut Wtf8String, text: &[u8]) -> i32
     ensures code { (result ≡ OK) ⊎ (result ≡ NO_MEMORY) }
-    ensures ok { result ≡ OK → AppendsUnits (contents string.old) text.now (contents string.new) }
-    ensures kept { result ≡ NO_MEMORY → KeepsContents (contents string.old) (contents string.new) }
-    ensures room { CanHoldUnits string.old → HasRoomFor (contents string.old) text.now → result ≡ OK }
-    ensures capacity { (contents string.old).capacity ≤ (contents string.new).capacity }
-    ensures stays { IsTrue string.old.full → IsTrue string.new.full }
+    ensures ok { result ≡ OK → AppendsUnits string.old.buf text.now string.new.buf }
+    ensures kept { result ≡ NO_MEMORY → KeepsContents string.old.buf string.new.buf }
+    ensures room { HasRoomFor string.old.buf text.now → result ≡ OK }
+    ensures capacity { string.old.buf.capacity ≤ string.new.buf.capacity }
+    ensures lies { string.new.at ≡ string.old.at }
 {
-    let Ok(()) = string.ready(alloc) else {
-        return NO_MEMORY;
-    };
     code_of(push_bytes(string.buffer(), text))
 }
 
 /// Appends a text, which must be UTF-8. If it is not, the length of its longest front that is UTF-8 is written to
 /// `valid`.
 #[unsafe(no_mangle)]
-pub extern "C" fn wtf8_push_utf8(
-    alloc: Global,
-    string: &mut Wtf8String,
-    text: &[u8],
-    valid: &mut usize,
-) -> i32
+pub extern "C" fn wtf8_push_utf8(string: &mut Wtf8String, text: &[u8], valid: &mut usize) -> i32
     ensures code { (result ≡ OK) ⊎ ((result ≡ NO_MEMORY) ⊎ (result ≡ NOT_UTF8)) }
     ensures not_utf8 { result ≡ NOT_UTF8 ↔ ¬ (IsUtf8 text.now) }
-    ensures ok { result ≡ OK → AppendsUnits (contents string.old) (units (chars text.now)) (contents string.new) }
-    ensures kept { ¬ (result ≡ OK) → KeepsContents (contents string.old) (contents string.new) }
-    ensures room { CanHoldUnits string.old → IsUtf8 text.now → HasRoomFor (contents string.old) (units (chars text.now)) → result ≡ OK }
+    ensures ok { result ≡ OK → AppendsUnits string.old.buf (units (chars text.now)) string.new.buf }
+    ensures kept { ¬ (result ≡ OK) → KeepsContents string.old.buf string.new.buf }
+    ensures room { IsUtf8 text.now → HasRoomFor string.old.buf (units (chars text.now)) → result ≡ OK }
     ensures valid { result ≡ NOT_UTF8 → valid.new ≡ utf8_valid_len text.now }
     ensures valid_kept { ¬ (result ≡ NOT_UTF8) → valid.new ≡ valid.old }
-    ensures capacity { (contents string.old).capacity ≤ (contents string.new).capacity }
-    ensures stays { IsTrue string.old.full → IsTrue string.new.full }
+    ensures capacity { string.old.buf.capacity ≤ string.new.buf.capacity }
+    ensures lies { string.new.at ≡ string.old.at }
 {
     match from_utf8(text) {
-        Ok(text) => push_text(alloc, string, text),
+        Ok(text) => code_of(string.buffer().push_str(text)),
         Err(error) => {
             *valid = error.valid_up_to();
             NOT_UTF8
@@ -115,30 +97,29 @@ pub extern "C" fn wtf8_push_utf8(
 /// that are wrong together to `bad`, which is 0 if none are: `text` was taken whole, or ends within a code point.
 #[unsafe(no_mangle)]
 pub extern "C" fn wtf8_push_utf8_part(
-    alloc: Global,
     string: &mut Wtf8String,
     text: &[u8],
     used: &mut usize,
     bad: &mut usize,
 ) -> i32
     ensures code { (result ≡ OK) ⊎ (result ≡ NO_MEMORY) }
-    ensures ok { result ≡ OK → AppendsUnits (contents string.old) (units (chars (utf8_front text.now))) (contents string.new) }
-    ensures kept { result ≡ NO_MEMORY → KeepsContents (contents string.old) (contents string.new) }
-    ensures room { CanHoldUnits string.old → HasRoomFor (contents string.old) (units (chars (utf8_front text.now))) → result ≡ OK }
-    ensures capacity { (contents string.old).capacity ≤ (contents string.new).capacity }
+    ensures ok { result ≡ OK → AppendsUnits string.old.buf (units (chars (utf8_front text.now))) string.new.buf }
+    ensures kept { result ≡ NO_MEMORY → KeepsContents string.old.buf string.new.buf }
+    ensures room { HasRoomFor string.old.buf (units (chars (utf8_front text.now))) → result ≡ OK }
+    ensures capacity { string.old.buf.capacity ≤ string.new.buf.capacity }
+    ensures lies { string.new.at ≡ string.old.at }
     ensures used { result ≡ OK → used.new ≡ utf8_valid_len text.now }
     ensures bad { result ≡ OK → bad.new ≡ bad_len text.now }
     ensures used_kept { result ≡ NO_MEMORY → used.new ≡ used.old }
     ensures bad_kept { result ≡ NO_MEMORY → bad.new ≡ bad.old }
-    ensures stays { IsTrue string.old.full → IsTrue string.new.full }
 {
     let (front, after) = read_front(text);
-    let code = push_text(alloc, string, front);
-    if code == OK {
-        *used = front.len();
-        *bad = after;
+    if string.buffer().push_str(front).is_err() {
+        return NO_MEMORY;
     }
-    code
+    *used = front.len();
+    *bad = after;
+    OK
 }
 
 /// The longest front that is UTF-8, and the number of bytes after it that are wrong together.
@@ -156,41 +137,18 @@ fn read_front(text: &[u8]) -> (&str, usize)
     }
 }
 
-/// Appends a text.
-fn push_text(alloc: Global, string: &mut Wtf8String, text: &str) -> i32
-    ensures code { (result ≡ OK) ⊎ (result ≡ NO_MEMORY) }
-    ensures ok { result ≡ OK → AppendsUnits (contents string.old) (units (chars text.now)) (contents string.new) }
-    ensures kept { result ≡ NO_MEMORY → KeepsContents (contents string.old) (contents string.new) }
-    ensures room { CanHoldUnits string.old → HasRoomFor (contents string.old) (units (chars text.now)) → result ≡ OK }
-    ensures capacity { (contents string.old).capacity ≤ (contents string.new).capacity }
-    ensures stays { IsTrue string.old.full → IsTrue string.new.full }
-{
-    let Ok(()) = string.ready(alloc) else {
-        return NO_MEMORY;
-    };
-    code_of(string.buffer().push_str(text))
-}
-
 /// Appends another string.
 #[unsafe(no_mangle)]
-pub extern "C" fn wtf8_push_string(
-    alloc: Global,
-    string: &mut Wtf8String,
-    other: &mut Wtf8String,
-) -> i32
+pub extern "C" fn wtf8_push_string(string: &mut Wtf8String, other: &mut Wtf8String) -> i32
     ensures code { (result ≡ OK) ⊎ (result ≡ NO_MEMORY) }
-    ensures ok { result ≡ OK → AppendsUnits (contents string.old) (contents other.old).units (contents string.new) }
-    ensures kept { result ≡ NO_MEMORY → KeepsContents (contents string.old) (contents string.new) }
-    ensures other { contents other.new ≡ contents other.old }
-    ensures room { CanHoldUnits string.old → HasRoomFor (contents string.old) (contents other.old).units → result ≡ OK }
-    ensures capacity { (contents string.old).capacity ≤ (contents string.new).capacity }
-    ensures stays { IsTrue string.old.full → IsTrue string.new.full }
+    ensures ok { result ≡ OK → AppendsUnits string.old.buf other.old.buf.units string.new.buf }
+    ensures kept { result ≡ NO_MEMORY → KeepsContents string.old.buf string.new.buf }
+    ensures other { IsKept other.old other.new }
+    ensures room { HasRoomFor string.old.buf other.old.buf.units → result ≡ OK }
+    ensures capacity { string.old.buf.capacity ≤ string.new.buf.capacity }
+    ensures lies { string.new.at ≡ string.old.at }
 {
-    let Ok(()) = string.ready(alloc) else {
-        return NO_MEMORY;
-    };
-    let held = other.take();
-    let pushed = string.buffer().push_counted(view(&held), unit_len(&held));
-    other.put_back(held);
-    code_of(pushed)
+    let own = string.buffer();
+    let more = other.buffer();
+    code_of(own.push_counted(more.as_wtf8(), more.unit_len()))
 }

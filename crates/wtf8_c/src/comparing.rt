@@ -4,50 +4,40 @@ ghost use Rattle.std.specs.Str.{chars, IsUtf8};
 ghost use Rattle.wtf8.specs.Order.{Before};
 ghost use Rattle.wtf8.specs.Unicode.{units};
 ghost use Rattle.wtf8.specs.View.{view_units};
-ghost use Rattle.wtf8_c.specs.Contents.{contents, buffer_contents};
+ghost use Rattle.wtf8_c.specs.Kept.{IsKept};
 
 use crate::codes::{AFTER, BEFORE, SAME, code_of_order};
 use crate::handle::Wtf8String;
-use crate::opening::{HeldBuf, view};
 use wtf8::{Wtf8, from_utf8};
 
 /// Whether the units of the string are these.
 #[unsafe(no_mangle)]
 pub extern "C" fn wtf8_equal_units(string: &mut Wtf8String, units: &[u16]) -> bool
-    ensures equal { IsTrue result ↔ (contents string.old).units ≡ units.now }
-    ensures kept { contents string.new ≡ contents string.old }
+    ensures equal { IsTrue result ↔ string.old.buf.units ≡ units.now }
+    ensures kept { IsKept string.old string.new }
 {
-    let held = string.take();
-    let equal = has_units(&held, units);
-    string.put_back(held);
-    equal
+    string.buffer().eq_units(units)
 }
 
 /// Whether the bytes are UTF-8, and the text is that of the string.
 #[unsafe(no_mangle)]
 pub extern "C" fn wtf8_equal_utf8(string: &mut Wtf8String, text: &[u8]) -> bool
-    ensures equal { IsTrue result ↔ (IsUtf8 text.now × ((contents string.old).units ≡ units (chars text.now))) }
-    ensures kept { contents string.new ≡ contents string.old }
+    ensures equal { IsTrue result ↔ (IsUtf8 text.now × (string.old.buf.units ≡ units (chars text.now))) }
+    ensures kept { IsKept string.old string.new }
 {
-    let held = string.take();
-    let equal = is_text(view(&held), text);
-    string.put_back(held);
-    equal
+    is_text(string.buffer().as_wtf8(), text)
 }
 
 /// Compares the units of the string with these.
 #[unsafe(no_mangle)]
 pub extern "C" fn wtf8_compare_with_units(string: &mut Wtf8String, units: &[u16]) -> i32
     ensures code { (result ≡ BEFORE) ⊎ ((result ≡ SAME) ⊎ (result ≡ AFTER)) }
-    ensures before { result ≡ BEFORE → Before (contents string.old).units units.now }
-    ensures same { result ≡ SAME → (contents string.old).units ≡ units.now }
-    ensures after { result ≡ AFTER → Before units.now (contents string.old).units }
-    ensures kept { contents string.new ≡ contents string.old }
+    ensures before { result ≡ BEFORE → Before string.old.buf.units units.now }
+    ensures same { result ≡ SAME → string.old.buf.units ≡ units.now }
+    ensures after { result ≡ AFTER → Before units.now string.old.buf.units }
+    ensures kept { IsKept string.old string.new }
 {
-    let held = string.take();
-    let order = view(&held).cmp_with_units(units);
-    string.put_back(held);
-    code_of_order(order)
+    code_of_order(string.buffer().as_wtf8().cmp_with_units(units))
 }
 
 /// Whether the units of the string from `index` on begin with the units of `other`. An empty `other` is found at each
@@ -58,16 +48,11 @@ pub extern "C" fn wtf8_starts_with(
     index: usize,
     other: &mut Wtf8String,
 ) -> bool
-    ensures starts { IsTrue result ↔ take (length (contents other.old).units) (drop index (contents string.old).units) ≡ (contents other.old).units }
-    ensures kept { contents string.new ≡ contents string.old }
-    ensures other { contents other.new ≡ contents other.old }
+    ensures starts { IsTrue result ↔ take (length other.old.buf.units) (drop index string.old.buf.units) ≡ other.old.buf.units }
+    ensures kept { IsKept string.old string.new }
+    ensures other { IsKept other.old other.new }
 {
-    let held = string.take();
-    let others = other.take();
-    let starts = begins_at(&held, index, &others);
-    string.put_back(held);
-    other.put_back(others);
-    starts
+    string.buffer().starts_with_at(index, other.buffer())
 }
 
 /// Whether the units of the string from `index` on begin with these. No units are found at each index.
@@ -77,13 +62,10 @@ pub extern "C" fn wtf8_starts_with_units(
     index: usize,
     units: &[u16],
 ) -> bool
-    ensures starts { IsTrue result ↔ take (length units.now) (drop index (contents string.old).units) ≡ units.now }
-    ensures kept { contents string.new ≡ contents string.old }
+    ensures starts { IsTrue result ↔ take (length units.now) (drop index string.old.buf.units) ≡ units.now }
+    ensures kept { IsKept string.old string.new }
 {
-    let held = string.take();
-    let starts = begins_with_units(&held, index, units);
-    string.put_back(held);
-    starts
+    string.buffer().starts_with_units_at(index, units)
 }
 
 /// Whether the bytes are UTF-8, and the text is that of the view.
@@ -96,38 +78,5 @@ fn is_text(own: Wtf8<'_>, text: &[u8]) -> bool
     match from_utf8(text) {
         Ok(text) => own == Wtf8::from_str(text),
         Err(_) => false,
-    }
-}
-
-/// Whether the units of the buffer's string are these.
-fn has_units(held: &HeldBuf, units: &[u16]) -> bool
-    ensures { IsTrue result ↔ (buffer_contents held.now).units ≡ units.now }
-{
-    match held {
-        Some(buf) => buf.eq_units(units),
-        None => units.is_empty(),
-    }
-}
-
-/// Whether the units of the buffer's string from `index` on begin with the units of the other's.
-fn begins_at(held: &HeldBuf, index: usize, others: &HeldBuf) -> bool
-    ensures { IsTrue result ↔ take (length (buffer_contents others.now).units) (drop index (buffer_contents held.now).units) ≡ (buffer_contents others.now).units }
-{
-    let Some(other) = others else {
-        return true;
-    };
-    match held {
-        Some(buf) => buf.starts_with_at(index, other),
-        None => other.unit_len() == 0,
-    }
-}
-
-/// Whether the units of the buffer's string from `index` on begin with these.
-fn begins_with_units(held: &HeldBuf, index: usize, units: &[u16]) -> bool
-    ensures { IsTrue result ↔ take (length units.now) (drop index (buffer_contents held.now).units) ≡ units.now }
-{
-    match held {
-        Some(buf) => buf.starts_with_units_at(index, units),
-        None => units.is_empty(),
     }
 }

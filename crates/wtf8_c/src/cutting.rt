@@ -1,41 +1,33 @@
 // Calls that shorten a string, and that copy or append a part of one.
-ghost use Rattle.std.specs.Prelude.{◌≡◌, [], ◌∷◌, ◌++◌, ◌⊎◌, ◌<◌, ◌≤◌, ◌↔◌, IsTrue, length, take, drop};
+ghost use Rattle.std.specs.Prelude.{◌≡◌, [], ◌∷◌, ◌++◌, ◌⊎◌, ◌<◌, ◌≤◌, ◌↔◌, IsTrue, IsOk, OnOk, OnErr, length, take, drop};
 ghost use Rattle.wtf8.specs.Appending.{AppendsUnits, KeepsContents, HasRoomFor, FitWithin};
 ghost use Rattle.wtf8.specs.Position.{IsBoundary, IsFront};
 ghost use Rattle.wtf8.specs.UnitPosition.{units_of_slice};
-ghost use Rattle.wtf8_c.specs.Contents.{contents, buffer_contents, CanHoldUnits};
 ghost use Rattle.wtf8_c.specs.Halves.{AreHalves};
+ghost use Rattle.wtf8_c.specs.Kept.{IsKept};
 
 use crate::codes::{BAD_POSITION, END, NO_MEMORY, OK, code_of};
 use crate::handle::Wtf8String;
-use crate::making::replace;
-use crate::opening::{HeldBuf, unit_len, view};
 use crate::walking::code_point_before;
-use std::alloc::Global;
+use std::alloc::{AllocError, Global};
 use unit_text::IndexedBuf;
-use wtf8::{UnitMark, UnitSlice, Wtf8};
+use wtf8::{UnitMark, UnitSlice};
 
 /// Shortens the string to `n` units.
 #[unsafe(no_mangle)]
 pub extern "C" fn wtf8_truncate_units(string: &mut Wtf8String, n: usize) -> i32
     ensures code { (result ≡ OK) ⊎ (result ≡ BAD_POSITION) }
-    ensures position { result ≡ BAD_POSITION ↔ length (contents string.old).units < n }
-    ensures ok { result ≡ OK → (contents string.new).units ≡ take n (contents string.old).units }
-    ensures kept { result ≡ BAD_POSITION → contents string.new ≡ contents string.old }
-    ensures capacity { (contents string.new).capacity ≡ (contents string.old).capacity }
+    ensures position { result ≡ BAD_POSITION ↔ length string.old.buf.units < n }
+    ensures ok { result ≡ OK → string.new.buf.units ≡ take n string.old.buf.units }
+    ensures kept { result ≡ BAD_POSITION → IsKept string.old string.new }
+    ensures capacity { string.new.buf.capacity ≡ string.old.buf.capacity }
+    ensures lies { string.new.at ≡ string.old.at }
 {
-    let held = string.take();
-    if unit_len(&held) < n {
-        string.put_back(held);
+    let buf = string.buffer();
+    if buf.unit_len() < n {
         return BAD_POSITION;
     }
-    match held {
-        Some(mut buf) => {
-            buf.truncate_units(n);
-            string.put(buf);
-        }
-        None => (),
-    }
+    buf.truncate_units(n);
     OK
 }
 
@@ -43,23 +35,17 @@ pub extern "C" fn wtf8_truncate_units(string: &mut Wtf8String, n: usize) -> i32
 #[unsafe(no_mangle)]
 pub extern "C" fn wtf8_truncate_bytes(string: &mut Wtf8String, position: usize) -> i32
     ensures code { (result ≡ OK) ⊎ (result ≡ BAD_POSITION) }
-    ensures position { result ≡ BAD_POSITION ↔ ¬ (IsBoundary (contents string.old).units position) }
-    ensures ok { result ≡ OK → IsFront (contents string.old).units position (contents string.new).units }
-    ensures kept { result ≡ BAD_POSITION → contents string.new ≡ contents string.old }
-    ensures capacity { (contents string.new).capacity ≡ (contents string.old).capacity }
+    ensures position { result ≡ BAD_POSITION ↔ ¬ (IsBoundary string.old.buf.units position) }
+    ensures ok { result ≡ OK → IsFront string.old.buf.units position string.new.buf.units }
+    ensures kept { result ≡ BAD_POSITION → IsKept string.old string.new }
+    ensures capacity { string.new.buf.capacity ≡ string.old.buf.capacity }
+    ensures lies { string.new.at ≡ string.old.at }
 {
-    let held = string.take();
-    if !view(&held).is_code_point_boundary(position) {
-        string.put_back(held);
+    let buf = string.buffer();
+    if !buf.as_wtf8().is_code_point_boundary(position) {
         return BAD_POSITION;
     }
-    match held {
-        Some(mut buf) => {
-            buf.truncate(position);
-            string.put(buf);
-        }
-        None => (),
-    }
+    buf.truncate(position);
     OK
 }
 
@@ -67,21 +53,14 @@ pub extern "C" fn wtf8_truncate_bytes(string: &mut Wtf8String, position: usize) 
 #[unsafe(no_mangle)]
 pub extern "C" fn wtf8_pop(string: &mut Wtf8String, code_point: &mut u32) -> i32
     ensures code { (result ≡ OK) ⊎ (result ≡ END) }
-    ensures end { result ≡ END ↔ (contents string.old).units ≡ [] }
-    ensures ok { result ≡ OK → (contents string.old).form.points ≡ (contents string.new).form.points ++ code_point.new ∷ [] }
-    ensures kept { result ≡ END → contents string.new ≡ contents string.old }
+    ensures end { result ≡ END ↔ string.old.buf.units ≡ [] }
+    ensures ok { result ≡ OK → string.old.buf.form.points ≡ string.new.buf.form.points ++ code_point.new ∷ [] }
+    ensures kept { result ≡ END → IsKept string.old string.new }
     ensures code_point { result ≡ END → code_point.new ≡ code_point.old }
-    ensures capacity { (contents string.new).capacity ≡ (contents string.old).capacity }
+    ensures capacity { string.new.buf.capacity ≡ string.old.buf.capacity }
+    ensures lies { string.new.at ≡ string.old.at }
 {
-    let held = string.take();
-    match held {
-        Some(mut buf) => {
-            let code = pop_of(&mut buf, code_point);
-            string.put(buf);
-            code
-        }
-        None => END,
-    }
+    pop_of(string.buffer(), code_point)
 }
 
 /// Takes the last code point off the buffer, as `wtf8_pop` does off a string.
@@ -119,105 +98,84 @@ pub extern "C" fn wtf8_slice_units(
     end: usize,
 ) -> i32
     ensures code { (result ≡ OK) ⊎ ((result ≡ NO_MEMORY) ⊎ (result ≡ BAD_POSITION)) }
-    ensures position { result ≡ BAD_POSITION ↔ ¬ ((begin ≤ end) × (end ≤ length (contents string.old).units)) }
-    ensures ok { result ≡ OK → (contents into.new).units ≡ drop begin (take end (contents string.old).units) }
-    ensures kept { ¬ (result ≡ OK) → contents into.new ≡ contents into.old }
-    ensures room { CanHoldUnits into.old → (begin ≤ end) × (end ≤ length (contents string.old).units) → FitWithin (drop begin (take end (contents string.old).units)) 0 (contents into.old).capacity → result ≡ OK }
-    ensures string { contents string.new ≡ contents string.old }
-    ensures capacity { (contents into.old).capacity ≤ (contents into.new).capacity }
-    ensures stays { IsTrue into.old.full → IsTrue into.new.full }
+    ensures position { result ≡ BAD_POSITION ↔ ¬ ((begin ≤ end) × (end ≤ length string.old.buf.units)) }
+    ensures ok { result ≡ OK → into.new.buf.units ≡ drop begin (take end string.old.buf.units) }
+    ensures kept { ¬ (result ≡ OK) → IsKept into.old into.new }
+    ensures room { (begin ≤ end) × (end ≤ length string.old.buf.units) → FitWithin (drop begin (take end string.old.buf.units)) 0 into.old.buf.capacity → result ≡ OK }
+    ensures string { IsKept string.old string.new }
+    ensures capacity { into.old.buf.capacity ≤ into.new.buf.capacity }
+    ensures lies { into.new.at ≡ into.old.at }
 {
-    let held = string.take();
-    if end < begin || unit_len(&held) < end {
-        string.put_back(held);
+    let from = string.buffer();
+    if end < begin || from.unit_len() < end {
         return BAD_POSITION;
     }
-    let code = set_part(alloc, into, slice_of(&held, begin, end));
-    string.put_back(held);
-    code
+    code_of(set_part(alloc, into.buffer(), slice_of(from, begin, end)))
 }
 
-/// Replaces the string by a copy of a slice, in the buffer's capacity if it fits.
-fn set_part(alloc: Global, string: &mut Wtf8String, slice: UnitSlice<'_>) -> i32
+/// Replaces the units of a buffer by those of a slice, in its capacity if they fit.
+fn set_part(
+    alloc: Global,
+    buf: &mut IndexedBuf<Global>,
+    slice: UnitSlice<'_>,
+) -> Result<(), AllocError>
     requires { AreHalves slice }
-    ensures code { (result ≡ OK) ⊎ (result ≡ NO_MEMORY) }
-    ensures ok { result ≡ OK → (contents string.new).units ≡ units_of_slice slice.entry }
-    ensures kept { result ≡ NO_MEMORY → contents string.new ≡ contents string.old }
-    ensures room { CanHoldUnits string.old → FitWithin (units_of_slice slice.entry) 0 (contents string.old).capacity → result ≡ OK }
-    ensures capacity { (contents string.old).capacity ≤ (contents string.new).capacity }
-    ensures stays { IsTrue string.old.full → IsTrue string.new.full }
+    ensures ok { OnOk result (buf.new.units ≡ units_of_slice slice.entry) }
+    ensures kept { OnErr result (buf.new ≡ buf.old) }
+    ensures room { FitWithin (units_of_slice slice.entry) 0 buf.old.capacity → IsOk result }
+    ensures capacity { buf.old.capacity ≤ buf.new.capacity }
+{
+    if has_room(buf.capacity(), slice) {
+        buf.clear();
+        return buf.push_unit_slice(slice);
+    }
+    let mut made = IndexedBuf::new(alloc);
+    made.push_unit_slice(slice)?;
+    *buf = made;
+    Ok(())
+}
+
+/// Whether a capacity has room for a slice.
+fn has_room(capacity: usize, slice: UnitSlice<'_>) -> bool
+    requires { AreHalves slice }
+    ensures { IsTrue result ↔ FitWithin (units_of_slice slice.entry) 0 capacity }
 {
     // A half of a pair has three bytes.
     let halves = usize::from(slice.trail.is_some()) + usize::from(slice.lead.is_some());
-    match string.take_if_fits(slice.whole.len(), 3 * halves) {
-        Some(mut buf) => {
-            buf.clear();
-            let pushed = buf.push_unit_slice(slice);
-            string.put(buf);
-            code_of(pushed)
-        }
-        None => {
-            let mut made = IndexedBuf::new(alloc);
-            match made.push_unit_slice(slice) {
-                Ok(()) => replace(string, made),
-                Err(_) => NO_MEMORY,
-            }
-        }
-    }
+    let whole = slice.whole.len();
+    whole <= capacity && 3 * halves <= capacity - whole
 }
 
 /// Appends the units of `other` from index `begin` to before `end`.
 #[unsafe(no_mangle)]
 pub extern "C" fn wtf8_push_slice(
-    alloc: Global,
     string: &mut Wtf8String,
     other: &mut Wtf8String,
     begin: usize,
     end: usize,
 ) -> i32
     ensures code { (result ≡ OK) ⊎ ((result ≡ NO_MEMORY) ⊎ (result ≡ BAD_POSITION)) }
-    ensures position { result ≡ BAD_POSITION ↔ ¬ ((begin ≤ end) × (end ≤ length (contents other.old).units)) }
-    ensures ok { result ≡ OK → AppendsUnits (contents string.old) (drop begin (take end (contents other.old).units)) (contents string.new) }
-    ensures kept { ¬ (result ≡ OK) → KeepsContents (contents string.old) (contents string.new) }
-    ensures room { CanHoldUnits string.old → (begin ≤ end) × (end ≤ length (contents other.old).units) → HasRoomFor (contents string.old) (drop begin (take end (contents other.old).units)) → result ≡ OK }
-    ensures other { contents other.new ≡ contents other.old }
-    ensures capacity { (contents string.old).capacity ≤ (contents string.new).capacity }
-    ensures stays { IsTrue string.old.full → IsTrue string.new.full }
+    ensures position { result ≡ BAD_POSITION ↔ ¬ ((begin ≤ end) × (end ≤ length other.old.buf.units)) }
+    ensures ok { result ≡ OK → AppendsUnits string.old.buf (drop begin (take end other.old.buf.units)) string.new.buf }
+    ensures kept { ¬ (result ≡ OK) → KeepsContents string.old.buf string.new.buf }
+    ensures room { (begin ≤ end) × (end ≤ length other.old.buf.units) → HasRoomFor string.old.buf (drop begin (take end other.old.buf.units)) → result ≡ OK }
+    ensures other { IsKept other.old other.new }
+    ensures capacity { string.old.buf.capacity ≤ string.new.buf.capacity }
+    ensures lies { string.new.at ≡ string.old.at }
 {
-    let held = other.take();
-    if end < begin || unit_len(&held) < end {
-        other.put_back(held);
+    let from = other.buffer();
+    if end < begin || from.unit_len() < end {
         return BAD_POSITION;
     }
-    let code = push_part(alloc, string, slice_of(&held, begin, end));
-    other.put_back(held);
-    code
-}
-
-/// Appends a slice to the string.
-fn push_part(alloc: Global, string: &mut Wtf8String, slice: UnitSlice<'_>) -> i32
-    ensures code { (result ≡ OK) ⊎ (result ≡ NO_MEMORY) }
-    ensures ok { result ≡ OK → AppendsUnits (contents string.old) (units_of_slice slice.entry) (contents string.new) }
-    ensures kept { result ≡ NO_MEMORY → KeepsContents (contents string.old) (contents string.new) }
-    ensures room { CanHoldUnits string.old → HasRoomFor (contents string.old) (units_of_slice slice.entry) → result ≡ OK }
-    ensures capacity { (contents string.old).capacity ≤ (contents string.new).capacity }
-    ensures stays { IsTrue string.old.full → IsTrue string.new.full }
-{
-    let Ok(()) = string.ready(alloc) else {
-        return NO_MEMORY;
-    };
-    code_of(string.buffer().push_unit_slice(slice))
+    code_of(string.buffer().push_unit_slice(slice_of(from, begin, end)))
 }
 
 /// The part of the buffer's string from unit `begin` to before unit `end`.
-fn slice_of(held: &HeldBuf, begin: usize, end: usize) -> UnitSlice<'_>
+fn slice_of(buf: &IndexedBuf<Global>, begin: usize, end: usize) -> UnitSlice<'_>
     requires order { begin ≤ end }
-    requires within { end ≤ length (buffer_contents held.now).units }
-    ensures units { units_of_slice result ≡ drop begin (take end (buffer_contents held.now).units) }
+    requires within { end ≤ length buf.now.units }
+    ensures units { units_of_slice result ≡ drop begin (take end buf.now.units) }
     ensures halves { AreHalves result }
 {
-    match held {
-        Some(buf) => buf.slice_units(begin, end),
-        None => Wtf8::from_str("").slice_units(begin, end),
-    }
+    buf.slice_units(begin, end)
 }

@@ -4,11 +4,10 @@ ghost use Rattle.std.specs.Prelude.{◌≡◌, ◌^◌, ◌<◌, ◌≤◌, ℕ,
 ghost use Rattle.std.specs.Str.{chars, IsUtf8};
 ghost use Rattle.wtf8.specs.Form.{IsForm};
 ghost use Rattle.wtf8.specs.Unicode.{units};
-ghost use Rattle.wtf8_c.specs.Contents.{contents};
 ghost use Rattle.wtf8_c.specs.Hashing.{hash_of, seeded_with};
+ghost use Rattle.wtf8_c.specs.Kept.{IsKept};
 
 use crate::handle::Wtf8String;
-use crate::opening::view;
 use std::hash::{DefaultHasher, Hash, Hasher};
 use wtf8::encode_front;
 
@@ -27,13 +26,11 @@ const END: u8 = 0xFE;
 /// The hash of the string under a seed of 128 bits, for tables.
 #[unsafe(no_mangle)]
 pub extern "C" fn wtf8_hash(string: &mut Wtf8String, seed_0: u64, seed_1: u64) -> u64
-    ensures hash { result ≡ hash_of seed_0 seed_1 (contents string.old).bytes }
-    ensures kept { contents string.new ≡ contents string.old }
+    ensures hash { result ≡ hash_of seed_0 seed_1 string.old.buf.bytes }
+    ensures kept { IsKept string.old string.new }
 {
-    let held = string.take();
     let mut hasher = seeded(seed_0, seed_1);
-    view(&held).hash(&mut hasher);
-    string.put_back(held);
+    string.buffer().as_wtf8().hash(&mut hasher);
     hasher.finish()
 }
 

@@ -1,15 +1,14 @@
 // Calls that make a string and let it go.
-ghost use Rattle.std.specs.Prelude.{◌≡◌, [], ◌+◌, ◌*◌, ◌≤◌, ◌⊎◌, ◌↔◌, ◌<◌, IsTrue, IsFalse, IfOk, IfSome, IsSome, IsNone, length};
+ghost use Rattle.std.specs.Prelude.{◌≡◌, [], ◌+◌, ◌*◌, ◌≤◌, ◌⊎◌, ◌↔◌, ◌<◌, IsTrue, IsFalse, IfOk, IsOk, OnOk, OnErr, length};
 ghost use Rattle.std.specs.Str.{chars, IsUtf8};
 ghost use Rattle.std.specs.Str.Lossy.{utf8_valid_len};
 ghost use Rattle.wtf8.specs.Appending.{FitWithin, KeepsContents};
 ghost use Rattle.wtf8.specs.Unicode.{units};
 ghost use Rattle.wtf8.specs.View.{view_units};
-ghost use Rattle.wtf8_c.specs.Contents.{contents, no_string, CanHoldUnits};
+ghost use Rattle.wtf8_c.specs.Kept.{IsKept};
 
 use crate::codes::{NO_MEMORY, NOT_UTF8, OK, code_of};
-use crate::handle::Wtf8String;
-use crate::opening::{HeldBuf, unit_len, view};
+use crate::handle::{Wtf8String, empty};
 use std::alloc::{AllocError, Global};
 use unit_text::IndexedBuf;
 use wtf8::{Wtf8, encoded_len, from_utf8};
@@ -22,56 +21,43 @@ const ROOMY_UNITS: usize = 1024;
 #[unsafe(no_mangle)]
 pub extern "C" fn wtf8_set_units(alloc: Global, string: &mut Wtf8String, units: &[u16]) -> i32
     ensures code { (result ≡ OK) ⊎ (result ≡ NO_MEMORY) }
-    ensures ok { result ≡ OK → (contents string.new).units ≡ units.now }
-    ensures kept { result ≡ NO_MEMORY → contents string.new ≡ contents string.old }
-    ensures room { CanHoldUnits string.old → 3 * length units.now ≤ (contents string.old).capacity → result ≡ OK }
-    ensures counted { IsTrue string.old.full → ROOMY_UNITS < length units.now → FitWithin units.now 0 (contents string.old).capacity → result ≡ OK }
-    ensures again { IsTrue string.old.full → length units.now ≤ ROOMY_UNITS → result ≡ OK → 3 * length units.now ≤ (contents string.new).capacity }
-    ensures stays { IsTrue string.old.full → IsTrue string.new.full }
+    ensures ok { result ≡ OK → string.new.buf.units ≡ units.now }
+    ensures kept { result ≡ NO_MEMORY → IsKept string.old string.new }
+    ensures room { 3 * length units.now ≤ string.old.buf.capacity → result ≡ OK }
+    ensures counted { ROOMY_UNITS < length units.now → FitWithin units.now 0 string.old.buf.capacity → result ≡ OK }
+    ensures again { length units.now ≤ ROOMY_UNITS → result ≡ OK → 3 * length units.now ≤ string.new.buf.capacity }
+    ensures capacity { string.old.buf.capacity ≤ string.new.buf.capacity }
+    ensures lies { string.new.at ≡ string.old.at }
 {
-    if !string.is_full() {
-        return match IndexedBuf::from_units(alloc, units) {
-            Ok(made) => fill(string, made),
-            Err(_) => NO_MEMORY,
-        };
-    }
-    match take_for_units(string, units) {
-        Some(mut buf) => {
-            buf.clear();
-            let pushed = buf.push_units(units);
-            string.put(buf);
-            code_of(pushed)
-        }
-        None => match with_room_for_others(alloc, units) {
-            Ok(made) => replace(string, made),
-            Err(_) => NO_MEMORY,
-        },
-    }
+    code_of(set_units(alloc, string.buffer(), units))
 }
 
-/// Takes the string's buffer out if it has room for the units: three bytes for each, or, for more than `ROOMY_UNITS`, the
-/// bytes that they take, which are counted then.
-fn take_for_units(string: &mut Wtf8String, units: &[u16]) -> HeldBuf
-    ensures contents { IfSome result (λ b. b.value ≡ contents string.old) }
-    ensures fits { IfSome result (λ b. FitWithin units.now 0 b.value.capacity) }
-    ensures roomy { length units.now ≤ ROOMY_UNITS → IfSome result (λ b. 3 * length units.now ≤ b.value.capacity) }
-    ensures empty { IsSome result → IsFalse string.new.full }
-    ensures kept { IsNone result → contents string.new ≡ contents string.old }
-    ensures room { IsTrue string.old.full → 3 * length units.now ≤ (contents string.old).capacity → IsSome result }
-    ensures counted { IsTrue string.old.full → ROOMY_UNITS < length units.now → FitWithin units.now 0 (contents string.old).capacity → IsSome result }
-    ensures holds { IsNone result → CanHoldUnits string.old → CanHoldUnits string.new }
-    ensures stays { IsNone result → IsTrue string.old.full → IsTrue string.new.full }
+/// Replaces the units of a buffer, in its capacity if they fit.
+fn set_units(alloc: Global, buf: &mut IndexedBuf<Global>, units: &[u16]) -> Result<(), AllocError>
+    ensures ok { OnOk result (buf.new.units ≡ units.now) }
+    ensures kept { OnErr result (buf.new ≡ buf.old) }
+    ensures room { 3 * length units.now ≤ buf.old.capacity → IsOk result }
+    ensures counted { ROOMY_UNITS < length units.now → FitWithin units.now 0 buf.old.capacity → IsOk result }
+    ensures again { length units.now ≤ ROOMY_UNITS → OnOk result (3 * length units.now ≤ buf.new.capacity) }
+    ensures capacity { buf.old.capacity ≤ buf.new.capacity }
 {
-    if !string.is_full() {
-        return None;
+    if have_room(buf.capacity(), units) {
+        buf.clear();
+        return buf.push_units(units);
     }
-    if let Some(roomy) = string.take_if_fits(3 * units.len(), 0) {
-        return Some(roomy);
-    }
-    if units.len() <= ROOMY_UNITS {
-        return None;
-    }
-    string.take_if_fits(encoded_len(units), 0)
+    *buf = with_room_for_others(alloc, units)?;
+    Ok(())
+}
+
+/// Whether a capacity has room for the units: three bytes for each, or, for more than `ROOMY_UNITS`, the bytes that they
+/// take, which are counted then.
+fn have_room(capacity: usize, units: &[u16]) -> bool
+    ensures fits { IsTrue result → FitWithin units.now 0 capacity }
+    ensures roomy { IsTrue result → length units.now ≤ ROOMY_UNITS → 3 * length units.now ≤ capacity }
+    ensures room { 3 * length units.now ≤ capacity → IsTrue result }
+    ensures counted { ROOMY_UNITS < length units.now → FitWithin units.now 0 capacity → IsTrue result }
+{
+    3 * units.len() <= capacity || (ROOMY_UNITS < units.len() && encoded_len(units) <= capacity)
 }
 
 /// Makes a buffer of units that replaces another. If there are at most `ROOMY_UNITS`, any units of that number will fit
@@ -99,16 +85,19 @@ pub extern "C" fn wtf8_set_utf8(
 ) -> i32
     ensures code { (result ≡ OK) ⊎ ((result ≡ NO_MEMORY) ⊎ (result ≡ NOT_UTF8)) }
     ensures not_utf8 { result ≡ NOT_UTF8 ↔ ¬ (IsUtf8 text.now) }
-    ensures ok { result ≡ OK → (contents string.new).units ≡ units (chars text.now) }
-    ensures kept { ¬ (result ≡ OK) → contents string.new ≡ contents string.old }
-    ensures room { CanHoldUnits string.old → IsUtf8 text.now → length text.now ≤ (contents string.old).capacity → result ≡ OK }
-    ensures capacity { (contents string.old).capacity ≤ (contents string.new).capacity }
+    ensures ok { result ≡ OK → string.new.buf.units ≡ units (chars text.now) }
+    ensures kept { ¬ (result ≡ OK) → IsKept string.old string.new }
+    ensures room { IsUtf8 text.now → length text.now ≤ string.old.buf.capacity → result ≡ OK }
+    ensures capacity { string.old.buf.capacity ≤ string.new.buf.capacity }
     ensures valid { result ≡ NOT_UTF8 → valid.new ≡ utf8_valid_len text.now }
     ensures valid_kept { ¬ (result ≡ NOT_UTF8) → valid.new ≡ valid.old }
-    ensures stays { IsTrue string.old.full → IsTrue string.new.full }
+    ensures lies { string.new.at ≡ string.old.at }
 {
     match from_utf8(text) {
-        Ok(text) => set_view(alloc, string, Wtf8::from_str(text)),
+        Ok(text) => {
+            let view = Wtf8::from_str(text);
+            code_of(set_counted(alloc, string.buffer(), view, view.unit_len()))
+        }
         Err(error) => {
             *valid = error.valid_up_to();
             NOT_UTF8
@@ -124,159 +113,94 @@ pub extern "C" fn wtf8_set_string(
     other: &mut Wtf8String,
 ) -> i32
     ensures code { (result ≡ OK) ⊎ (result ≡ NO_MEMORY) }
-    ensures ok { result ≡ OK → (contents string.new).units ≡ (contents other.old).units }
-    ensures kept { result ≡ NO_MEMORY → contents string.new ≡ contents string.old }
-    ensures room { CanHoldUnits string.old → length (contents other.old).bytes ≤ (contents string.old).capacity → result ≡ OK }
-    ensures capacity { (contents string.old).capacity ≤ (contents string.new).capacity }
-    ensures other { contents other.new ≡ contents other.old }
-    ensures stays { IsTrue string.old.full → IsTrue string.new.full }
+    ensures ok { result ≡ OK → string.new.buf.units ≡ other.old.buf.units }
+    ensures kept { result ≡ NO_MEMORY → IsKept string.old string.new }
+    ensures room { length other.old.buf.bytes ≤ string.old.buf.capacity → result ≡ OK }
+    ensures capacity { string.old.buf.capacity ≤ string.new.buf.capacity }
+    ensures other { IsKept other.old other.new }
+    ensures lies { string.new.at ≡ string.old.at }
 {
-    let held = other.take();
-    let code = set_counted(alloc, string, view(&held), unit_len(&held));
-    other.put_back(held);
-    code
+    let from = other.buffer();
+    code_of(set_counted(alloc, string.buffer(), from.as_wtf8(), from.unit_len()))
 }
 
-/// Replaces the string by a copy of a view, whose units are counted.
-pub(crate) fn set_view(alloc: Global, string: &mut Wtf8String, view: Wtf8<'_>) -> i32
-    ensures code { (result ≡ OK) ⊎ (result ≡ NO_MEMORY) }
-    ensures ok { result ≡ OK → (contents string.new).units ≡ view_units view.entry }
-    ensures kept { result ≡ NO_MEMORY → contents string.new ≡ contents string.old }
-    ensures room { CanHoldUnits string.old → length view.entry.bytes.now ≤ (contents string.old).capacity → result ≡ OK }
-    ensures capacity { (contents string.old).capacity ≤ (contents string.new).capacity }
-    ensures stays { IsTrue string.old.full → IsTrue string.new.full }
-{
-    set_counted(alloc, string, view, view.unit_len())
-}
-
-/// Replaces the string by a copy of a view of `count` units, in the buffer's capacity if it fits.
-pub(crate) fn set_counted(
+/// Replaces the units of a buffer by the `count` units of a view, in its capacity if they fit.
+fn set_counted(
     alloc: Global,
-    string: &mut Wtf8String,
+    buf: &mut IndexedBuf<Global>,
     view: Wtf8<'_>,
     count: usize,
-) -> i32
+) -> Result<(), AllocError>
     requires { count ≡ length (view_units view) }
-    ensures code { (result ≡ OK) ⊎ (result ≡ NO_MEMORY) }
-    ensures ok { result ≡ OK → (contents string.new).units ≡ view_units view.entry }
-    ensures kept { result ≡ NO_MEMORY → contents string.new ≡ contents string.old }
-    ensures room { CanHoldUnits string.old → length view.entry.bytes.now ≤ (contents string.old).capacity → result ≡ OK }
-    ensures capacity { (contents string.old).capacity ≤ (contents string.new).capacity }
-    ensures stays { IsTrue string.old.full → IsTrue string.new.full }
+    ensures ok { OnOk result (buf.new.units ≡ view_units view.entry) }
+    ensures kept { OnErr result (buf.new ≡ buf.old) }
+    ensures room { length view.entry.bytes.now ≤ buf.old.capacity → IsOk result }
+    ensures capacity { buf.old.capacity ≤ buf.new.capacity }
 {
-    match string.take_if_fits(view.len(), 0) {
-        Some(mut buf) => {
-            buf.clear();
-            let pushed = buf.push_counted(view, count);
-            string.put(buf);
-            code_of(pushed)
-        }
-        None => {
-            let mut made = IndexedBuf::new(alloc);
-            match made.push_counted(view, count) {
-                Ok(()) => replace(string, made),
-                Err(_) => NO_MEMORY,
-            }
-        }
+    if view.len() <= buf.capacity() {
+        buf.clear();
+        return buf.push_counted(view, count);
     }
+    let mut made = IndexedBuf::new(alloc);
+    made.push_counted(view, count)?;
+    *buf = made;
+    Ok(())
 }
 
 /// Empties the string and keeps its capacity.
 #[unsafe(no_mangle)]
 pub extern "C" fn wtf8_clear(string: &mut Wtf8String)
-    ensures units { (contents string.new).units ≡ [] }
-    ensures capacity { (contents string.new).capacity ≡ (contents string.old).capacity }
-    ensures stays { IsTrue string.old.full → IsTrue string.new.full }
+    ensures units { string.new.buf.units ≡ [] }
+    ensures capacity { string.new.buf.capacity ≡ string.old.buf.capacity }
+    ensures lies { string.new.at ≡ string.old.at }
 {
-    if string.is_full() {
-        string.buffer().clear();
-    }
+    string.buffer().clear();
 }
 
-/// Frees what the string owns. It is the empty string then, and owns nothing.
+/// Frees what the string owns. Its buffer is an empty one then, which owns no memory.
 #[unsafe(no_mangle)]
-pub extern "C" fn wtf8_free(string: &mut Wtf8String)
-    ensures contents { contents string.new ≡ no_string }
-    ensures owns { IsFalse string.new.full }
+pub extern "C" fn wtf8_free(alloc: Global, string: &mut Wtf8String)
+    ensures units { string.new.buf.units ≡ [] }
+    ensures bytes { string.new.buf.bytes ≡ [] }
+    ensures capacity { string.new.buf.capacity ≡ 0 }
+    ensures lies { string.new.at ≡ string.old.at }
 {
-    drop(string.take());
+    *string.buffer() = empty(alloc);
 }
 
 /// Reserves capacity for at least `additional` more bytes.
 #[unsafe(no_mangle)]
-pub extern "C" fn wtf8_reserve_bytes(
-    alloc: Global,
-    string: &mut Wtf8String,
-    additional: usize,
-) -> i32
+pub extern "C" fn wtf8_reserve_bytes(string: &mut Wtf8String, additional: usize) -> i32
     ensures code { (result ≡ OK) ⊎ (result ≡ NO_MEMORY) }
-    ensures ok { result ≡ OK → length (contents string.new).bytes + additional ≤ (contents string.new).capacity }
-    ensures kept { KeepsContents (contents string.old) (contents string.new) }
-    ensures room { CanHoldUnits string.old → length (contents string.old).bytes + additional ≤ (contents string.old).capacity → result ≡ OK }
-    ensures capacity { (contents string.old).capacity ≤ (contents string.new).capacity }
-    ensures stays { IsTrue string.old.full → IsTrue string.new.full }
+    ensures ok { result ≡ OK → length string.new.buf.bytes + additional ≤ string.new.buf.capacity }
+    ensures kept { KeepsContents string.old.buf string.new.buf }
+    ensures room { length string.old.buf.bytes + additional ≤ string.old.buf.capacity → result ≡ OK }
+    ensures capacity { string.old.buf.capacity ≤ string.new.buf.capacity }
+    ensures lies { string.new.at ≡ string.old.at }
 {
-    let Ok(()) = string.ready(alloc) else {
-        return NO_MEMORY;
-    };
     code_of(string.buffer().reserve(additional))
 }
 
 /// Gives back the capacity that the string does not use.
 #[unsafe(no_mangle)]
 pub extern "C" fn wtf8_shrink(string: &mut Wtf8String)
-    ensures kept { KeepsContents (contents string.old) (contents string.new) }
-    ensures capacity { (contents string.new).capacity ≤ (contents string.old).capacity }
-    ensures empty { (contents string.old).bytes ≡ [] → (contents string.new).capacity ≡ 0 }
-    ensures stays { IsTrue string.old.full → IsTrue string.new.full }
+    ensures kept { KeepsContents string.old.buf string.new.buf }
+    ensures capacity { string.new.buf.capacity ≤ string.old.buf.capacity }
+    ensures empty { string.old.buf.bytes ≡ [] → string.new.buf.capacity ≡ 0 }
+    ensures lies { string.new.at ≡ string.old.at }
 {
-    if string.is_full() {
-        string.buffer().shrink_to_fit();
-    }
+    string.buffer().shrink_to_fit();
 }
 
 /// Keeps marks of the string, from which its units are found. A mark without memory is left out.
 #[unsafe(no_mangle)]
 pub extern "C" fn wtf8_mark(alloc: Global, string: &mut Wtf8String) -> i32
     ensures code { (result ≡ OK) ⊎ (result ≡ NO_MEMORY) }
-    ensures kept { KeepsContents (contents string.old) (contents string.new) }
-    ensures ok { CanHoldUnits string.old → result ≡ OK }
-    ensures capacity { (contents string.old).capacity ≤ (contents string.new).capacity }
-    ensures stays { IsTrue string.old.full → IsTrue string.new.full }
+    ensures kept { KeepsContents string.old.buf string.new.buf }
+    ensures ok { result ≡ OK }
+    ensures capacity { string.old.buf.capacity ≤ string.new.buf.capacity }
+    ensures lies { string.new.at ≡ string.old.at }
 {
-    let Ok(()) = string.ready(alloc) else {
-        return NO_MEMORY;
-    };
     string.buffer().mark_units(alloc);
-    OK
-}
-
-/// Replaces the string's buffer, or gives it one if it has none and a place for one.
-pub(crate) fn replace(string: &mut Wtf8String, made: IndexedBuf<Global>) -> i32
-    ensures code { (result ≡ OK) ⊎ (result ≡ NO_MEMORY) }
-    ensures room { CanHoldUnits string.old → result ≡ OK }
-    ensures ok { result ≡ OK → contents string.new ≡ made }
-    ensures kept { result ≡ NO_MEMORY → contents string.new ≡ contents string.old }
-    ensures stays { IsTrue string.old.full → IsTrue string.new.full }
-{
-    if string.is_full() {
-        *string.buffer() = made;
-        return OK;
-    }
-    fill(string, made)
-}
-
-/// Gives a string that has no buffer one if it has a place for it.
-fn fill(string: &mut Wtf8String, made: IndexedBuf<Global>) -> i32
-    requires { IsFalse string.old.full }
-    ensures code { (result ≡ OK) ⊎ (result ≡ NO_MEMORY) }
-    ensures room { CanHoldUnits string.old → result ≡ OK }
-    ensures ok { result ≡ OK → contents string.new ≡ made }
-    ensures kept { result ≡ NO_MEMORY → contents string.new ≡ contents string.old }
-{
-    if !string.has_place() {
-        return NO_MEMORY;
-    }
-    string.fill(made);
     OK
 }

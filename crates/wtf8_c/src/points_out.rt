@@ -5,12 +5,11 @@ ghost use Rattle.wtf8.specs.Position.{IsBoundary};
 ghost use Rattle.wtf8.specs.Surrogates.{AreScalar};
 ghost use Rattle.wtf8.specs.Unicode.{IsSurrogate};
 ghost use Rattle.wtf8.specs.View.{view_points, view_units};
-ghost use Rattle.wtf8_c.specs.Contents.{contents};
 ghost use Rattle.wtf8_c.specs.Walks.{ArePointsBetween};
+ghost use Rattle.wtf8_c.specs.Kept.{IsKept};
 
 use crate::codes::{BAD_POSITION, END, OK};
 use crate::handle::Wtf8String;
-use crate::opening::view;
 use wtf8::Wtf8;
 
 /// The most bytes of a part whose units are decoded together.
@@ -26,22 +25,19 @@ pub extern "C" fn wtf8_copy_code_points(
     len: &mut usize,
 ) -> i32
     ensures code { (result ≡ OK) ⊎ ((result ≡ BAD_POSITION) ⊎ (result ≡ END)) }
-    ensures position { result ≡ BAD_POSITION ↔ ¬ (IsBoundary (contents string.old).units position.old) }
-    ensures end { result ≡ END ↔ position.old ≡ length (contents string.old).bytes }
-    ensures ok { result ≡ OK → ArePointsBetween (contents string.old).units position.old position.new (take len.new out.new) }
+    ensures position { result ≡ BAD_POSITION ↔ ¬ (IsBoundary string.old.buf.units position.old) }
+    ensures end { result ≡ END ↔ position.old ≡ length string.old.buf.bytes }
+    ensures ok { result ≡ OK → ArePointsBetween string.old.buf.units position.old position.new (take len.new out.new) }
     ensures within { result ≡ OK → len.new ≤ length out.old }
-    ensures all { result ≡ OK → (len.new ≡ length out.old) ⊎ (position.new ≡ length (contents string.old).bytes) }
+    ensures all { result ≡ OK → (len.new ≡ length out.old) ⊎ (position.new ≡ length string.old.buf.bytes) }
     ensures rest { result ≡ OK → drop len.new out.new ≡ drop len.new out.old }
     ensures size { length out.new ≡ length out.old }
     ensures out { ¬ (result ≡ OK) → out.new ≡ out.old }
     ensures position_kept { ¬ (result ≡ OK) → position.new ≡ position.old }
     ensures len_kept { ¬ (result ≡ OK) → len.new ≡ len.old }
-    ensures kept { contents string.new ≡ contents string.old }
+    ensures kept { IsKept string.old string.new }
 {
-    let held = string.take();
-    let code = copy_from(view(&held), position, out, len);
-    string.put_back(held);
-    code
+    copy_from(string.buffer().as_wtf8(), position, out, len)
 }
 
 /// The code points of `text` after `position`, as `wtf8_copy_code_points` writes them.

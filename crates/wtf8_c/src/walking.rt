@@ -5,12 +5,11 @@ ghost use Rattle.wtf8.specs.Form.{encoding};
 ghost use Rattle.wtf8.specs.Position.{IsBoundary};
 ghost use Rattle.wtf8.specs.SurrogatePosition.{IsNextSurrogate, IsTextFrom};
 ghost use Rattle.wtf8.specs.View.{view_units};
-ghost use Rattle.wtf8_c.specs.Contents.{contents};
 ghost use Rattle.wtf8_c.specs.Walks.{IsPointBetween};
+ghost use Rattle.wtf8_c.specs.Kept.{IsKept};
 
 use crate::codes::{BAD_POSITION, END, OK};
 use crate::handle::Wtf8String;
-use crate::opening::view;
 use wtf8::{CodePoint, Wtf8};
 
 /// Writes the code point after `position` to `code_point`, and moves `position` past it.
@@ -21,93 +20,14 @@ pub extern "C" fn wtf8_next_code_point(
     code_point: &mut u32,
 ) -> i32
     ensures code { (result ≡ OK) ⊎ ((result ≡ BAD_POSITION) ⊎ (result ≡ END)) }
-    ensures position { result ≡ BAD_POSITION ↔ ¬ (IsBoundary (contents string.old).units position.old) }
-    ensures end { result ≡ END ↔ position.old ≡ length (contents string.old).bytes }
-    ensures ok { result ≡ OK → IsPointBetween (contents string.old).units position.old position.new code_point.new }
+    ensures position { result ≡ BAD_POSITION ↔ ¬ (IsBoundary string.old.buf.units position.old) }
+    ensures end { result ≡ END ↔ position.old ≡ length string.old.buf.bytes }
+    ensures ok { result ≡ OK → IsPointBetween string.old.buf.units position.old position.new code_point.new }
     ensures position_kept { ¬ (result ≡ OK) → position.new ≡ position.old }
     ensures code_point { ¬ (result ≡ OK) → code_point.new ≡ code_point.old }
-    ensures kept { contents string.new ≡ contents string.old }
+    ensures kept { IsKept string.old string.new }
 {
-    let held = string.take();
-    let code = next_of(view(&held), position, code_point);
-    string.put_back(held);
-    code
-}
-
-/// Writes the code point before `position` to `code_point`, and moves `position` back to its start.
-#[unsafe(no_mangle)]
-pub extern "C" fn wtf8_previous_code_point(
-    string: &mut Wtf8String,
-    position: &mut usize,
-    code_point: &mut u32,
-) -> i32
-    ensures code { (result ≡ OK) ⊎ ((result ≡ BAD_POSITION) ⊎ (result ≡ END)) }
-    ensures position { result ≡ BAD_POSITION ↔ ¬ (IsBoundary (contents string.old).units position.old) }
-    ensures end { result ≡ END ↔ position.old ≡ 0 }
-    ensures ok { result ≡ OK → IsPointBetween (contents string.old).units position.new position.old code_point.new }
-    ensures position_kept { ¬ (result ≡ OK) → position.new ≡ position.old }
-    ensures code_point { ¬ (result ≡ OK) → code_point.new ≡ code_point.old }
-    ensures kept { contents string.new ≡ contents string.old }
-{
-    let held = string.take();
-    let code = previous_of(view(&held), position, code_point);
-    string.put_back(held);
-    code
-}
-
-/// Writes the first surrogate after `position` to `unit`, and moves `position` past it.
-#[unsafe(no_mangle)]
-pub extern "C" fn wtf8_next_surrogate(
-    string: &mut Wtf8String,
-    position: &mut usize,
-    unit: &mut u16,
-) -> i32
-    ensures code { (result ≡ OK) ⊎ ((result ≡ BAD_POSITION) ⊎ (result ≡ END)) }
-    ensures position { result ≡ BAD_POSITION ↔ ¬ (IsBoundary (contents string.old).units position.old) }
-    ensures end { result ≡ END ↔ IsTextFrom (contents string.old).units position.old }
-    ensures ok { result ≡ OK → IsNextSurrogate (contents string.old).units position.old position.new unit.new }
-    ensures position_kept { ¬ (result ≡ OK) → position.new ≡ position.old }
-    ensures unit { ¬ (result ≡ OK) → unit.new ≡ unit.old }
-    ensures kept { contents string.new ≡ contents string.old }
-{
-    let held = string.take();
-    let code = next_surrogate_of(view(&held), position, unit);
-    string.put_back(held);
-    code
-}
-
-/// The first surrogate of `text` after `position`, as `wtf8_next_surrogate` writes it.
-fn next_surrogate_of(text: Wtf8<'_>, position: &mut usize, unit: &mut u16) -> i32
-    ensures code { (result ≡ OK) ⊎ ((result ≡ BAD_POSITION) ⊎ (result ≡ END)) }
-    ensures position { result ≡ BAD_POSITION ↔ ¬ (IsBoundary (view_units text.entry) position.old) }
-    ensures end { result ≡ END ↔ IsTextFrom (view_units text.entry) position.old }
-    ensures ok { result ≡ OK → IsNextSurrogate (view_units text.entry) position.old position.new unit.new }
-    ensures position_kept { ¬ (result ≡ OK) → position.new ≡ position.old }
-    ensures unit { ¬ (result ≡ OK) → unit.new ≡ unit.old }
-{
-    let begin = *position;
-    if !text.is_code_point_boundary(begin) {
-        return BAD_POSITION;
-    }
-    match text.next_surrogate(begin) {
-        Some((surrogate, end)) => {
-            *position = end;
-            *unit = surrogate.to_u32() as u16;
-            OK
-        }
-        None => END,
-    }
-}
-
-/// The code point of `text` after `position`, as `wtf8_next_code_point` writes it.
-fn next_of(text: Wtf8<'_>, position: &mut usize, code_point: &mut u32) -> i32
-    ensures code { (result ≡ OK) ⊎ ((result ≡ BAD_POSITION) ⊎ (result ≡ END)) }
-    ensures position { result ≡ BAD_POSITION ↔ ¬ (IsBoundary (view_units text.entry) position.old) }
-    ensures end { result ≡ END ↔ position.old ≡ length text.entry.bytes.now }
-    ensures ok { result ≡ OK → IsPointBetween (view_units text.entry) position.old position.new code_point.new }
-    ensures position_kept { ¬ (result ≡ OK) → position.new ≡ position.old }
-    ensures code_point { ¬ (result ≡ OK) → code_point.new ≡ code_point.old }
-{
+    let text = string.buffer().as_wtf8();
     let begin = *position;
     if !text.is_code_point_boundary(begin) {
         return BAD_POSITION;
@@ -122,15 +42,22 @@ fn next_of(text: Wtf8<'_>, position: &mut usize, code_point: &mut u32) -> i32
     }
 }
 
-/// The code point of `text` before `position`, as `wtf8_previous_code_point` writes it.
-fn previous_of(text: Wtf8<'_>, position: &mut usize, code_point: &mut u32) -> i32
+/// Writes the code point before `position` to `code_point`, and moves `position` back to its start.
+#[unsafe(no_mangle)]
+pub extern "C" fn wtf8_previous_code_point(
+    string: &mut Wtf8String,
+    position: &mut usize,
+    code_point: &mut u32,
+) -> i32
     ensures code { (result ≡ OK) ⊎ ((result ≡ BAD_POSITION) ⊎ (result ≡ END)) }
-    ensures position { result ≡ BAD_POSITION ↔ ¬ (IsBoundary (view_units text.entry) position.old) }
+    ensures position { result ≡ BAD_POSITION ↔ ¬ (IsBoundary string.old.buf.units position.old) }
     ensures end { result ≡ END ↔ position.old ≡ 0 }
-    ensures ok { result ≡ OK → IsPointBetween (view_units text.entry) position.new position.old code_point.new }
+    ensures ok { result ≡ OK → IsPointBetween string.old.buf.units position.new position.old code_point.new }
     ensures position_kept { ¬ (result ≡ OK) → position.new ≡ position.old }
     ensures code_point { ¬ (result ≡ OK) → code_point.new ≡ code_point.old }
+    ensures kept { IsKept string.old string.new }
 {
+    let text = string.buffer().as_wtf8();
     let end = *position;
     if !text.is_code_point_boundary(end) {
         return BAD_POSITION;
@@ -139,6 +66,36 @@ fn previous_of(text: Wtf8<'_>, position: &mut usize, code_point: &mut u32) -> i3
         Some((found, before)) => {
             *position = before;
             *code_point = found.to_u32();
+            OK
+        }
+        None => END,
+    }
+}
+
+/// Writes the first surrogate after `position` to `unit`, and moves `position` past it.
+#[unsafe(no_mangle)]
+pub extern "C" fn wtf8_next_surrogate(
+    string: &mut Wtf8String,
+    position: &mut usize,
+    unit: &mut u16,
+) -> i32
+    ensures code { (result ≡ OK) ⊎ ((result ≡ BAD_POSITION) ⊎ (result ≡ END)) }
+    ensures position { result ≡ BAD_POSITION ↔ ¬ (IsBoundary string.old.buf.units position.old) }
+    ensures end { result ≡ END ↔ IsTextFrom string.old.buf.units position.old }
+    ensures ok { result ≡ OK → IsNextSurrogate string.old.buf.units position.old position.new unit.new }
+    ensures position_kept { ¬ (result ≡ OK) → position.new ≡ position.old }
+    ensures unit { ¬ (result ≡ OK) → unit.new ≡ unit.old }
+    ensures kept { IsKept string.old string.new }
+{
+    let text = string.buffer().as_wtf8();
+    let begin = *position;
+    if !text.is_code_point_boundary(begin) {
+        return BAD_POSITION;
+    }
+    match text.next_surrogate(begin) {
+        Some((surrogate, end)) => {
+            *position = end;
+            *unit = surrogate.to_u32() as u16;
             OK
         }
         None => END,
