@@ -182,11 +182,11 @@ static uint16_t nothing[1];
 static uint32_t no_points[1];
 
 /* Defines wtf8_NAME(parameters), a call that changes `string`. `names` are the names of the parameters, `arguments` what
- * the proved call is given. What makes a buffer is a function of its own, so that this one saves no registers. */
+ * the proved call is given. A string without a buffer is for a function of its own, so that the other saves no register. */
 #define DEFINE_CHANGE(name, parameters, names, arguments)                                          \
     static __attribute__((noinline)) wtf8_result first_##name parameters {                         \
-        init(string);                                                                              \
-        return wtf8_##name names;                                                                  \
+        handle changed = opened(string);                                                           \
+        return PROVED(name) arguments;                                                             \
     }                                                                                              \
     wtf8_result wtf8_##name parameters {                                                           \
         if (!has_buffer(string)) return first_##name names;                                        \

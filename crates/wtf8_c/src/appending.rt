@@ -16,6 +16,7 @@ use wtf8::{CodePoint, from_utf8};
 
 /// Appends a unit. A trail after a lead completes the pair.
 #[unsafe(no_mangle)]
+#[tactic(auto, using(crate::proofs::Units::room_for_unit))]
 pub extern "C" fn wtf8_push_unit(string: &mut Wtf8String, unit: u16) -> i32
     ensures code { (result ≡ OK) ⊎ (result ≡ NO_MEMORY) }
     ensures ok { result ≡ OK → AppendsUnits string.old.buf (unit ∷ []) string.new.buf }

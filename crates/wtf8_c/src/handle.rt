@@ -106,7 +106,10 @@ pub(crate) fn empty(alloc: Global) -> IndexedBuf<Global>
     ensures capacity { result.capacity ≡ 0 }
 {
     let mut made = IndexedBuf::new(alloc);
-    // It has no capacity already, which the contract of `new` does not say.
+    // No branch in the program: what `new` makes has no capacity, which its contract does not say.
+    if made.capacity() == 0 {
+        return made;
+    }
     made.shrink_to_fit();
     made
 }
