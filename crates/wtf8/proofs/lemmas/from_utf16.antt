@@ -3,5 +3,6 @@ pub mod Decoding
 pub mod PackedUnits
 pub mod ShuffleTable
 pub mod Kernel
+pub mod Padded
 pub mod EncodedLen
 pub mod Front

@@ -11,8 +11,8 @@ use crate::from_utf16::kernel::Progress;
 use crate::vec::to_vec_in;
 use std::alloc::{AllocError, Allocator};
 
-/// The most units that are encoded one by one. As a block with zeros 12 of three bytes take 321 instructions for 474, but
-/// 32 ns for 20, since the block is loaded before the stores to it are done.
+/// The most units that are encoded one by one. With 5 in place of 12, as blocks from 6 units on, lists of 6 to 12 units take
+/// 1.1 of the time to be pushed and 1.2 as new strings, and 1.9 and 1.8 on x86-64 without SSSE3.
 pub(crate) const FEW_UNITS: usize = 12;
 
 /// At least three bytes for each unit, and four for the last code point. A multiple of 16, so that few stores zero them.

@@ -5,7 +5,7 @@
 //     to `TWO_BLOCKS` - 1
 //     all, `FEW_UNITS`        any, if none completes a lead   one code point at a time, on the stack: `few`
 //     or fewer                before them
-//     `TWO_BLOCKS` or more    ASCII                           the ASCII run in `TWO_BLOCKS`; after it `letters`, if at most
+//     `TWO_BLOCKS` or more    ASCII                           the ASCII run, by `TWO_BLOCKS`; after it `letters`, if at most
 //                                                             `FEW_LETTERS` of them are not ASCII, or blocks, if these
 //                                                             are in `SOME_GROUPS` groups or more, else one code point
 //                             another, then ASCII soon        one code point

@@ -140,6 +140,34 @@ fn append_ascii_run<const N: usize, A: Allocator>(
     append_point(bytes, v, to, growth)
 }
 
+/// Appends ASCII by blocks of `TWO_BLOCKS` units, as long as a block is all ASCII and the next one begins with ASCII.
+/// Returns the index of the last block's first unit, and what `append_front` returns of that block. Without this loop each
+/// block is a step of `append_steps`, and long ASCII takes 1.2 of the instructions.
+#[inline(always)]
+fn append_ascii_blocks<A: Allocator>(
+    bytes: &mut Vec<u8, A>,
+    v: &[u16],
+    from: Progress,
+) -> Result<(usize, Progress, u64), AllocError>
+    requires within { from.at + TWO_BLOCKS ≤ length v.now }
+    ensures order { IfOk result (λ r. (from.at ≤ r.0) × (r.0 ≤ r.1.at) × (r.1.at ≤ r.0 + TWO_BLOCKS) × (r.0 + TWO_BLOCKS ≤ length v.now)) }
+    ensures read { IfOk result (λ r. ReadsOn bytes.old.items bytes.new.items v.now from.at from.is_utf8 r.1.at r.1.is_utf8) }
+    ensures begins { take (length bytes.old.items) bytes.new.items ≡ bytes.old.items }
+    ensures letters { IfOk result (λ r. (r.2 ≡ 0) ⊎ IsLetterMask r.2 (take TWO_BLOCKS (drop r.0 v.now))) }
+    ensures room { HasRoomFrom bytes.old v.now from.at from.is_utf8 → IsOk result }
+    ensures capacity { vec_capacity bytes.old ≤ vec_capacity bytes.new }
+{
+    let mut read = from;
+    loop {
+        let (to, letters) = append_front::<TWO_BLOCKS, A>(bytes, v, read)?;
+        let is_full = letters == 0 && to.at != read.at;
+        if !is_full || v.len() - to.at < TWO_BLOCKS || 0x80 <= v[to.at] {
+            return Ok((read.at, to, letters));
+        }
+        read = to;
+    }
+}
+
 /// Takes a step while `TWO_BLOCKS` or more units are left.
 #[inline(always)]
 fn append_next<A: Allocator>(
@@ -155,14 +183,13 @@ fn append_next<A: Allocator>(
     ensures room { HasRoomFrom bytes.old v.now from.at from.is_utf8 → IsOk result }
     ensures capacity { vec_capacity bytes.old ≤ vec_capacity bytes.new }
 {
-    let at = from.at;
     let mut to = from;
-    if v[at] < 0x80 {
+    if v[from.at] < 0x80 {
         // With this test in `append_front` alone, emoji in ASCII take 5% more instructions.
         if spare_capacity(bytes) < TWO_BLOCKS {
             return append_point(bytes, v, from, growth);
         }
-        let (front, letters) = append_front::<TWO_BLOCKS, A>(bytes, v, from)?;
+        let (at, front, letters) = append_ascii_blocks(bytes, v, from)?;
         to = front;
         if to.at == at + TWO_BLOCKS {
             return Ok(to);
@@ -177,7 +204,7 @@ fn append_next<A: Allocator>(
         if groups < SOME_GROUPS || v.len() - to.at < QUARTER_BLOCK {
             return append_point(bytes, v, to, growth);
         }
-    } else if v[at + 1] < 0x80 || v[at + 2] < 0x80 {
+    } else if v[from.at + 1] < 0x80 || v[from.at + 2] < 0x80 {
         // ASCII that follows soon is most often a run: encode one code point, and leave the run to a later step.
         return append_point(bytes, v, from, growth);
     }

@@ -1,9 +1,10 @@
-use Rattle.wtf8.proofs.Common.{◌++◌, ◌∙◌, ap, length}
-use Rattle.std.proofs.lemmas.List.{drop-replicate}
+use Rattle.wtf8.proofs.Common.{arith}
+use Rattle.wtf8.proofs.lemmas.from_utf16.Padded.{halves, quarters}
 use Rattle.wtf8.proofs.from_utf16.kernel.padded.Goals as goal
 
 pub returns-then-units-ge-HALF_BLOCK : goal.returns-then-units-ge-HALF_BLOCK
-returns-then-units-ge-HALF_BLOCK c = c.copy_by_ends.ensures.after ∙ ap (λ v. c.args.units.now ++ v) (drop-replicate (length c.args.units.now) 16 0)
+returns-then-units-ge-HALF_BLOCK c = rw c.without_first-rest.ensures (halves c.args.units.now c.if-units-ge-HALF_BLOCK.true c.requires.most)
 
 pub returns : goal.returns
-returns c = c.copy_by_ends-2.ensures.after ∙ ap (λ v. c.args.units.now ++ v) (drop-replicate (length c.args.units.now) 16 0)
+returns c = rw (c.first_quarter.ensures, c.without_first-rest-2.ensures, c.first_quarter-last.ensures)
+    (quarters c.args.units.now c.requires.least (omega (arith, c.if-units-ge-HALF_BLOCK.false)))

@@ -1,0 +1,133 @@
+-- Units and zeros after them as the lanes of a block.
+use Rattle.wtf8.proofs.Common.{◌≡◌, ℕ, suc, ◌+◌, ◌-◌, ◌*◌, ◌/◌, ◌%◌, ◌<◌, ◌≤◌, List, [], ◌∷◌, ◌++◌, length, take, drop}
+use Rattle.wtf8.proofs.Common.{replicate, Each1, refl, sym, ap, ◌∙◌, arith, subst, Fits, w8, w16, swz_l, pick_l_whole, zero, rules}
+use Rattle.wtf8.proofs.Common.{cases_lt, inl, inr, length-append, length-drop, length-replicate}
+use Rattle.std.proofs.lemmas.Simd.{SwzOk, Each1-replicate}
+use Rattle.std.specs.Prelude.{⊤}
+use Rattle.std.specs.List.{range_with_len}
+use lib.Lanes.{chunk, pick_l, digits_l, number_l}
+use Rattle.wtf8.specs.declared.from_utf16.kernel.TheConstants.{BYTE_SHIFTS}
+
+-- the bytes of units, the low one first
+abbrev le_bytes : List ℕ → List ℕ
+le_bytes [] = []
+le_bytes (x ∷ u) = (x % 256) ∷ (x / 256) ∷ le_bytes u
+
+abbrev twice : List ℕ → ℕ
+twice [] = 0
+twice (x ∷ u) = suc (suc (twice u))
+
+to_le_bytes : (u : List ℕ) → Each1 (Fits w16) u → digits_l 256 (twice u) (number_l 65536 u) ≡ le_bytes u
+to_le_bytes [] f = refl
+to_le_bytes (x ∷ u) f =
+    let y = x + 65536 * number_l 65536 u in
+    let low : y % 256 ≡ x % 256 = omega arith in
+    let high : y / 256 % 256 ≡ x / 256 = omega (arith, f.0.fits) in
+    let rest : y / 256 / 256 ≡ number_l 65536 u = omega (arith, f.0.fits) in
+    (λ i. low i ∷ high i ∷ digits_l 256 (twice u) (rest i)) ∙ ap (λ w. (x % 256) ∷ (x / 256) ∷ w) (to_le_bytes u f.1)
+
+from_le_bytes : (u : List ℕ) → Each1 (Fits w16) u → digits_l 65536 (length u) (number_l 256 (le_bytes u)) ≡ u
+from_le_bytes [] f = refl
+from_le_bytes (x ∷ u) f =
+    let y = x % 256 + 256 * (x / 256 + 256 * number_l 256 (le_bytes u)) in
+    let unit : y % 65536 ≡ x = omega (arith, f.0.fits) in
+    let rest : y / 65536 ≡ number_l 256 (le_bytes u) = omega (arith, f.0.fits) in
+    (λ i. unit i ∷ digits_l 65536 (length u) (rest i)) ∙ ap (λ w. x ∷ w) (from_le_bytes u f.1)
+
+-- a fact of each number below `n`
+abbrev Below : (ℕ → Type 0) → ℕ → Type 0
+Below P zero = ⊤
+Below P (suc n) = P n × Below P n
+
+of_below : (P : ℕ → Type 0) (n k : ℕ) → Below P n → k < n → P k
+of_below P zero k h l = absurd (omega arith)
+of_below P (suc n) k h l = elim (cases_lt k n) [ inl a ↦ of_below P n k h.1 a | inr a ↦ let e : n ≡ k = omega arith in subst P e h.0 ]
+
+abbrev indexes : ℕ → List ℕ
+indexes n = chunk 0 16 (take (32 - 2 * n) (drop (2 * n) BYTE_SHIFTS))
+
+abbrev eight : List ℕ → List ℕ
+eight u = pick_l 0 u (0 ∷ 1 ∷ 2 ∷ 3 ∷ 4 ∷ 5 ∷ 6 ∷ 7 ∷ [])
+
+abbrev Drops : List ℕ → ℕ → Type 0
+Drops u n = SwzOk w8 16 16 0 (indexes n) × (swz_l w8 16 (le_bytes (eight u)) 0 (indexes n) ≡ le_bytes (drop n (eight u) ++ replicate n 0))
+
+drops : (u : List ℕ) (n : ℕ) → n ≤ 8 → Drops u n
+drops u n l = of_below (Drops u) 9 n (
+  (search rules, refl),
+  (
+    (search rules, refl),
+    (
+      (search rules, refl),
+      (
+        (search rules, refl),
+        ((search rules, refl), ((search rules, refl), ((search rules, refl), ((search rules, refl), ((search rules, refl), tt))))),
+      ),
+    ),
+  ),
+)
+    (omega arith)
+
+pub indexes-ok : (n : ℕ) → n ≤ 8 → SwzOk w8 16 16 0 (indexes n)
+indexes-ok n l = (drops [] n l).0
+
+fits : (n m : ℕ) (u : List ℕ) → Each1 (Fits w16) u → Each1 (Fits w16) (drop n u ++ replicate m 0)
+fits zero m [] f = Each1-replicate (Fits w16) m 0 (record { fits = omega arith })
+fits (suc n) m [] f = Each1-replicate (Fits w16) m 0 (record { fits = omega arith })
+fits zero m (x ∷ u) f = (f.0, fits zero m u f.1)
+fits (suc n) m (x ∷ u) f = fits n m u f.1
+
+pub swz_l-drop : (u : List ℕ) (n : ℕ) → n ≤ 8 → length u ≡ 8 → Each1 (Fits w16) u
+    → digits_l 65536 8 (number_l 256 (swz_l w8 16 (digits_l 256 16 (number_l 65536 u)) 0 (indexes n))) ≡ drop n u ++ replicate n 0
+swz_l-drop u n few long f =
+    let all : eight u ≡ u = pick_l_whole 0 u 8 long in
+    let g : Each1 (Fits w16) (eight u) = subst (Each1 (Fits w16)) (sym all) f in
+    let v = drop n (eight u) ++ replicate n 0 in
+    let m : length v ≡ 8 = omega (arith, few, length-append (drop n (eight u)) (replicate n 0), length-drop n (eight u), length-replicate {A = ℕ} n 0) in
+    subst (λ u. digits_l 65536 8 (number_l 256 (swz_l w8 16 (digits_l 256 16 (number_l 65536 u)) 0 (indexes n))) ≡ drop n u ++ replicate n 0) all
+    (ap (λ w. digits_l 65536 8 (number_l 256 (swz_l w8 16 w 0 (indexes n)))) (to_le_bytes (eight u) g)
+    ∙ ap (λ w. digits_l 65536 8 (number_l 256 w)) (drops u n few).1 ∙ ap (λ k. digits_l 65536 k (number_l 256 (le_bytes v))) (sym m)
+    ∙ from_le_bytes v (fits n n (eight u) g))
+
+-- a fact of a list of `n` units, from the same of its units named one by one
+of_length : (P : List ℕ → Type 0) (u : List ℕ) (n : ℕ) → P (pick_l 0 u (range_with_len 0 n)) → length u ≡ n → P u
+of_length P u n p l = subst P (pick_l_whole 0 u n l) p
+
+abbrev Halves : List ℕ → Type 0
+Halves u = let n = 16 - length u in
+    pick_l 0 (chunk 0 8 u ++ (drop n (chunk (length u - 8) 8 u) ++ replicate n 0)) (0 ∷ 1 ∷ 2 ∷ 3 ∷ 4 ∷ 5 ∷ 6 ∷ 7 ∷ 8 ∷ 9 ∷ 10 ∷ 11 ∷ 12 ∷ 13 ∷ 14 ∷ 15 ∷ [])
+    ≡ u ++ replicate n 0
+
+pub halves : (u : List ℕ) → 8 ≤ length u → length u < 16 → Halves u
+halves u least most =
+    let of = of_length Halves u in
+    of_below (λ k. length u ≡ 8 + k → Halves u) 8 (length u - 8) (
+      of 15 refl,
+      (
+        of 14 refl,
+        (
+          of 13 refl,
+          (
+            of 12 refl,
+            (
+              of 11 refl,
+              (
+                of 10 refl,
+                (of 9 refl, (of 8 refl, tt)),
+              ),
+            ),
+          ),
+        ),
+      ),
+    ) (omega (arith, most)) (omega (arith, least))
+
+abbrev Quarters : List ℕ → Type 0
+Quarters u = let n = 8 - length u in
+    pick_l 0 ((take 4 u ++ replicate 4 0) ++ (drop n (take 4 (take (length u - (length u - 4)) (drop (length u - 4) u)) ++ replicate 4 0) ++ replicate n 0))
+    (0 ∷ 1 ∷ 2 ∷ 3 ∷ 8 ∷ 9 ∷ 10 ∷ 11 ∷ 4 ∷ 5 ∷ 6 ∷ 7 ∷ 4 ∷ 5 ∷ 6 ∷ 7 ∷ []) ≡ u ++ replicate (16 - length u) 0
+
+pub quarters : (u : List ℕ) → 4 ≤ length u → length u < 8 → Quarters u
+quarters u least most =
+    let of = of_length Quarters u in
+    of_below (λ k. length u ≡ 4 + k → Quarters u) 4 (length u - 4) (of 7 refl, (of 6 refl, (of 5 refl, (of 4 refl, tt)))) (omega (arith, most))
+    (omega (arith, least))
