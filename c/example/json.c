@@ -24,7 +24,7 @@ static int write_json(FILE *out, const wtf8_string *s) {
     return 1;
 }
 
-// Appends the string that such JSON stands for.
+// Appends the string that such JSON stands for. Returns 0 if it is wrong.
 static int read_json(wtf8_string *s, const char *json) {
     for (;; json += 6) {
         size_t n = strcspn(json, "\\"), valid;
@@ -32,7 +32,8 @@ static int read_json(wtf8_string *s, const char *json) {
         if (wtf8_push_utf8(s, (const uint8_t *)json, n, &valid) != WTF8_OK) return 0;
         json += n;
         if (*json == 0) return 1;
-        if (sscanf(json, "\\u%4x", &unit) != 1 || wtf8_push_unit(s, (uint16_t)unit) != WTF8_OK) return 0;
+        if (strncmp(json, "\\u", 2) != 0 || strspn(json + 2, "0123456789ABCDEFabcdef") < 4) return 0;
+        if (sscanf(json + 2, "%4x", &unit) != 1 || wtf8_push_unit(s, (uint16_t)unit) != WTF8_OK) return 0;
     }
 }
 

@@ -1,7 +1,10 @@
-"""Random lists of units, pushed in pieces to a string of the module's class, against Python's own strings. Arguments: a
-seed, and the number of lists."""
+"""Random lists of units, pushed in pieces to a string of the module's class, against Python's own strings; what the class
+has of them, on texts of CPython's tests of surrogatepass too; and the types of the calls' results against the header.
+Arguments: a seed, and the number of lists."""
+import copy
 import ctypes
 import pathlib
+import pickle
 import random
 import re
 import struct
@@ -10,14 +13,74 @@ import sys
 sys.path.insert(0, str(pathlib.Path(__file__).resolve().parent.parent))
 from wtf8 import String, Struct, lib
 
-lib.wtf8_byte_len.restype = ctypes.c_size_t
-lib.wtf8_hash_units.restype = ctypes.c_uint64
+HEADER = pathlib.Path(__file__).resolve().parent.parent / "wtf8.h"
 ABI = pathlib.Path(__file__).resolve().parent.parent / "abi.txt"
 BELOW = [(0xD800, 0xDC00), (0xDC00, 0xE000), (0, 0x10000), (0, 0x800), (0, 0x80)]
 
 
 def text_of(units):
     return struct.pack(f"<{len(units)}H", *units).decode("utf-16-le", "surrogatepass")
+
+
+TYPES = {
+    "void": None,
+    "const char *": ctypes.c_char_p,
+    "size_t": ctypes.c_size_t,
+    "bool": ctypes.c_bool,
+    "uint64_t": ctypes.c_uint64,
+    "int32_t": ctypes.c_int32,
+    "wtf8_result": ctypes.c_int32,
+}
+# Texts of CPython's tests of surrogatepass, and of edges of the encoding.
+TEXTS = [
+    "", "abc\ud800def", "\U00010fff\ud800", "[\ud800\udc80]", "\ud800", "\udfff", "\udc80\ud800", "\ud800\ud800\udc00",
+    "a\udbff\udfff", "\ud7ff\ue000", "\u007f\u0080\u07ff\u0800\uffff\U00010000\U0010ffff", "\0", "\ud83d\udca9\ud83d",
+]
+
+
+def wrong_results():
+    """The calls of the header whose result has another type in the module."""
+    found = re.findall(r"^(?:WTF8_CODE )?(\w+|const char \*) ?(wtf8_\w+)\(", HEADER.read_text(), re.M)
+    if len(found) < 51:
+        return [f"only {len(found)} calls in the header"]
+    return [name for of, name in found if getattr(lib, name).restype is not TYPES[of]]
+
+
+def wrong_pairs():
+    """The pairs of texts on which what the class has of Python's strings differs from them."""
+    wrong = []
+    for text in TEXTS:
+        for other in TEXTS:
+            one, two = String(text), String(other)
+            units, others = unit_list(text), unit_list(other)
+            joined, at = units + others, len(units) // 2
+            code_points, of_other = text_of(units), text_of(others)
+            holds = any(units[i : i + len(others)] == others for i in range(len(units) + 1))
+            same = (
+                (one == two) is (units == others)
+                and (one != two) is (units != others)
+                and (one < two) is (code_points < of_other)
+                and (one >= two) is (code_points >= of_other)
+                and (two in one) is holds is (other in one)
+                and (one + two).units() == (one + other).units() == (text + two).units() == joined
+                and [unit.units() for unit in one] == [[unit] for unit in units]
+                and one[at:].units() == units[at:]
+                and one[-2:9:1].units() == units[-2:9]
+                and one[::-2].units() == units[::-2]
+                and String.from_units(units) == copy.copy(one) == copy.deepcopy(one) == pickle.loads(pickle.dumps(one)) == one
+                and eval(repr(one)) == one
+                and one.lossy() == re.sub("[\ud800-\udfff]", "\ufffd", code_points)
+            )
+            copied = copy.copy(one)
+            copied += "x"
+            if not same or copied == one or String.__hash__ is not None:
+                wrong.append((text, other))
+    return wrong
+
+
+def unit_list(text):
+    encoded = text.encode("utf-16-le", "surrogatepass")
+    return list(struct.unpack(f"<{len(encoded) // 2}H", encoded))
 
 
 def hash_of(units, *seeds):
@@ -48,6 +111,9 @@ def main(seed, count):
         wrong += (last.key() > string.key()) - (last.key() < string.key()) != order
         last, last_units = string, units
         lone += any(0xD800 <= ord(point) < 0xE000 for point in text)
+    for found in (wrong_results(), wrong_pairs()):
+        wrong += len(found)
+        print(*map(ascii, found), sep="\n", end="\n" * bool(found))
     print(f"lists.py: {wrong} differences in {count} lists, of which {lone} have a lone surrogate")
     return wrong != 0 or not lone
 

@@ -4,7 +4,8 @@
  *     ROUNDS LENGTH PATTERN     a periodic one of at least 4,096 units (c/test/patterns.h)
  *     ROUNDS LENGTH =HEX        units of four digits each
  *
- * It is cut into pieces of LENGTH units, at most 128 of them, which a turn converts one after another. The answer is a
+ * It is cut into pieces of LENGTH units, or of LEAST-MOST units, which end after a space if they can, at most 128 of them,
+ * which a turn converts one after another. The answer is a
  * line with two numbers for each side, in and out: the least nanoseconds a unit of all rounds, or `-` if the side cannot
  * have the text. The status is 1, with a line, if two sides disagree. */
 #include "../../c/test/patterns.h"
@@ -82,12 +83,21 @@ static double now(void) {
     return (double)time.tv_sec * 1e9 + (double)time.tv_nsec;
 }
 
+/* The end of a piece: up to `least` to `most` units later, another number for each piece, after the last space among them
+ * if that leaves `least`. */
+static size_t piece_end(const struct text *text, size_t n, size_t least, size_t most) {
+    size_t wanted = least + text->pieces * 7919 % (most - least + 1);
+    size_t end = n - text->n < wanted ? n : text->n + wanted, after = end;
+    while (least < most && text->n + least < after && text->units[after - 1] != ' ') after--;
+    return text->units[after - 1] == ' ' ? after : end;
+}
+
 /* Cuts a text into pieces, of which none divides a pair. */
-static void cut(struct text *text, size_t length) {
+static void cut(struct text *text, size_t least, size_t most) {
     size_t n = text->n;
     text->pieces = text->n = text->begin[0] = 0;
     while (text->pieces < PIECES && text->n < n) {
-        size_t end = n - text->n < length ? n : text->n + length;
+        size_t end = piece_end(text, n, least, most);
         bool divides = end < n && (text->units[end - 1] & 0xFC00) == 0xD800 && (text->units[end] & 0xFC00) == 0xDC00;
         if (divides) end = text->n + 1 < end ? end - 1 : end + 1;
         text->begin[++text->pieces] = end;
@@ -141,12 +151,23 @@ static size_t convert(const struct side *side, const struct text *text, int way)
     return failed;
 }
 
+/* Clears the upper halves of the vector registers. simdutf leaves them in use, and code for narrower vectors takes up to
+ * 1.7 times as long then. */
+__attribute__((target("avx"))) static void clear_upper_halves(void) {
+    __builtin_ia32_vzeroupper();
+}
+
+static double begin_time(void) {
+    if (__builtin_cpu_supports("avx")) clear_upper_halves();
+    return now();
+}
+
 /* Times a way of a side. The strings for the way out are made for the turn, so that they are where another side's were. */
 static void take_turn(struct side *side, const struct text *text, int way) {
     if (way == OUT && !make_strings(side, text)) fail(side->path, text->name);
-    double begin = now();
+    double begin = begin_time();
     size_t failed = convert(side, text, way), passes = 1 + (size_t)(TURN_NS / (now() - begin));
-    begin = now();
+    begin = begin_time();
     for (size_t i = 0; i < passes; i++) failed += convert(side, text, way);
     double unit = (now() - begin) / (double)(passes * text->n);
     if (failed) fail(side->path, "a conversion failed");
@@ -197,11 +218,11 @@ static uint16_t *new_array(size_t n) {
     return array;
 }
 
-/* Reads a text: a pattern of at least `length` units, or units. */
-static void read_text(const char *word, size_t length, struct text *text) {
+/* Reads a text: a pattern of at least `most` units, or units. */
+static void read_text(const char *word, size_t least, size_t most, struct text *text) {
     bool is_units = word[0] == '=';
     text->name = word;
-    text->n = is_units ? (strlen(word) - 1) / 4 : length < LEAST_UNITS ? LEAST_UNITS : length;
+    text->n = is_units ? (strlen(word) - 1) / 4 : most < LEAST_UNITS ? LEAST_UNITS : most;
     if (!is_units && !is_pattern(word)) fail("no pattern", word);
     text->units = new_array(text->n);
     if (!is_units) fill_by_pattern(word, text->units, text->n);
@@ -210,7 +231,7 @@ static void read_text(const char *word, size_t length, struct text *text) {
         memcpy(hex, word + 1 + 4 * i, 4);
         text->units[i] = (uint16_t)strtoul(hex, NULL, 16);
     }
-    cut(text, length);
+    cut(text, least, most);
 }
 
 int main(int count, char **words) {
@@ -225,11 +246,11 @@ int main(int count, char **words) {
     while (0 < getline(&line, &room, stdin)) {
         struct text text;
         char *rest;
-        size_t rounds = strtoul(line, &rest, 10), length = strtoul(rest, &rest, 10);
+        size_t rounds = strtoul(line, &rest, 10), least = strtoul(rest, &rest, 10), most = *rest == '-' ? strtoul(rest + 1, &rest, 10) : least;
         char *word = rest + strspn(rest, " ");
         word[strcspn(word, "\n")] = 0;
-        if (rounds == 0 || length == 0 || *word == 0) fail("no request", line);
-        read_text(word, length, &text);
+        if (rounds == 0 || least == 0 || most < least || *word == 0) fail("no request", line);
+        read_text(word, least, most, &text);
         uint16_t *arrays[2] = {new_array(text.n), new_array(text.n)};
         measure(&text, arrays, rounds);
         free(arrays[IN]);
