@@ -2,7 +2,8 @@
  * wtf8.h includes this in a program that is built with AddressSanitizer, ThreadSanitizer or MemorySanitizer, which see
  * nothing of what the library does: each call tells them what it reads and writes. So the line of a call is reported
  * whose array is shorter than its size says or was freed, or which changes a string while another thread uses it, and
- * what a call wrote counts as initialized.
+ * what a call wrote counts as initialized. Also that of a call with a string that was never made empty, or whose block
+ * another struct, assigned from it or to it, has freed or moved.
  */
 #ifndef WTF8_SANITIZERS_H
 #define WTF8_SANITIZERS_H
@@ -21,17 +22,17 @@ extern "C" {
 
 #ifdef WTF8_WITH_ADDRESS
 void *__asan_region_is_poisoned(void *at, size_t n);
-void __asan_load1_noabort(const void *at);
-void __asan_store1_noabort(const void *at);
+void __asan_load1_noabort(void *at);
+void __asan_store1_noabort(void *at);
 
 /* A byte that is read or written at a given address is what the sanitizer names exactly. */
 WTF8_INLINE void wtf8_can_read(const void *at, size_t n) {
-    const void *bad = __asan_region_is_poisoned((void *)at, n);
+    void *bad = __asan_region_is_poisoned((void *)(intptr_t)at, n);
     if (bad) __asan_load1_noabort(bad);
 }
 
 WTF8_INLINE void wtf8_can_write(const void *at, size_t n) {
-    const void *bad = __asan_region_is_poisoned((void *)at, n);
+    void *bad = __asan_region_is_poisoned((void *)(intptr_t)at, n);
     if (bad) __asan_store1_noabort(bad);
 }
 
@@ -43,10 +44,10 @@ WTF8_INLINE void wtf8_can_write(const void *at, size_t n) {
 #endif
 
 #ifdef WTF8_WITH_THREAD
-void __tsan_read_range(const void *at, size_t n);
-void __tsan_write_range(const void *at, size_t n);
-#define WTF8_READ(at, n) __tsan_read_range(at, n)
-#define WTF8_WRITTEN(at, n) __tsan_write_range(at, n)
+void __tsan_read_range(void *at, intptr_t n);
+void __tsan_write_range(void *at, intptr_t n);
+#define WTF8_READ(at, n) __tsan_read_range((void *)(intptr_t)(at), (intptr_t)(n))
+#define WTF8_WRITTEN(at, n) __tsan_write_range((void *)(intptr_t)(at), (intptr_t)(n))
 #else
 #define WTF8_READ(at, n) (void)(n)
 #define WTF8_WRITTEN(at, n) (void)(n)
@@ -82,18 +83,27 @@ WTF8_INLINE void wtf8_wrote(const void *at, size_t n) {
     WTF8_INITIALIZES(at, n);
 }
 
+/* The struct of a string is initialized, and its block, to which the first word points, is there. */
+WTF8_INLINE void wtf8_is_made(const wtf8_string *string) {
+    (void)string;
+    WTF8_INITIALIZED(string, sizeof *string);
+#ifdef WTF8_WITH_ADDRESS
+    if (wtf8_capacity(string) != 0) wtf8_can_read((const void *)(uintptr_t)string->words[0], 1);
+#endif
+}
+
 /* A call asks the string. */
 WTF8_INLINE void wtf8_asks(const wtf8_string *string) {
-    (void)string;
     WTF8_CAN_READ(string, sizeof *string);
     WTF8_READ(string, sizeof *string);
+    wtf8_is_made(string);
 }
 
 /* A call changes the string. */
 WTF8_INLINE void wtf8_changes(const wtf8_string *string) {
-    (void)string;
     WTF8_CAN_WRITE(string, sizeof *string);
     WTF8_WRITTEN(string, sizeof *string);
+    wtf8_is_made(string);
 }
 
 /* A call that copies out wrote the number of its elements, of `size` bytes each, to `*len`, and then the elements, unless

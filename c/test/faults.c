@@ -104,6 +104,26 @@ static void array_race(void) {
     ask_beside(write_array);
 }
 
+/* A string is asked after the other of two structs freed it. */
+static void assigned_and_freed(void) {
+    wtf8_string other = shared;
+    wtf8_free(&other);
+    must(wtf8_unit_len(&shared) == UNITS, "the length");
+}
+
+/* A string is changed after the other of two structs grew. */
+static void assigned_and_grown(void) {
+    wtf8_string other = shared;
+    for (int i = 0; i < 99; i++) must(wtf8_push_units(&other, units, UNITS) == WTF8_OK, "units pushed");
+    must(wtf8_push_unit(&shared, 'b') == WTF8_OK, "a unit pushed");
+}
+
+/* A string that was not made empty is asked. The address is volatile, so that the compiler does not warn. */
+static void not_made(void) {
+    wtf8_string *volatile string = malloc(sizeof *string);
+    must(string != NULL && wtf8_unit_len(string) == 0, "the length");
+}
+
 /* The units of an array are read before they are written. */
 static void unwritten(void) {
     uint16_t *array = malloc(20);
@@ -113,9 +133,18 @@ static void unwritten(void) {
 static const struct {
     const char *name;
     void (*plant)(void);
-} faults[] = {{"none", none},         {"short_to_write", short_to_write}, {"short_to_read", short_to_read},
-              {"freed", freed},       {"freed_string", freed_string},     {"short_number", short_number},
-              {"race", race},         {"array_race", array_race},         {"unwritten", unwritten}};
+} faults[] = {{"none", none},
+              {"short_to_write", short_to_write},
+              {"short_to_read", short_to_read},
+              {"freed", freed},
+              {"freed_string", freed_string},
+              {"short_number", short_number},
+              {"race", race},
+              {"array_race", array_race},
+              {"assigned_and_freed", assigned_and_freed},
+              {"assigned_and_grown", assigned_and_grown},
+              {"not_made", not_made},
+              {"unwritten", unwritten}};
 
 int main(int count, char **words) {
     must(count == 2, "one argument");
