@@ -123,16 +123,58 @@ DECLARE(wtf8_result, copy_slice, handle *, size_t, size_t, uint16_t *, size_t, s
 DECLARE(wtf8_result, copy_utf8, handle *, uint8_t *, size_t, size_t *)
 DECLARE(wtf8_result, copy_lossy, handle *, uint8_t *, size_t, size_t *)
 
-static struct {
+/* Functions that are given no context. */
+typedef struct {
     void *(*allocate)(size_t);
     void *(*reallocate)(void *, size_t);
     void (*release)(void *);
-} memory = {malloc, realloc, free};
+} plain_memory;
+
+/* What wtf8_use_memory was given, what wtf8_use_memory_with was given, and what requests call: one of them. */
+static plain_memory plain = {malloc, realloc, free};
+static wtf8_memory with_context;
+static plain_memory memory = {malloc, realloc, free};
+
+static void *allocate_with_context(size_t n) {
+    return with_context.allocate(with_context.context, n);
+}
+
+static void *reallocate_with_context(void *block, size_t n) {
+    return with_context.reallocate(with_context.context, block, n);
+}
+
+static void release_with_context(void *block) {
+    with_context.release(with_context.context, block);
+}
+
+static void *allocate_plainly(void *context, size_t n) {
+    (void)context;
+    return plain.allocate(n);
+}
+
+static void *reallocate_plainly(void *context, void *block, size_t n) {
+    (void)context;
+    return plain.reallocate(block, n);
+}
+
+static void release_plainly(void *context, void *block) {
+    (void)context;
+    plain.release(block);
+}
 
 void wtf8_use_memory(void *(*allocate)(size_t), void *(*reallocate)(void *, size_t), void (*release)(void *)) {
-    memory.allocate = allocate;
-    memory.reallocate = reallocate;
-    memory.release = release;
+    plain = (plain_memory){allocate, reallocate, release};
+    memory = plain;
+}
+
+void wtf8_use_memory_with(wtf8_memory given) {
+    with_context = given;
+    memory = (plain_memory){allocate_with_context, reallocate_with_context, release_with_context};
+}
+
+wtf8_memory wtf8_memory_in_use(void) {
+    if (memory.allocate == allocate_with_context) return with_context;
+    return (wtf8_memory){allocate_plainly, reallocate_plainly, release_plainly, NULL};
 }
 
 /* What the proved code calls as malloc, realloc and free: c/build gives them these names. */

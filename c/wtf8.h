@@ -2,16 +2,17 @@
  * Strings that hold any 16-bit code units, paired surrogates or not, stored as WTF-8. The units, the text in UTF-8 and
  * the lossy text can be copied out; the bytes of a string with a surrogate cannot, since WTF-8 is not for interchange.
  *
- * What a call does to the units of its strings is proved for every call that meets the duties below; see
- * crates/wtf8_c/README.md, which also says what is trusted.
+ * What a call does to the units of its strings is proved for every call that meets the duties below; the library's page,
+ * README.md, also says what is trusted.
  *
  * What the caller owes:
  * - Each pointer is valid and aligned. It may be NULL only where the text says so: an array of length 0 may be NULL, and
  *   `valid`.
- * - Arrays do not overlap each other, nor a string, nor a number that the call writes.
+ * - Arrays do not overlap each other, nor a string, nor a number that the call writes. Two numbers that one call writes are
+ *   not the same.
  * - A string is made by WTF8_EMPTY or by setting all its bytes to 0, and freed by wtf8_free, whatever calls returned. Its
  *   words are not read or written. An assignment, memcpy or realloc moves it: of the old place only a new WTF8_EMPTY may
- *   be made. A second string is made by wtf8_set_string.
+ *   be made. A second string is made by wtf8_set_string. Only one copy of the library uses it.
  * - While a call changes a string, no other call uses it. Calls that take it as const only read it: any number of them
  *   may use one string at once, in any threads. Changes are ordered before and after them by a lock, a thread's start or
  *   a join.
@@ -19,7 +20,8 @@
  * - malloc, realloc and free of the program, or what wtf8_use_memory is given, come from one allocator, which aligns a
  *   block to each power of two up to 16 that divides its size.
  *
- * One string may be passed twice to one call, as to append it to itself.
+ * One string may be passed twice to one call, as to append it to itself. U+0000 is a unit like others, and no 0 is written
+ * after what is copied out.
  *
  * In each call the string that is changed, or else the one that is asked, comes first. If several codes apply, a call
  * returns the first of them in this order: BAD_CODE_POINT, NOT_UTF8, BAD_POSITION, HAS_SURROGATE, ARRAY_TOO_SHORT,
@@ -40,14 +42,30 @@
 extern "C" {
 #endif
 
-/* The version of this header. wtf8_version() is that of the library. */
-#define WTF8_VERSION "0.1.0"
+/* The version of this header, also as 10,000, 100 and 1 times its numbers, for #if. wtf8_version() is that of the library. */
+#define WTF8_VERSION "0.2.0"
+#define WTF8_VERSION_NUMBER 200
 
 /* A compiler that knows the attribute warns of a call whose code is not used. */
 #ifdef __GNUC__
 #define WTF8_CODE __attribute__((warn_unused_result))
 #else
 #define WTF8_CODE
+#endif
+
+/* A compiler that knows the attribute warns of a string or an array that is not initialized, and of an array or a number
+ * that is shorter than the call takes it for. The numbers are of parameters: the pointer, and how many elements it has. */
+#ifdef __has_attribute
+#if __has_attribute(access)
+#define WTF8_READS(...) __attribute__((access(read_only, __VA_ARGS__)))
+#define WTF8_WRITES(...) __attribute__((access(write_only, __VA_ARGS__)))
+#define WTF8_CHANGES(at) __attribute__((access(read_write, at)))
+#endif
+#endif
+#ifndef WTF8_CHANGES
+#define WTF8_READS(...)
+#define WTF8_WRITES(...)
+#define WTF8_CHANGES(at)
 #endif
 
 /* The number of words in the struct of a string. */
@@ -90,6 +108,21 @@ const char *wtf8_version(void);
  * to their caller (no exception, no longjmp), and call nothing of this library. */
 void wtf8_use_memory(void *(*allocate)(size_t), void *(*reallocate)(void *, size_t), void (*release)(void *));
 
+/* Functions that are also given `context`. */
+typedef struct wtf8_memory {
+    void *(*allocate)(void *context, size_t n);
+    void *(*reallocate)(void *context, void *block, size_t n);
+    void (*release)(void *context, void *block);
+    void *context;
+} wtf8_memory;
+
+/* The same with a context. Since 0.2.0. */
+void wtf8_use_memory_with(wtf8_memory memory);
+
+/* The functions that the library calls. Those of wtf8_use_memory, and malloc, realloc and free, take no heed of a context.
+ * Since 0.2.0. */
+wtf8_memory wtf8_memory_in_use(void);
+
 /* ---- Making a string ----
  *
  * A wtf8_set_ call uses the string's capacity if the new string fits it, and keeps it, and is not refused then: of a text
@@ -99,45 +132,56 @@ void wtf8_use_memory(void *(*allocate)(size_t), void *(*reallocate)(void *, size
 
 /* The number of bytes of a string with these `n` units: 1 for each below 80, 2 for each other below 800, 4 for each
  * surrogate pair, 3 for any other unit. */
+WTF8_READS(1, 2)
 size_t wtf8_encoded_len(const uint16_t *units, size_t n);
 
 /* Replaces the string by `n` units. Never refused if 3 bytes for each fit, or, of more than 1,024 units, if their bytes do
  * (wtf8_encoded_len). Else a string that has a buffer gets a capacity of 3 bytes for each of up to 1,024 units, so that
  * the next call with as many needs no memory, and for more units of just their bytes, or of one for each first if the
  * first unit is ASCII. Codes: OK, NO_MEMORY. */
-WTF8_CODE wtf8_result wtf8_set_units(wtf8_string *string, const uint16_t *units, size_t n);
+WTF8_CODE WTF8_CHANGES(1) WTF8_READS(2, 3)
+wtf8_result wtf8_set_units(wtf8_string *string, const uint16_t *units, size_t n);
 
 /* Replaces the string by a text of `n` bytes. With NOT_UTF8 the position of the first byte that is not UTF-8 is written
  * to `*valid`, unless that is NULL. Never refused if the text fits. Codes: OK, NO_MEMORY, NOT_UTF8. */
-WTF8_CODE wtf8_result wtf8_set_utf8(wtf8_string *string, const uint8_t *text, size_t n, size_t *valid);
+WTF8_CODE WTF8_CHANGES(1) WTF8_READS(2, 3) WTF8_WRITES(4)
+wtf8_result wtf8_set_utf8(wtf8_string *string, const uint8_t *text, size_t n, size_t *valid);
 
 /* Replaces the string by a copy of `other`. Never refused if it fits. Codes: OK, NO_MEMORY. */
-WTF8_CODE wtf8_result wtf8_set_string(wtf8_string *string, const wtf8_string *other);
+WTF8_CODE WTF8_CHANGES(1)
+wtf8_result wtf8_set_string(wtf8_string *string, const wtf8_string *other);
 
 /* Empties the string and keeps its capacity. Constant. */
+WTF8_CHANGES(1)
 void wtf8_clear(wtf8_string *string);
 
 /* Frees what the string owns, which is the empty string then. Freeing it again does nothing. */
+WTF8_CHANGES(1)
 void wtf8_free(wtf8_string *string);
 
 /* Reserves capacity for at least `additional` more bytes: a unit takes at most 3. Never refused if they fit. Codes: OK,
  * NO_MEMORY. */
-WTF8_CODE wtf8_result wtf8_reserve_bytes(wtf8_string *string, size_t additional);
+WTF8_CODE WTF8_CHANGES(1)
+wtf8_result wtf8_reserve_bytes(wtf8_string *string, size_t additional);
 
 /* Gives the capacity back that the string does not use. If memory for the smaller block is refused, it keeps the capacity. */
+WTF8_CHANGES(1)
 void wtf8_shrink(wtf8_string *string);
 
 /* ---- Marks ----
  *
  * Calls that find a unit by its index take constant time in a string of ASCII. Else they count units: at most 129 of them
- * from a mark if the string has marks; without marks those from the start, or from the end to one of the last 128.
+ * from a mark if the string has marks; without marks those from the start, or from the end to one of the last 128. For a
+ * position in bytes the marks are searched, by halves.
  */
 
-/* Makes a mark for each 128 units of the string, if it is not ASCII. Appends and truncations keep the marks; a
- * wtf8_set_ call and wtf8_slice_units lose those of the string that they replace. A mark for which memory is refused is
- * left out, as those after it, until an append finds memory for them. If the block that lists the marks is refused, none
- * are kept until the next wtf8_mark. Linear in the length. Codes: OK. */
-WTF8_CODE wtf8_result wtf8_mark(wtf8_string *string);
+/* Makes a mark for each 128 units of the string, if it is not ASCII. Appends and truncations keep the string marked, and so
+ * does a wtf8_set_ call or wtf8_slice_units that uses its capacity; if one makes a new buffer, the string has no marks. A
+ * mark for which memory is refused is left out, as those after it, until an append finds memory for them. If the block that
+ * lists the marks is refused, none are kept until the next wtf8_mark. Linear in the length. Codes: OK, so that the code need
+ * not be looked at. */
+WTF8_CHANGES(1)
+wtf8_result wtf8_mark(wtf8_string *string);
 
 /* ---- Appending ---- */
 
@@ -145,32 +189,40 @@ WTF8_CODE wtf8_result wtf8_mark(wtf8_string *string);
  * refused, except as wtf8_push_string and wtf8_push_slice say of one string passed twice. */
 
 /* One unit. Never refused if it fits. Codes: OK, NO_MEMORY. */
-WTF8_CODE wtf8_result wtf8_push_unit(wtf8_string *string, uint16_t unit);
+WTF8_CODE WTF8_CHANGES(1)
+wtf8_result wtf8_push_unit(wtf8_string *string, uint16_t unit);
 
 /* One code point, a surrogate too. Never refused if it fits. Codes: OK, NO_MEMORY, BAD_CODE_POINT. */
-WTF8_CODE wtf8_result wtf8_push_code_point(wtf8_string *string, uint32_t value);
+WTF8_CODE WTF8_CHANGES(1)
+wtf8_result wtf8_push_code_point(wtf8_string *string, uint32_t value);
 
 /* `n` units. Never refused if they fit. Codes: OK, NO_MEMORY. */
-WTF8_CODE wtf8_result wtf8_push_units(wtf8_string *string, const uint16_t *units, size_t n);
+WTF8_CODE WTF8_CHANGES(1) WTF8_READS(2, 3)
+wtf8_result wtf8_push_units(wtf8_string *string, const uint16_t *units, size_t n);
 
 /* A text of `n` bytes in Latin-1, each of which is the code point of its value. Never refused if it fits. Codes: OK,
  * NO_MEMORY. */
-WTF8_CODE wtf8_result wtf8_push_latin1(wtf8_string *string, const uint8_t *text, size_t n);
+WTF8_CODE WTF8_CHANGES(1) WTF8_READS(2, 3)
+wtf8_result wtf8_push_latin1(wtf8_string *string, const uint8_t *text, size_t n);
 
 /* A text of `n` bytes. `valid` is as in wtf8_set_utf8. Never refused if it fits. Codes: OK, NO_MEMORY, NOT_UTF8. */
-WTF8_CODE wtf8_result wtf8_push_utf8(wtf8_string *string, const uint8_t *text, size_t n, size_t *valid);
+WTF8_CODE WTF8_CHANGES(1) WTF8_READS(2, 3) WTF8_WRITES(4)
+wtf8_result wtf8_push_utf8(wtf8_string *string, const uint8_t *text, size_t n, size_t *valid);
 
 /* The longest front of `n` bytes that is UTF-8. Its length is written to `*used`, and to `*bad` how many bytes after it are
  * wrong together, so that one U+FFFD stands for them: 0 if all bytes were taken, or if those left are cut off within a
  * code point. Never refused if the front fits. Codes: OK, NO_MEMORY. */
-WTF8_CODE wtf8_result wtf8_push_utf8_part(wtf8_string *string, const uint8_t *text, size_t n, size_t *used, size_t *bad);
+WTF8_CODE WTF8_CHANGES(1) WTF8_READS(2, 3) WTF8_WRITES(4) WTF8_WRITES(5)
+wtf8_result wtf8_push_utf8_part(wtf8_string *string, const uint8_t *text, size_t n, size_t *used, size_t *bad);
 
 /* Another string. Never refused if it fits, unless both are one string. Codes: OK, NO_MEMORY. */
-WTF8_CODE wtf8_result wtf8_push_string(wtf8_string *string, const wtf8_string *other);
+WTF8_CODE WTF8_CHANGES(1)
+wtf8_result wtf8_push_string(wtf8_string *string, const wtf8_string *other);
 
 /* The units of `other` from `begin`, found by the marks, to before `end`. Never refused if they fit, unless both are one
  * string. Codes: OK, NO_MEMORY, BAD_POSITION (`begin` is greater than `end`, or `end` than the length). */
-WTF8_CODE wtf8_result wtf8_push_slice(wtf8_string *string, const wtf8_string *other, size_t begin, size_t end);
+WTF8_CODE WTF8_CHANGES(1)
+wtf8_result wtf8_push_slice(wtf8_string *string, const wtf8_string *other, size_t begin, size_t end);
 
 /* ---- Asking ---- */
 
@@ -188,7 +240,8 @@ size_t wtf8_capacity(const wtf8_string *string);
 /* Writes the position in bytes of the boundary before the unit at `index`, found by the marks, to `*position`: of the end
  * if `index` is the length, of the pair if `index` divides one. Codes: OK, BAD_POSITION (`index` is greater than the
  * length). */
-WTF8_CODE wtf8_result wtf8_position_at(const wtf8_string *string, size_t index, size_t *position);
+WTF8_CODE WTF8_WRITES(3)
+wtf8_result wtf8_position_at(const wtf8_string *string, size_t index, size_t *position);
 
 /* The number of units before the last boundary at or before `position` in bytes; the length if `position` is after the
  * end. Constant in ASCII; else it counts units as wtf8_truncate_bytes does. */
@@ -196,7 +249,8 @@ size_t wtf8_unit_before(const wtf8_string *string, size_t position);
 
 /* Writes the unit at `index`, found by the marks, to `*unit`. Codes: OK, BAD_POSITION (`index` is the length or
  * greater). */
-WTF8_CODE wtf8_result wtf8_unit_at(const wtf8_string *string, size_t index, uint16_t *unit);
+WTF8_CODE WTF8_WRITES(3)
+wtf8_result wtf8_unit_at(const wtf8_string *string, size_t index, uint16_t *unit);
 
 /* Whether a position in bytes is a code point boundary: 0 and the length are, a position after the end is not. Constant. */
 bool wtf8_is_boundary(const wtf8_string *string, size_t position);
@@ -204,21 +258,26 @@ bool wtf8_is_boundary(const wtf8_string *string, size_t position);
 /* Writes the code point after the boundary `*position` to `*code_point`, a lone surrogate too, and moves `*position` past
  * it, from 0 at the start to the length in bytes at the end. Any code but OK leaves both numbers as they are. Constant.
  * Codes: OK, BAD_POSITION (`*position` is not a boundary), END (it is the length in bytes). */
-WTF8_CODE wtf8_result wtf8_next_code_point(const wtf8_string *string, size_t *position, uint32_t *code_point);
+WTF8_CODE WTF8_CHANGES(2) WTF8_WRITES(3)
+wtf8_result wtf8_next_code_point(const wtf8_string *string, size_t *position, uint32_t *code_point);
 
 /* The same of the code point before `*position`, which moves back to its start. Constant. Codes: OK, BAD_POSITION
  * (`*position` is not a boundary), END (it is 0). */
-WTF8_CODE wtf8_result wtf8_previous_code_point(const wtf8_string *string, size_t *position, uint32_t *code_point);
+WTF8_CODE WTF8_CHANGES(2) WTF8_WRITES(3)
+wtf8_result wtf8_previous_code_point(const wtf8_string *string, size_t *position, uint32_t *code_point);
 
 /* Writes the first surrogate after the boundary `*position` to `*unit`, and moves `*position` past its 3 bytes: what was
  * between is text. Any code but OK leaves both numbers as they are. Linear in the bytes that it moves over. Codes: OK,
  * BAD_POSITION (`*position` is not a boundary), END (no surrogate is after it). */
-WTF8_CODE wtf8_result wtf8_next_surrogate(const wtf8_string *string, size_t *position, uint16_t *unit);
+WTF8_CODE WTF8_CHANGES(2) WTF8_WRITES(3)
+wtf8_result wtf8_next_surrogate(const wtf8_string *string, size_t *position, uint16_t *unit);
 
 /* Writes the code points after the boundary `*position` to the front of `out` until its `size` elements are full or the
- * string ends, and their number to `*len`, and moves `*position` past them. Any code but OK writes nothing. Linear in what
- * it writes. Codes: OK, BAD_POSITION (`*position` is not a boundary), END (it is the length in bytes). */
-WTF8_CODE wtf8_result wtf8_copy_code_points(const wtf8_string *string, size_t *position, uint32_t *out, size_t size, size_t *len);
+ * string ends, and their number to `*len`, and moves `*position` past them: OK if `size` is 0, too. Any code but OK writes
+ * nothing. Linear in what it writes. Codes: OK, BAD_POSITION (`*position` is not a boundary), END (it is the length in
+ * bytes). */
+WTF8_CODE WTF8_CHANGES(2) WTF8_WRITES(3, 4) WTF8_WRITES(5)
+wtf8_result wtf8_copy_code_points(const wtf8_string *string, size_t *position, uint32_t *out, size_t size, size_t *len);
 
 /* Whether the string holds no surrogate, so that wtf8_copy_utf8 gives its text. Linear in the length. */
 bool wtf8_is_utf8(const wtf8_string *string);
@@ -232,11 +291,14 @@ int32_t wtf8_compare_units(const wtf8_string *string, const wtf8_string *other);
 int32_t wtf8_compare_code_points(const wtf8_string *string, const wtf8_string *other);
 
 /* The same of the string and `n` units, without a string of them: whether they are its units, and the order by units. */
+WTF8_READS(2, 3)
 bool wtf8_equal_units(const wtf8_string *string, const uint16_t *units, size_t n);
+WTF8_READS(2, 3)
 int32_t wtf8_compare_with_units(const wtf8_string *string, const uint16_t *units, size_t n);
 
 /* Whether `n` bytes are UTF-8, and the text is that of the string, without a string of it. Constant if `n` is another length
  * than the string's in bytes. */
+WTF8_READS(2, 3)
 bool wtf8_equal_utf8(const wtf8_string *string, const uint8_t *text, size_t n);
 
 /* Whether the units of `string` from `index` on, found by the marks, begin with those of `other`. If that has none, they do
@@ -244,6 +306,7 @@ bool wtf8_equal_utf8(const wtf8_string *string, const uint8_t *text, size_t n);
 bool wtf8_starts_with(const wtf8_string *string, size_t index, const wtf8_string *other);
 
 /* The same of `n` units, without a string of them. */
+WTF8_READS(3, 4)
 bool wtf8_starts_with_units(const wtf8_string *string, size_t index, const uint16_t *units, size_t n);
 
 /* A hash for tables: SipHash-1-3 under the key 0 of the 16 bytes of the seed, the lowest byte of `seed_0` first, the bytes of
@@ -253,9 +316,11 @@ bool wtf8_starts_with_units(const wtf8_string *string, size_t index, const uint1
 uint64_t wtf8_hash(const wtf8_string *string, uint64_t seed_0, uint64_t seed_1);
 
 /* The hash of the string with these `n` units, without a string of them, to look them up in a table of strings. */
+WTF8_READS(1, 2)
 uint64_t wtf8_hash_units(const uint16_t *units, size_t n, uint64_t seed_0, uint64_t seed_1);
 
 /* The same of the string with a text of `n` bytes. Other bytes have a hash as well, but no string is equal to them. */
+WTF8_READS(1, 2)
 uint64_t wtf8_hash_utf8(const uint8_t *text, size_t n, uint64_t seed_0, uint64_t seed_1);
 
 /* ---- Cutting ----
@@ -264,20 +329,24 @@ uint64_t wtf8_hash_utf8(const uint8_t *text, size_t n, uint64_t seed_0, uint64_t
  */
 
 /* Shortens the string to `n` units, found by the marks. A pair that this divides leaves its lead. Codes: OK, BAD_POSITION. */
-WTF8_CODE wtf8_result wtf8_truncate_units(wtf8_string *string, size_t n);
+WTF8_CODE WTF8_CHANGES(1)
+wtf8_result wtf8_truncate_units(wtf8_string *string, size_t n);
 
 /* Shortens the string to `position` bytes, a boundary. It counts the units from a mark or the start to there, or from there
  * to the end if that is nearer. Codes: OK, BAD_POSITION. */
-WTF8_CODE wtf8_result wtf8_truncate_bytes(wtf8_string *string, size_t position);
+WTF8_CODE WTF8_CHANGES(1)
+wtf8_result wtf8_truncate_bytes(wtf8_string *string, size_t position);
 
 /* Takes the last code point off, and writes it to `*code_point`, a lone surrogate too. Constant. Codes: OK, END (the string
  * is empty). */
-WTF8_CODE wtf8_result wtf8_pop(wtf8_string *string, uint32_t *code_point);
+WTF8_CODE WTF8_CHANGES(1) WTF8_WRITES(2)
+wtf8_result wtf8_pop(wtf8_string *string, uint32_t *code_point);
 
 /* Replaces `into` by the units of `string` from `begin`, found by the marks, to before `end`. Uses the capacity of `into` as
  * a wtf8_set_ call does, but makes a new buffer if that is `string` itself. Codes: OK, NO_MEMORY, BAD_POSITION (`begin` is
  * greater than `end`, or `end` than the length). */
-WTF8_CODE wtf8_result wtf8_slice_units(wtf8_string *into, const wtf8_string *string, size_t begin, size_t end);
+WTF8_CODE WTF8_CHANGES(1)
+wtf8_result wtf8_slice_units(wtf8_string *into, const wtf8_string *string, size_t begin, size_t end);
 
 /* ---- Copying out ----
  *
@@ -287,16 +356,20 @@ WTF8_CODE wtf8_result wtf8_slice_units(wtf8_string *into, const wtf8_string *str
 
 /* Writes all units at the front of `out`, which has room for `size`, and their number to `*len`. If the array is too
  * short, only the number is written. Codes: OK, ARRAY_TOO_SHORT. */
-WTF8_CODE wtf8_result wtf8_copy_units(const wtf8_string *string, uint16_t *out, size_t size, size_t *len);
+WTF8_CODE WTF8_WRITES(2, 3) WTF8_WRITES(4)
+wtf8_result wtf8_copy_units(const wtf8_string *string, uint16_t *out, size_t size, size_t *len);
 
 /* The same of the units from `begin`, found by the marks, to before `end`. Codes: OK, BAD_POSITION, ARRAY_TOO_SHORT. */
-WTF8_CODE wtf8_result wtf8_copy_slice(const wtf8_string *string, size_t begin, size_t end, uint16_t *out, size_t size, size_t *len);
+WTF8_CODE WTF8_WRITES(4, 5) WTF8_WRITES(6)
+wtf8_result wtf8_copy_slice(const wtf8_string *string, size_t begin, size_t end, uint16_t *out, size_t size, size_t *len);
 
 /* The same of the text in UTF-8, `*len` in bytes, if there is no surrogate. Codes: OK, HAS_SURROGATE, ARRAY_TOO_SHORT. */
-WTF8_CODE wtf8_result wtf8_copy_utf8(const wtf8_string *string, uint8_t *out, size_t size, size_t *len);
+WTF8_CODE WTF8_WRITES(2, 3) WTF8_WRITES(4)
+wtf8_result wtf8_copy_utf8(const wtf8_string *string, uint8_t *out, size_t size, size_t *len);
 
 /* The same of the text with U+FFFD in place of each surrogate. Codes: OK, ARRAY_TOO_SHORT. */
-WTF8_CODE wtf8_result wtf8_copy_lossy(const wtf8_string *string, uint8_t *out, size_t size, size_t *len);
+WTF8_CODE WTF8_WRITES(2, 3) WTF8_WRITES(4)
+wtf8_result wtf8_copy_lossy(const wtf8_string *string, uint8_t *out, size_t size, size_t *len);
 
 #ifdef __cplusplus
 }

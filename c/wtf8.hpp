@@ -106,7 +106,11 @@ public:
     string(const string &) = delete;
     string &operator=(const string &) = delete;
     string(string &&other) noexcept : string_(other.string_) { other.string_ = WTF8_EMPTY; }
-    string &operator=(string &&other) noexcept { string(std::move(other)).swap(*this); return *this; }
+    string &operator=(string &&other) noexcept {
+        string taken(std::move(other));
+        swap(taken);
+        return *this;
+    }
     void swap(string &other) noexcept { std::swap(string_, other.string_); }
     ~string() {
         if (string_.words[0]) wtf8_free(&string_);

@@ -23,10 +23,25 @@ def load() -> ctypes.CDLL:
 
 
 lib = load()
+
+
+class Struct(ctypes.Structure):
+    """A wtf8_string."""
+
+    _fields_ = [("words", ctypes.c_uint64 * 7)]
+
+
+class Memory(ctypes.Structure):
+    """A wtf8_memory."""
+
+    _fields_ = [(name, ctypes.c_void_p) for name in ("allocate", "reallocate", "release", "context")]
+
+
 # The types of results, and the calls that have them.
 RESULTS = [
+    (Memory, "memory_in_use"),
     (ctypes.c_char_p, "result_text version"),
-    (None, "use_memory clear free shrink"),
+    (None, "use_memory use_memory_with clear free shrink"),
     (ctypes.c_size_t, "encoded_len unit_len byte_len capacity unit_before"),
     (ctypes.c_bool, "is_boundary is_utf8 equal equal_units equal_utf8 starts_with starts_with_units"),
     (ctypes.c_uint64, "hash hash_units hash_utf8"),
@@ -52,12 +67,6 @@ def check(code: int) -> None:
         raise MemoryError
     if code:
         raise ValueError(lib.wtf8_result_text(code).decode())
-
-
-class Struct(ctypes.Structure):
-    """A wtf8_string."""
-
-    _fields_ = [("words", ctypes.c_uint64 * 7)]
 
 
 @contextlib.contextmanager

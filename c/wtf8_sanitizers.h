@@ -155,7 +155,7 @@ WTF8_TELLS_VOID(clear, (wtf8_string *string), (string), wtf8_changes(string))
 WTF8_TELLS_VOID(free, (wtf8_string *string), (string), wtf8_changes(string))
 WTF8_TELLS_CODE(reserve_bytes, (wtf8_string *string, size_t additional), (string, additional), wtf8_changes(string))
 WTF8_TELLS_VOID(shrink, (wtf8_string *string), (string), wtf8_changes(string))
-WTF8_TELLS_CODE(mark, (wtf8_string *string), (string), wtf8_changes(string))
+WTF8_TELLS(wtf8_result, mark, (wtf8_string *string), (string), wtf8_changes(string))
 
 /* Appending. */
 WTF8_TELLS_CODE(push_unit, (wtf8_string *string, uint16_t unit), (string, unit), wtf8_changes(string))

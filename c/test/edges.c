@@ -1302,7 +1302,70 @@ static void texts_of_codes(void) {
     for (int i = WTF8_OK; i <= WTF8_END + 1; i++)
         for (int k = WTF8_OK; k < i; k++)
             must(strcmp(wtf8_result_text((wtf8_result)i), wtf8_result_text((wtf8_result)k)) != 0, "the text of a code");
-    must(strcmp(wtf8_version(), WTF8_VERSION) == 0, "the version");
+    char version[16];
+    snprintf(version, sizeof version, "%d.%d.%d", WTF8_VERSION_NUMBER / 10000, WTF8_VERSION_NUMBER / 100 % 100, WTF8_VERSION_NUMBER % 100);
+    must(strcmp(wtf8_version(), WTF8_VERSION) == 0 && strcmp(version, WTF8_VERSION) == 0, "the version");
+}
+
+/* Functions with a context: what was used before them, and how often each was called. */
+struct counted {
+    wtf8_memory used;
+    long allocated, reallocated, released;
+};
+
+static void *count_allocate(void *context, size_t n) {
+    struct counted *counted = context;
+    counted->allocated++;
+    return counted->used.allocate(counted->used.context, n);
+}
+
+static void *count_reallocate(void *context, void *block, size_t n) {
+    struct counted *counted = context;
+    counted->reallocated++;
+    return counted->used.reallocate(counted->used.context, block, n);
+}
+
+static void count_release(void *context, void *block) {
+    struct counted *counted = context;
+    counted->released++;
+    counted->used.release(counted->used.context, block);
+}
+
+/* Makes a string of more units than fit it at first. */
+static wtf8_result grow(wtf8_string *string) {
+    wtf8_result code = WTF8_OK;
+    for (uint16_t i = 0; i < 100 && code == WTF8_OK; i++) code = wtf8_push_unit(string, (uint16_t)(0x4E00 + i));
+    return code;
+}
+
+/* Functions with a context are called with it, over those that were used before, which can be used again. Run last: the
+ * library calls those through the others then. */
+static void memory_with_context(void) {
+    wtf8_string string = WTF8_EMPTY;
+    struct counted counted = {wtf8_memory_in_use(), 0, 0, 0};
+    wtf8_memory counting = {count_allocate, count_reallocate, count_release, &counted};
+    long requested = requests;
+    void *block = counted.used.allocate(counted.used.context, 8);
+    if (block) block = counted.used.reallocate(counted.used.context, block, 80);
+    must(block != NULL && requests == requested + 2, "a block by the functions that the library calls");
+    counted.used.release(counted.used.context, block);
+    must(blocks == 0, "the block is freed");
+    wtf8_use_memory_with(counting);
+    wtf8_memory in_use = wtf8_memory_in_use();
+    must(in_use.allocate == count_allocate && in_use.reallocate == count_reallocate, "the functions in use");
+    must(in_use.release == count_release && in_use.context == &counted, "the context in use");
+    must(grow(&string) == WTF8_OK, "a string by functions with a context");
+    must(counted.allocated == 1 && counted.reallocated > 0 && counted.released == 0, "the calls for a string");
+    wtf8_free(&string);
+    must(counted.released == 1 && blocks == 0, "the call that frees a string");
+    refuse_after = 1;
+    must(grow(&string) == WTF8_NO_MEMORY && counted.allocated == 2, "a string that is refused memory");
+    refuse_after = -1;
+    wtf8_free(&string);
+    wtf8_use_memory_with(counted.used);
+    must(grow(&string) == WTF8_OK && counted.allocated == 2, "a string by the functions of before");
+    wtf8_free(&string);
+    must(counted.released == 2 && blocks == 0, "the block of a string");
 }
 
 int main(void) {
@@ -1339,6 +1402,7 @@ int main(void) {
     growth();
     structs();
     texts_of_codes();
+    memory_with_context();
     printf("edges: %ld requests, no difference\n", requests);
     return 0;
 }

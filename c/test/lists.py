@@ -11,7 +11,7 @@ import struct
 import sys
 
 sys.path.insert(0, str(pathlib.Path(__file__).resolve().parent.parent))
-from wtf8 import String, Struct, lib
+from wtf8 import Memory, String, Struct, lib
 
 HEADER = pathlib.Path(__file__).resolve().parent.parent / "wtf8.h"
 ABI = pathlib.Path(__file__).resolve().parent.parent / "abi.txt"
@@ -30,6 +30,7 @@ TYPES = {
     "uint64_t": ctypes.c_uint64,
     "int32_t": ctypes.c_int32,
     "wtf8_result": ctypes.c_int32,
+    "wtf8_memory": Memory,
 }
 # Texts of CPython's tests of surrogatepass, and of edges of the encoding.
 TEXTS = [
@@ -41,7 +42,7 @@ TEXTS = [
 def wrong_results():
     """The calls of the header whose result has another type in the module."""
     found = re.findall(r"^(?:WTF8_CODE )?(\w+|const char \*) ?(wtf8_\w+)\(", HEADER.read_text(), re.M)
-    if len(found) < 51:
+    if len(found) < 53:
         return [f"only {len(found)} calls in the header"]
     return [name for of, name in found if getattr(lib, name).restype is not TYPES[of]]
 
@@ -92,8 +93,9 @@ def hash_of(units, *seeds):
 def main(seed, count):
     draw = random.Random(seed)
     wrong = lone = 0
-    size, aligned = map(int, re.search(r"wtf8_string: (\d+) bytes, aligned to (\d+)", ABI.read_text()).groups())
-    wrong += ctypes.sizeof(Struct) != size or ctypes.alignment(Struct) != aligned
+    for kind, name in (Struct, "wtf8_string"), (Memory, "wtf8_memory"):
+        size, aligned = map(int, re.search(rf"{name}: (\d+) bytes, aligned to (\d+)", ABI.read_text()).groups())
+        wrong += ctypes.sizeof(kind) != size or ctypes.alignment(kind) != aligned
     last, last_units = String(), []
     for _ in range(count):
         units = [draw.randrange(*draw.choice(BELOW)) for _ in range(draw.choice([0, 1, 2, 5, 40, 300]))]

@@ -1,8 +1,9 @@
 -- Numbers of units, and units that are written one part after another.
-use Rattle.std.proofs.Common.{◌≡◌, ◌+◌, ◌-◌, ◌<◌, ◌≤◌, ◌++◌, ℕ, List, [], ◌∷◌, Option, Some, None, length, take, drop, ap, sym, ◌∙◌, arith}
+use Rattle.std.proofs.Common.{◌≡◌, ◌+◌, ◌-◌, ◌<◌, ◌≤◌, ◌++◌, ℕ, List, [], ◌∷◌, Option, Some, None, length, take, drop, slice_get, suc, ap, sym, ◌∙◌, arith}
 use Rattle.std.proofs.Common.{MatchOption, append_assoc, append-nil, length-append, length-take}
-use Rattle.std.proofs.Math.Seq.{take-append-add, drop-append-add}
+use Rattle.std.proofs.Math.Seq.{take-append-add, drop-append-add, drop-cons}
 use Rattle.std.proofs.lemmas.List.{drop-drop, drop_all, take-append-drop}
+use Rattle.std.proofs.lemmas.Option.{get_or_from_slice_get, slice_get_within}
 use Rattle.std.proofs.lemmas.Slice.{take-put_mid, drop-put_mid}
 use borrow.Rule.Slice.PartMut.{put_mid}
 use Rattle.unit_text.specs.Written.{WritesAt}
@@ -43,3 +44,10 @@ WritesAt-part old ys v at k rest within long front back =
 pub after_first : (r : Option ℕ) (s t : List ℕ) → 0 < length s → MatchOption r ((s ≡ []) × (t ≡ [])) (λ x. s ≡ x ∷ t) → t ≡ drop 1 s
 after_first None s t n e = absurd (omega (arith, n, ap length e.0))
 after_first (Some x) s t n e = sym (ap (drop 1) e)
+
+-- the units from index `b` on, at which `x` stands
+pub drop_unit : (u : List ℕ) (b x : ℕ) → slice_get u b ≡ Some x → drop b u ≡ x ∷ drop (b + 1) u
+drop_unit u b x e =
+    let next : suc b ≡ b + 1 = omega arith in
+    drop-cons u b 0 (slice_get_within u b x e) ∙ ap (λ y. y ∷ drop (suc b) u) (get_or_from_slice_get u b x 0 e)
+    ∙ ap (λ n. x ∷ drop n u) next

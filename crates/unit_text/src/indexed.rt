@@ -266,13 +266,20 @@ impl<A: Allocator> IndexedBuf<A> {
 
     /// Whether the code units from index `begin` on begin with these. No units are found everywhere, also past the end. Does
     /// not allocate.
+    #[tactic(auto, using(crate::proofs::UnitLemmas::drop_unit))]
     pub fn starts_with_units_at(&self, begin: usize, units: &[u16]) -> bool
         ensures { IsTrue result ↔ (take (length units.now) (drop begin self.now.units) ≡ units.now) }
     {
-        if self.count <= begin {
-            return units.is_empty();
+        if let Some(rest) = self.units_from(begin.min(self.count)).as_wtf8() {
+            return rest.starts_with_units(units);
         }
-        slices::begins_with(self.slice_units(begin, self.count), units)
+        // The first unit is the trail of a pair, after which a code point begins.
+        match (self.unit_at(begin), units.split_first()) {
+            (Some(trail), Some((first, later))) => {
+                trail == *first && self.starts_with_units_at(begin + 1, later)
+            }
+            _ => units.is_empty(),
+        }
     }
 
     /// The byte position of the code point boundary before the code unit at index `i`, or of the end if `i` is the

@@ -1,6 +1,6 @@
 // Slices of units, copied and compared.
 ghost use Rattle.std.specs.Option.{option_to_list};
-ghost use Rattle.std.specs.Prelude.{◌≡◌, ◌↔◌, ◌+◌, ◌^◌, ◌<◌, ◌≤◌, length, take, [], IfOk, IsOk, IsNone, IsTrue};
+ghost use Rattle.std.specs.Prelude.{◌≡◌, ◌↔◌, ◌+◌, ◌^◌, ◌<◌, ◌≤◌, length, take, [], IfOk, IsOk, IsTrue};
 ghost use Rattle.unit_text.specs.Written.{WritesAt};
 ghost use Rattle.wtf8.specs.UnitPosition.{units_of_slice};
 ghost use Rattle.wtf8.specs.View.{view_units};
@@ -50,20 +50,6 @@ pub(crate) fn has_front(view: Wtf8<'_>, other: Wtf8<'_>) -> bool
     ensures { IsTrue result → take (length (view_units other.entry)) (view_units view.entry) ≡ view_units other.entry }
 {
     view.is_code_point_boundary(other.len()) && view.slice_to(other.len()) == other
-}
-
-/// Whether the code units of a slice up to the end of its string begin with these.
-pub(crate) fn begins_with(slice: UnitSlice<'_>, units: &[u16]) -> bool
-    requires { IsNone slice.lead }
-    ensures { IsTrue result ↔ (take (length units.now) (units_of_slice slice.entry) ≡ units.now) }
-{
-    let Some(trail) = slice.trail else {
-        return slice.whole.starts_with_units(units);
-    };
-    let Some((first, rest)) = units.split_first() else {
-        return true;
-    };
-    trail == *first && slice.whole.starts_with_units(rest)
 }
 
 /// Whether a slice has the code units of `other`, compared one by one.
