@@ -2,10 +2,11 @@
  * code points ("points") out, empties it and appends an equal one ("append") or its units ("push"), compares it with an
  * equal one by bytes ("equal"), by units ("order") or as a front ("prefix"), or with its units ("same", "with"), hashes
  * these ("hashed"), asks for its length ("length"), for the unit in the middle ("unit"), its position ("at") or the
- * index of that ("before"), or whether 12 units stand there ("starts"), copies 64 units from there ("part") or appends
- * them to an empty string ("slice"), or walks a step, from the start again after the end ("next"), or back ("back").
- * "marked" before one of these marks the string. The input says which, for which text or pattern, of how many units, at
- * most 100,000, and how often. c/count, gate/instructions and compare/patterns count what it takes. */
+ * index of that ("before"), or whether a string ("starts") or an array ("begins") of 12 units stands there, copies 64
+ * units from there ("part") or appends them to an empty string ("slice"), or walks a step, from the start again after the
+ * end ("next"), or back ("back"). "marked" before one of these marks the string. The input says which, for which text or
+ * pattern, of how many units, at most 100,000, and how often. c/count, gate/instructions and compare/patterns count what
+ * it takes. */
 #include "../wtf8.h"
 #include "patterns.h"
 
@@ -29,9 +30,9 @@ static void fill(const char *text, uint16_t *units, size_t n) {
     else for (size_t i = 0; i < n; i++) units[i] = unit_of(text, i);
 }
 
-enum call { IN, OUT, APPEND, EQUAL, ORDER, LENGTH, UNIT, PART, PUSH, SAME, WITH, AT, BEFORE, STARTS, SLICE, NEXT, BACK, PREFIX, HASHED, POINTS, TEXT, NEW };
+enum call { IN, OUT, APPEND, EQUAL, ORDER, LENGTH, UNIT, PART, PUSH, SAME, WITH, AT, BEFORE, STARTS, BEGINS, SLICE, NEXT, BACK, PREFIX, HASHED, POINTS, TEXT, NEW };
 static const char *const names[] = {"in", "out", "append", "equal", "order", "length", "unit", "part", "push", "same", "with",
-                                    "at", "before", "starts", "slice", "next", "back", "prefix", "hashed", "points", "text",
+                                    "at", "before", "starts", "begins", "slice", "next", "back", "prefix", "hashed", "points", "text",
                                     "new"};
 
 /* A loop of its own, so that nothing but the call is in it. */
@@ -82,6 +83,7 @@ int main(void) {
         case AT: REPEAT(wtf8_position_at(&string, count / 2, &at) != WTF8_OK);
         case BEFORE: REPEAT(wtf8_unit_before(&string, middle) != count / 2);
         case STARTS: REPEAT(!wtf8_starts_with(&string, count / 2, &part));
+        case BEGINS: REPEAT(!wtf8_starts_with_units(&string, count / 2, units + count / 2, 12));
         case SLICE: REPEAT((wtf8_clear(&part), wtf8_push_slice(&part, &string, count / 2, count / 2 + 64) != WTF8_OK));
         case NEXT: REPEAT((at = at < len ? at : 0, wtf8_next_code_point(&string, &at, &value) != WTF8_OK));
         case BACK: REPEAT((at = 0 < at ? at : len, wtf8_previous_code_point(&string, &at, &value) != WTF8_OK));
