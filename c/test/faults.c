@@ -1,4 +1,5 @@
-/* Faults of a caller, of which each sanitizer must name its own. Argument: the fault's name, or `none`. */
+/* Faults of a caller, of which each sanitizer must name its own. Argument: the fault's name, or `none`. Addresses are volatile
+ * where the compiler would warn of the fault. */
 #define _DEFAULT_SOURCE
 #include "../wtf8.h"
 #include "must.h"
@@ -44,17 +45,17 @@ static void none(void) {
 /* 64 units are copied into 20 bytes. */
 static void short_to_write(void) {
     size_t n;
-    uint16_t *out = malloc(20);
+    uint16_t *volatile out = malloc(20);
     must(out != NULL && wtf8_copy_units(&shared, out, UNITS, &n) == WTF8_OK, "units copied");
 }
 
 /* 11 units are read of 10. */
 static void short_to_read(void) {
-    uint16_t *array = calloc(10, 2);
+    uint16_t *volatile array = calloc(10, 2);
     must(array != NULL && wtf8_push_units(&shared, array, 11) == WTF8_OK, "units pushed");
 }
 
-/* The units of an array that was freed are read. The address is volatile, so that the compiler does not warn. */
+/* The units of an array that was freed are read. */
 static void freed(void) {
     uint16_t *volatile array = calloc(10, 2);
     free(array);
@@ -70,7 +71,7 @@ static void freed_string(void) {
 
 /* A number is written after its array. */
 static void short_number(void) {
-    uint8_t *number = malloc(sizeof(size_t) - 1);
+    uint8_t *volatile number = malloc(sizeof(size_t) - 1);
     must(number != NULL && wtf8_position_at(&shared, 0, (size_t *)(void *)number) == WTF8_OK, "a position");
 }
 
@@ -118,7 +119,7 @@ static void assigned_and_grown(void) {
     must(wtf8_push_unit(&shared, 'b') == WTF8_OK, "a unit pushed");
 }
 
-/* A string that was not made empty is asked. The address is volatile, so that the compiler does not warn. */
+/* A string that was not made empty is asked. */
 static void not_made(void) {
     wtf8_string *volatile string = malloc(sizeof *string);
     must(string != NULL && wtf8_unit_len(string) == 0, "the length");
@@ -126,7 +127,7 @@ static void not_made(void) {
 
 /* The units of an array are read before they are written. */
 static void unwritten(void) {
-    uint16_t *array = malloc(20);
+    uint16_t *volatile array = malloc(20);
     must(array != NULL && wtf8_push_units(&shared, array, 10) == WTF8_OK, "units pushed");
 }
 
