@@ -1,0 +1,232 @@
+/* Each call that takes or hands out units or bytes, over strings of each length up to 130 that are of one kind but for one
+ * odd code point, at each place, and over texts with a sequence that is not UTF-8 at each place. So a wrong end of a loop over
+ * blocks, or a lane that is never looked at, is noticed at whatever length. */
+#define _DEFAULT_SOURCE
+#include "model.h"
+#include "must.h"
+
+#include <string.h>
+
+enum { LONGEST_LIST = 130, GUARD = 64, SPARE = 1000 };
+
+static const uint32_t kinds[] = {'a', 0xE9, 0x4E2D, 0x1F4A9};
+static const uint32_t odd_ones[] = {'b', 0x80, 0xFF, 0x7FF, 0x800, 0xD7FF, 0xE000, 0xFFFF, 0x10000, 0x10FFFF, 0xD800, 0xDBFF, 0xDC00, 0xDFFF};
+enum { KINDS = sizeof kinds / sizeof kinds[0], ODD_ONES = sizeof odd_ones / sizeof odd_ones[0] };
+
+/* The list, its bytes, and the same with U+FFFD in place of each surrogate; the first of these and the position after it, or
+ * 0. */
+static struct pair list;
+static uint8_t bytes[3 * MOST], lossy[3 * MOST];
+static size_t len, after_surrogate;
+static uint16_t surrogate;
+static long lists, texts;
+
+/* Makes the list of `n` units of a kind, with the odd code point from index `place` on. */
+static void fill(uint32_t kind, size_t n, uint32_t odd, size_t place) {
+    list.n = 0;
+    while (list.n < n) {
+        uint32_t value = list.n == place ? odd : kind;
+        uint16_t units[2];
+        size_t count = units_of(value, units);
+        for (size_t i = 0; i < count && list.n < n; i++) {
+            /* A pair that would pass over the place is cut, and so is one at the end. */
+            if (i == 1 && list.n == place && value == kind) break;
+            list.units[list.n++] = units[i];
+        }
+    }
+    len = after_surrogate = surrogate = 0;
+    for (size_t i = 0, taken = 0; i < n; i += taken) {
+        uint32_t c = point_at(&list, i, &taken);
+        int is_surrogate = 0xD800 <= c && c < 0xE000;
+        encode(is_surrogate ? 0xFFFD : c, lossy + len);
+        len += encode(c, bytes + len);
+        if (is_surrogate && after_surrogate == 0) {
+            after_surrogate = len;
+            surrogate = (uint16_t)c;
+        }
+    }
+}
+
+/* Arrays, of which no call may change what comes after the elements that it is given. */
+static uint16_t out[MOST];
+static uint8_t out_bytes[3 * MOST];
+
+static void guard(void) {
+    memset(out, 0x5A, 2 * (list.n + GUARD));
+    memset(out_bytes, 0x5A, len + GUARD);
+}
+
+static void must_have_units(const uint16_t *units, size_t n, const char *what) {
+    must(memcmp(out, units, 2 * n) == 0, what);
+    for (size_t i = n; i < n + GUARD; i++) must(out[i] == 0x5A5A, what);
+}
+
+static void must_have_bytes(const uint8_t *of, size_t n, const char *what) {
+    must(memcmp(out_bytes, of, n) == 0, what);
+    for (size_t i = n; i < n + GUARD; i++) must(out_bytes[i] == 0x5A, what);
+}
+
+/* The string has the units of the list, and the bytes, which its hash shows. */
+static void must_be_list(const wtf8_string *string, uint64_t hash, const char *what) {
+    must(wtf8_unit_len(string) == list.n && wtf8_byte_len(string) == len, what);
+    must(wtf8_hash(string, 1, 2) == hash && wtf8_is_utf8(string) == (after_surrogate == 0), what);
+}
+
+/* Asks a string of the list, which differs from it in the unit at `place` alone if there is one, for all that calls hand out. */
+static void ask(const wtf8_string *string, size_t place) {
+    size_t count, n = list.n, middle = place < n ? place : n / 2;
+    guard();
+    must(wtf8_copy_units(string, out, n, &count) == WTF8_OK && count == n, "copy_units");
+    must_have_units(list.units, n, "copy_units");
+    guard();
+    must(wtf8_copy_slice(string, middle, n, out, n - middle, &count) == WTF8_OK && count == n - middle, "copy_slice to the end");
+    must_have_units(list.units + middle, n - middle, "copy_slice to the end");
+    guard();
+    must(wtf8_copy_slice(string, 0, middle, out, middle, &count) == WTF8_OK && count == middle, "copy_slice from the start");
+    must_have_units(list.units, middle, "copy_slice from the start");
+    guard();
+    wtf8_result code = wtf8_copy_utf8(string, out_bytes, len, &count);
+    must(after_surrogate == 0 ? code == WTF8_OK && count == len : code == WTF8_HAS_SURROGATE, "copy_utf8");
+    if (code == WTF8_OK) must_have_bytes(bytes, len, "copy_utf8");
+    guard();
+    must(wtf8_copy_lossy(string, out_bytes, len, &count) == WTF8_OK && count == len, "copy_lossy");
+    must_have_bytes(lossy, len, "copy_lossy");
+    must(wtf8_equal_units(string, list.units, n), "equal_units");
+    must(wtf8_compare_with_units(string, list.units, n) == 0, "compare_with_units");
+    must(wtf8_starts_with_units(string, 0, list.units, n), "starts_with_units");
+    must(wtf8_starts_with_units(string, middle, list.units + middle, n - middle), "starts_with_units at an index");
+    if (place < n) {
+        list.units[place] ^= 1;
+        int order = list.units[place] & 1 ? -1 : 1;
+        must(!wtf8_equal_units(string, list.units, n), "equal_units of others");
+        must(wtf8_compare_with_units(string, list.units, n) == order, "compare_with_units of others");
+        must(!wtf8_starts_with_units(string, 0, list.units, n), "starts_with_units of others");
+        list.units[place] ^= 1;
+    }
+    size_t position = 0, points = 0, taken = 0, i = 0;
+    uint32_t values[LONGEST_LIST + 2];
+    must(wtf8_copy_code_points(string, &position, values, LONGEST_LIST + 2, &points) == (n > 0 ? WTF8_OK : WTF8_END), "copy_code_points");
+    must(position == len, "the position after all code points");
+    for (size_t k = 0; n > 0 && k < points; i += taken) must(i < n && point_at(&list, i, &taken) == values[k++], "a code point");
+    must(i == n, "the number of code points");
+    uint16_t unit = 0;
+    position = 0;
+    code = wtf8_next_surrogate(string, &position, &unit);
+    must(code == (after_surrogate > 0 ? WTF8_OK : WTF8_END), "next_surrogate");
+    must(position == after_surrogate && unit == surrogate, "the first surrogate");
+}
+
+static void units(size_t place) {
+    static wtf8_string new, set, roomy;
+    uint64_t hash = hash_of(&list, 1, 2);
+    size_t n = list.n;
+    lists++;
+    must(wtf8_encoded_len(list.units, n) == len, "encoded_len");
+    must(wtf8_hash_units(list.units, n, 1, 2) == hash, "hash_units");
+    wtf8_free(&new);
+    must(wtf8_set_units(&new, list.units, n) == WTF8_OK, "set_units of a new string");
+    must_be_list(&new, hash, "a new string");
+    ask(&new, place);
+    must(wtf8_set_units(&set, list.units, n) == WTF8_OK, "set_units");
+    must_be_list(&set, hash, "a string that is set again");
+    must(wtf8_equal(&new, &set) && wtf8_compare_units(&new, &set) == 0 && wtf8_compare_code_points(&new, &set) == 0, "equal");
+    /* Pushed to a string with room, of which the front is there: none, or what comes before the odd code point. */
+    for (size_t front = 0; front <= place && front <= n; front += place > 0 && place <= n ? place : n + 1) {
+        wtf8_clear(&roomy);
+        must(wtf8_reserve_bytes(&roomy, SPARE) == WTF8_OK, "room");
+        for (size_t i = 0; i < front; i++) must(wtf8_push_unit(&roomy, list.units[i]) == WTF8_OK, "push_unit");
+        must(wtf8_push_units(&roomy, list.units + front, n - front) == WTF8_OK, "push_units");
+        must_be_list(&roomy, hash, "a string with room");
+        must(wtf8_equal(&roomy, &new), "a string with room is equal");
+    }
+    wtf8_clear(&roomy);
+    must(wtf8_push_string(&roomy, &new) == WTF8_OK && wtf8_equal(&roomy, &new), "push_string");
+    if (after_surrogate == 0) {
+        must(wtf8_set_utf8(&set, bytes, len, NULL) == WTF8_OK, "set_utf8");
+        must_be_list(&set, hash, "a string set to a text");
+        wtf8_clear(&roomy);
+        must(wtf8_push_utf8(&roomy, bytes, len, NULL) == WTF8_OK, "push_utf8");
+        must_be_list(&roomy, hash, "a pushed text");
+        must(wtf8_equal_utf8(&new, bytes, len) && wtf8_hash_utf8(bytes, len, 1, 2) == hash, "equal_utf8, hash_utf8");
+    }
+    size_t latin = 0;
+    while (latin < n && list.units[latin] < 0x100) {
+        out_bytes[latin] = (uint8_t)list.units[latin];
+        latin++;
+    }
+    if (latin == n) {
+        wtf8_clear(&roomy);
+        must(wtf8_push_latin1(&roomy, out_bytes, n) == WTF8_OK, "push_latin1");
+        must_be_list(&roomy, hash, "a pushed text of Latin-1");
+    }
+}
+
+/* What a walk over UTF-8 finds: how many bytes at the front are right, and how many after them are wrong together, or 0 if
+ * all are right or the rest may be the front of a code point. By the table of well-formed sequences of the Unicode standard. */
+static size_t right_bytes(const uint8_t *text, size_t n, size_t *wrong) {
+    size_t at = 0;
+    *wrong = 0;
+    while (at < n) {
+        uint8_t lead = text[at];
+        size_t more = lead < 0x80 ? 0 : lead < 0xC2 ? 9 : lead < 0xE0 ? 1 : lead < 0xF0 ? 2 : lead < 0xF5 ? 3 : 9, i = 1;
+        uint8_t least = lead == 0xE0 ? 0xA0 : lead == 0xF0 ? 0x90 : 0x80, most = lead == 0xED ? 0x9F : lead == 0xF4 ? 0x8F : 0xBF;
+        if (more == 9) { *wrong = 1; return at; }
+        for (; i <= more && at + i < n; i++) {
+            if (text[at + i] < least || most < text[at + i]) { *wrong = i; return at; }
+            least = 0x80, most = 0xBF;
+        }
+        if (i <= more) return at;
+        at += more + 1;
+    }
+    return at;
+}
+
+/* Sequences that are wrong, or right only where they are followed by what they lack. */
+static const char *const sequences[] = {
+    "\x80", "\xBF", "\xC0\x80", "\xC1\xBF", "\xC2", "\xDF\xBF", "\xE0\x9F\xBF", "\xE0\xA0", "\xE0\xA0\x80", "\xED\x9F\xBF", "\xED\xA0\x80",
+    "\xEF\xBF", "\xEF\xBF\xBF", "\xF0\x8F\xBF\xBF", "\xF0\x90\x80", "\xF0\x90\x80\x80", "\xF4\x8F\xBF\xBF", "\xF4\x90\x80\x80", "\xF5\x80", "\xFF"};
+enum { SEQUENCES = sizeof sequences / sizeof sequences[0] };
+
+static void text(const uint8_t *of, size_t n) {
+    static wtf8_string string, part;
+    size_t wrong, right = right_bytes(of, n, &wrong), used = 77, bad = 77, valid = 77;
+    texts++;
+    wtf8_clear(&string);
+    wtf8_clear(&part);
+    must(wtf8_push_utf8_part(&part, of, n, &used, &bad) == WTF8_OK && used == right && bad == wrong, "push_utf8_part");
+    must(wtf8_byte_len(&part) == right && wtf8_hash(&part, 1, 2) == wtf8_hash_utf8(of, right, 1, 2), "the front that is UTF-8");
+    wtf8_result code = wtf8_set_utf8(&string, of, n, &valid);
+    must(right == n ? code == WTF8_OK : code == WTF8_NOT_UTF8 && valid == right, "set_utf8");
+    must(wtf8_byte_len(&string) == (right == n ? n : 0), "the length of a text");
+    must(wtf8_equal_utf8(&part, of, n) == (right == n), "equal_utf8");
+    valid = 77;
+    code = wtf8_push_utf8(&string, of, n, &valid);
+    must(right == n ? code == WTF8_OK : code == WTF8_NOT_UTF8 && valid == right, "push_utf8");
+    must(wtf8_byte_len(&string) == (right == n ? 2 * n : 0), "the length of a pushed text");
+}
+
+int main(void) {
+    for (size_t n = 0; n <= LONGEST_LIST; n++)
+        for (size_t place = 0; place <= n; place++)
+            for (size_t kind = 0; kind < KINDS; kind++)
+                for (size_t odd = 0; odd < ODD_ONES; odd++) {
+                    fill(kinds[kind], n, odd_ones[odd], place);
+                    units(place);
+                    if (place == n) break;
+                }
+    uint8_t of[2 * MOST];
+    for (size_t n = 0; n <= LONGEST_LIST; n++)
+        for (size_t place = 0; place <= n; place++)
+            for (size_t kind = 0; kind < KINDS; kind++)
+                for (size_t s = 0; s < SEQUENCES; s++) {
+                    size_t at = 0, size = strlen(sequences[s]);
+                    while (at < place) at += encode(kinds[kind], of + at);
+                    memcpy(of + at, sequences[s], size);
+                    at += size;
+                    while (at < n) at += encode(kinds[kind], of + at);
+                    text(of, at);
+                    if (size < at) text(of, at - 1);
+                }
+    printf("places: %ld lists, %ld texts, no difference\n", lists, texts);
+    return 0;
+}
