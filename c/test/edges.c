@@ -994,6 +994,18 @@ static void marks(void) {
             wtf8_free(&letters_only);
         }
     }
+    for (size_t popped = 1; popped <= 3; popped++) {
+        wtf8_string string = WTF8_EMPTY;
+        uint32_t point;
+        marked_units(units, MARKED, 64);
+        must(wtf8_set_units(&string, units, SPACING + 2) == WTF8_OK && wtf8_mark(&string) == WTF8_OK, "a string to pop of");
+        for (size_t i = 0; i < popped; i++) must(wtf8_pop(&string, &point) == WTF8_OK, "a letter of a marked string");
+        size_t n = SPACING + 2 - popped;
+        for (size_t i = n; i < MARKED; i++) units[i] = 'a';
+        must(wtf8_push_units(&string, units + n, MARKED - n) == WTF8_OK, "units after a pop");
+        must_find(&string, units, MARKED, "a marked string after a pop");
+        wtf8_free(&string);
+    }
     wtf8_string none = WTF8_EMPTY;
     refuse_after = 0;
     must(wtf8_mark(&none) == WTF8_OK, "marks of a string without a buffer");
@@ -1063,6 +1075,88 @@ static void replaced_in_place(void) {
     refuse_after = -1;
     wtf8_free(&string);
     wtf8_free(&other);
+}
+
+/* Lists and texts of each length up to 130 are appended, with each request refused: if there is just room for them no
+ * request is made, and if a byte lacks the string keeps its contents. */
+static void rooms(void) {
+    enum { LONGEST_LIST = 130, WAYS = 5 };
+    static const uint16_t kinds[] = {'b', 0xE9, 0x4E2D, 0xD800};
+    uint16_t units[LONGEST_LIST];
+    uint8_t text[3 * LONGEST_LIST], latin[LONGEST_LIST];
+    for (size_t kind = 0; kind < sizeof kinds / sizeof kinds[0]; kind++) {
+        for (size_t n = 1; n <= LONGEST_LIST; n++) {
+            wtf8_string list = WTF8_EMPTY;
+            size_t bytes = 0;
+            for (size_t i = 0; i < n; i++) {
+                units[i] = kinds[kind];
+                latin[i] = (uint8_t)kinds[kind];
+                bytes += encode(kinds[kind], text + bytes);
+            }
+            must(wtf8_set_units(&list, units, n) == WTF8_OK, "a list");
+            for (int way = 0; way < WAYS; way++) {
+                if ((way == 1 && kind > 1) || (way == 2 && kind > 2)) continue;
+                for (size_t lacking = 0; lacking < 2; lacking++) {
+                    wtf8_string string = WTF8_EMPTY;
+                    wtf8_result code = WTF8_OK;
+                    must(wtf8_reserve_bytes(&string, bytes) == WTF8_OK, "room");
+                    size_t before = wtf8_capacity(&string) - bytes + lacking;
+                    must(wtf8_push_utf8(&string, letters, before, NULL) == WTF8_OK, "letters before");
+                    long requested = requests;
+                    refuse_after = 0;
+                    switch (way) {
+                        case 0: code = wtf8_push_units(&string, units, n); break;
+                        case 1: code = wtf8_push_latin1(&string, latin, n); break;
+                        case 2: code = wtf8_push_utf8(&string, text, bytes, NULL); break;
+                        case 3: code = wtf8_push_string(&string, &list); break;
+                        default: code = wtf8_push_slice(&string, &list, 0, n);
+                    }
+                    refuse_after = -1;
+                    must(code == (lacking ? WTF8_NO_MEMORY : WTF8_OK), "what fits, or lacks a byte");
+                    must(lacking || requests == requested, "requests for what fits");
+                    must(wtf8_unit_len(&string) == before + (lacking ? 0 : n), "the units of what fits");
+                    must(wtf8_byte_len(&string) == before + (lacking ? 0 : bytes), "the bytes of what fits");
+                    must(lacking || wtf8_starts_with(&string, before, &list), "what fits");
+                    must(wtf8_truncate_units(&string, before) == WTF8_OK, "what was there before");
+                    must(wtf8_equal_utf8(&string, letters, before), "the letters before");
+                    wtf8_free(&string);
+                }
+            }
+            wtf8_free(&list);
+        }
+    }
+}
+
+/* Lists about 1,024 units replace others: up to that number three bytes for each are kept, of more their bytes, and a
+ * refused one leaves the string. */
+static void set_long(void) {
+    enum { ROOMY = 1024, LONGEST_LIST = ROOMY + 100 };
+    static const size_t lengths[] = {ROOMY - 1, ROOMY, ROOMY + 1, LONGEST_LIST};
+    static uint16_t units[LONGEST_LIST];
+    for (size_t k = 0; k < sizeof lengths / sizeof lengths[0]; k++) {
+        size_t n = lengths[k];
+        wtf8_string string = WTF8_EMPTY;
+        for (size_t i = 0; i < n; i++) units[i] = (uint16_t)(i % 2 ? 0x4E2D : 'a');
+        must(wtf8_set_units(&string, units, 1) == WTF8_OK && wtf8_set_units(&string, units, n) == WTF8_OK, "a long list");
+        size_t capacity = wtf8_capacity(&string), needed = n <= ROOMY ? 3 * n : wtf8_encoded_len(units, n);
+        must(needed <= capacity && wtf8_byte_len(&string) == wtf8_encoded_len(units, n), "the capacity of a long list");
+        refuse_after = 0;
+        for (size_t i = 0; i < n; i++) units[i] = (uint16_t)(n <= ROOMY || i % 2 ? 0x4E2E : 'b');
+        must(wtf8_set_units(&string, units, n) == WTF8_OK, "a list as long that is refused nothing");
+        must(wtf8_capacity(&string) == capacity, "the capacity that is kept");
+        must_have(&string, units, n, "a list as long");
+        uint16_t first = units[0];
+        size_t more = capacity / 3 + 1 < LONGEST_LIST ? capacity / 3 + 1 : LONGEST_LIST;
+        for (size_t i = 0; i < LONGEST_LIST; i++) units[i] = 0x4E2D;
+        wtf8_result code = wtf8_set_units(&string, units, more);
+        must(code == (3 * more <= capacity ? WTF8_OK : WTF8_NO_MEMORY), "a longer list that is refused");
+        must(code == WTF8_OK || (wtf8_unit_len(&string) == n && wtf8_capacity(&string) == capacity), "the string after it");
+        must(code == WTF8_OK || (wtf8_unit_at(&string, 0, units) == WTF8_OK && units[0] == first), "its first unit");
+        must(wtf8_set_units(&string, units, 3) == WTF8_OK && wtf8_capacity(&string) == capacity, "the capacity after few units");
+        refuse_after = -1;
+        must(wtf8_set_units(&string, units, 3) == WTF8_OK && wtf8_capacity(&string) == capacity, "the same with memory granted");
+        wtf8_free(&string);
+    }
 }
 
 /* A string that is set again has room for any units of that number from then on. */
@@ -1393,6 +1487,8 @@ int main(void) {
     marks();
     reserve();
     replaced_in_place();
+    rooms();
+    set_long();
     set_again();
     encoded_lens();
     sliced_in_place();

@@ -7,9 +7,9 @@
 
 #include <string.h>
 
-enum { LONGEST_LIST = 130, GUARD = 64, SPARE = 1000 };
+enum { LONGEST_LIST = 130, LONG_LIST = 700, GUARD = 64, SPARE = 3000 };
 
-static const uint32_t kinds[] = {'a', 0xE9, 0x4E2D, 0x1F4A9};
+static const uint32_t kinds[] = {'a', 0xE9, 0x4E2D, 0x1F4A9, 0xD83D};
 static const uint32_t odd_ones[] = {'b', 0x80, 0xFF, 0x7FF, 0x800, 0xD7FF, 0xE000, 0xFFFF, 0x10000, 0x10FFFF, 0xD800, 0xDBFF, 0xDC00, 0xDFFF};
 enum { KINDS = sizeof kinds / sizeof kinds[0], ODD_ONES = sizeof odd_ones / sizeof odd_ones[0] };
 
@@ -21,21 +21,10 @@ static size_t len, after_surrogate;
 static uint16_t surrogate;
 static long lists, texts;
 
-/* Makes the list of `n` units of a kind, with the odd code point from index `place` on. */
-static void fill(uint32_t kind, size_t n, uint32_t odd, size_t place) {
-    list.n = 0;
-    while (list.n < n) {
-        uint32_t value = list.n == place ? odd : kind;
-        uint16_t units[2];
-        size_t count = units_of(value, units);
-        for (size_t i = 0; i < count && list.n < n; i++) {
-            /* A pair that would pass over the place is cut, and so is one at the end. */
-            if (i == 1 && list.n == place && value == kind) break;
-            list.units[list.n++] = units[i];
-        }
-    }
+/* Computes the bytes of the list. */
+static void encode_list(void) {
     len = after_surrogate = surrogate = 0;
-    for (size_t i = 0, taken = 0; i < n; i += taken) {
+    for (size_t i = 0, taken = 0; i < list.n; i += taken) {
         uint32_t c = point_at(&list, i, &taken);
         int is_surrogate = 0xD800 <= c && c < 0xE000;
         encode(is_surrogate ? 0xFFFD : c, lossy + len);
@@ -45,6 +34,23 @@ static void fill(uint32_t kind, size_t n, uint32_t odd, size_t place) {
             surrogate = (uint16_t)c;
         }
     }
+}
+
+/* Makes the list of `n` units of a kind, with the odd code point from index `place` on, and from `again` on. Each letter of
+ * four bytes has another lead. */
+static void fill(uint32_t kind, size_t n, uint32_t odd, size_t place, size_t again) {
+    list.n = 0;
+    while (list.n < n) {
+        uint32_t value = list.n == place || list.n == again ? odd : kind < 0x10000 ? kind : kind + 0x401 * (uint32_t)(list.n % 9);
+        uint16_t units[2];
+        size_t count = units_of(value, units);
+        for (size_t i = 0; i < count && list.n < n; i++) {
+            /* A pair that would pass over a place is cut, and so is one at the end. */
+            if (i == 1 && (list.n == place || list.n == again)) break;
+            list.units[list.n++] = units[i];
+        }
+    }
+    encode_list();
 }
 
 /* Arrays, of which no call may change what comes after the elements that it is given. */
@@ -104,8 +110,8 @@ static void ask(const wtf8_string *string, size_t place) {
         list.units[place] ^= 1;
     }
     size_t position = 0, points = 0, taken = 0, i = 0;
-    uint32_t values[LONGEST_LIST + 2];
-    must(wtf8_copy_code_points(string, &position, values, LONGEST_LIST + 2, &points) == (n > 0 ? WTF8_OK : WTF8_END), "copy_code_points");
+    uint32_t values[LONG_LIST + 2];
+    must(wtf8_copy_code_points(string, &position, values, LONG_LIST + 2, &points) == (n > 0 ? WTF8_OK : WTF8_END), "copy_code_points");
     must(position == len, "the position after all code points");
     for (size_t k = 0; n > 0 && k < points; i += taken) must(i < n && point_at(&list, i, &taken) == values[k++], "a code point");
     must(i == n, "the number of code points");
@@ -184,7 +190,8 @@ static size_t right_bytes(const uint8_t *text, size_t n, size_t *wrong) {
 /* Sequences that are wrong, or right only where they are followed by what they lack. */
 static const char *const sequences[] = {
     "\x80", "\xBF", "\xC0\x80", "\xC1\xBF", "\xC2", "\xDF\xBF", "\xE0\x9F\xBF", "\xE0\xA0", "\xE0\xA0\x80", "\xED\x9F\xBF", "\xED\xA0\x80",
-    "\xEF\xBF", "\xEF\xBF\xBF", "\xF0\x8F\xBF\xBF", "\xF0\x90\x80", "\xF0\x90\x80\x80", "\xF4\x8F\xBF\xBF", "\xF4\x90\x80\x80", "\xF5\x80", "\xFF"};
+    "\xEF\xBF", "\xEF\xBF\xBF", "\xF0\x8F\xBF\xBF", "\xF0\x90\x80", "\xF0\x90\x80\x80", "\xF4\x8F\xBF\xBF", "\xF4\x90\x80\x80", "\xF5\x80", "\xFF",
+    "\xE1", "\xF0\x90", "\xF4"};
 enum { SEQUENCES = sizeof sequences / sizeof sequences[0] };
 
 static void text(const uint8_t *of, size_t n) {
@@ -205,15 +212,34 @@ static void text(const uint8_t *of, size_t n) {
     must(wtf8_byte_len(&string) == (right == n ? 2 * n : 0), "the length of a pushed text");
 }
 
+/* One odd code point in a list, or in ASCII two. */
+static void lists_of(size_t n, size_t place) {
+    for (size_t kind = 0; kind < KINDS; kind++)
+        for (size_t odd = 0; odd < ODD_ONES; odd++) {
+            fill(kinds[kind], n, odd_ones[odd], place, place);
+            units(place);
+            if (place == n) break;
+            if (kind > 0 || place + 5 >= n) continue;
+            fill(kinds[kind], n, odd_ones[odd], place, place + 5);
+            units(place);
+        }
+}
+
 int main(void) {
     for (size_t n = 0; n <= LONGEST_LIST; n++)
-        for (size_t place = 0; place <= n; place++)
-            for (size_t kind = 0; kind < KINDS; kind++)
-                for (size_t odd = 0; odd < ODD_ONES; odd++) {
-                    fill(kinds[kind], n, odd_ones[odd], place);
-                    units(place);
-                    if (place == n) break;
-                }
+        for (size_t place = 0; place <= n; place++) lists_of(n, place);
+    /* Long lists, and ASCII before up to 39 units of another kind, which end in the last blocks. */
+    for (size_t place = 0; place <= LONG_LIST; place += 23) lists_of(LONG_LIST, place);
+    for (size_t n = 200; n <= 264; n++)
+        for (size_t last = 0; last < 40; last++)
+            for (size_t kind = 1; kind < KINDS; kind++) {
+                fill(kinds[kind], last, 0, n, n);
+                memmove(list.units + n - last, list.units, 2 * last);
+                for (size_t i = 0; i < n - last; i++) list.units[i] = (uint16_t)('a' + i % 26);
+                list.n = n;
+                encode_list();
+                units(n - last);
+            }
     uint8_t of[2 * MOST];
     for (size_t n = 0; n <= LONGEST_LIST; n++)
         for (size_t place = 0; place <= n; place++)
