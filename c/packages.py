@@ -1,0 +1,121 @@
+"""Packs what c/dist laid out as other tools install it: a wheel for pip, and packages of Debian's. The same files give the
+same bytes. Needs no network; the packages of Debian's need dpkg-deb."""
+import base64
+import hashlib
+import os
+import pathlib
+import re
+import shutil
+import subprocess
+import sys
+import tempfile
+import time
+import zipfile
+
+SUMMARY = "Proved strings of any 16-bit code units"
+TRIPLET = "x86_64-linux-gnu"
+# The newest version of glibc whose symbols the tag of the wheel allows.
+MANYLINUX = "manylinux2014", (2, 17)
+# The release that each symbol version began with.
+RELEASES = {"WTF8_0": "0.1.0", "WTF8_0.2": "0.2.0"}
+
+
+def wheel(root, version, folder, packed):
+    """Writes the wheel: the module as a package, with the shared library in it."""
+    library = root / "lib/libwtf8.so.0"
+    needed = re.findall(r"GLIBC_(\d+)\.(\d+)", subprocess.run(["readelf", "-VW", library], check=True, capture_output=True, text=True).stdout)
+    newest = max(tuple(map(int, each)) for each in needed)
+    if MANYLINUX[1] < newest:
+        sys.exit(f"c/dist: the library needs glibc {newest}, which {MANYLINUX[0]} does not allow")
+    tag = f"py3-none-{MANYLINUX[0]}_x86_64"
+    info = f"wtf8-{version}.dist-info"
+    metadata = [
+        "Metadata-Version: 2.1", "Name: wtf8", f"Version: {version}", f"Summary: {SUMMARY}",
+        f"License: {(root / 'LICENSE').read_text().splitlines()[0]}", "Requires-Python: >=3.7", "Operating System :: POSIX :: Linux",
+    ]
+    metadata[-1] = "Classifier: " + metadata[-1]
+    files = {
+        "wtf8/__init__.py": (root / "lib/wtf8.py").read_bytes(),
+        "wtf8/py.typed": b"",
+        "wtf8/libwtf8.so.0": library.read_bytes(),
+        f"{info}/LICENSE": (root / "LICENSE").read_bytes(),
+        f"{info}/METADATA": "\n".join([*metadata, ""]).encode(),
+        f"{info}/WHEEL": f"Wheel-Version: 1.0\nGenerator: c/dist\nRoot-Is-Purelib: false\nTag: {tag}\n".encode(),
+    }
+    lines = []
+    for name, content in files.items():
+        digest = base64.urlsafe_b64encode(hashlib.sha256(content).digest()).rstrip(b"=").decode()
+        lines.append(f"{name},sha256={digest},{len(content)}")
+    files[f"{info}/RECORD"] = "\n".join([*lines, f"{info}/RECORD,,", ""]).encode()
+    to = folder / f"wtf8-{version}-{tag}.whl"
+    with zipfile.ZipFile(to, "w", zipfile.ZIP_DEFLATED) as out:
+        for name, content in files.items():
+            entry = zipfile.ZipInfo(name, time.gmtime(packed)[:6])
+            entry.external_attr = (0o755 if name.endswith(".so.0") else 0o644) << 16
+            entry.create_system, entry.compress_type = 3, zipfile.ZIP_DEFLATED
+            out.writestr(entry, content)
+    print(to)
+
+
+def symbols(root):
+    """The file of symbols: each with the release that added it."""
+    listed = subprocess.run(["nm", "-D", "--defined-only", "--with-symbol-versions", root / "lib/libwtf8.so.0"], check=True, capture_output=True, text=True).stdout
+    lines = [f"{node}@{node} {release}" for node, release in RELEASES.items()]
+    for name, node in re.findall(r" T (\w+)@@(\S+)$", listed, re.M):
+        lines.append(f"{name}@{node} {RELEASES[node]}")
+    return "libwtf8.so.0 libwtf8-0 #MINVER#\n" + "".join(f" {line}\n" for line in sorted(lines))
+
+
+def package(name, version, folder, packed, depends, files, control=()):
+    """Writes a package of Debian's with files, by their places, and further files of its control."""
+    with tempfile.TemporaryDirectory() as work:
+        tree = pathlib.Path(work) / "tree"
+        for place, file in files.items():
+            to = tree / place
+            to.parent.mkdir(parents=True, exist_ok=True)
+            if isinstance(file, str):
+                to.symlink_to(file)
+            else:
+                shutil.copyfile(file, to)
+        (tree / "DEBIAN").mkdir()
+        fields = [
+            f"Package: {name}", f"Version: {version}", "Architecture: amd64", "Section: libs", "Priority: optional",
+            f"Maintainer: {os.environ.get('DEBFULLNAME', 'nobody')} <{os.environ.get('DEBEMAIL', 'nobody@localhost')}>",
+            f"Depends: {depends}", f"Description: {SUMMARY}", "",
+        ]
+        (tree / "DEBIAN/control").write_text("\n".join(fields))
+        for file, text in dict(control).items():
+            (tree / "DEBIAN" / file).write_text(text)
+        for path in [tree, *tree.rglob("*")]:
+            if not path.is_symlink():
+                path.chmod(0o755 if path.is_dir() else 0o644)
+        to = folder / f"{name}_{version}_amd64.deb"
+        environment = {**os.environ, "SOURCE_DATE_EPOCH": str(packed)}
+        subprocess.run(["dpkg-deb", "--root-owner-group", "-Zgzip", "--build", tree, to], check=True, stdout=subprocess.DEVNULL, env=environment)
+        print(to)
+
+
+def debs(root, version, folder, packed):
+    """Writes the packages of the library and of what a program is built with."""
+    lib, doc = f"usr/lib/{TRIPLET}", "usr/share/doc"
+    with tempfile.TemporaryDirectory() as work:
+        pc, cmake = pathlib.Path(work) / "wtf8.pc", pathlib.Path(work) / "wtf8-config.cmake"
+        text = (root / "lib/pkgconfig/wtf8.pc").read_text()
+        pc.write_text(re.sub(r"^libdir=.*", f"libdir=${{prefix}}/lib/{TRIPLET}", re.sub(r"^prefix=.*", "prefix=/usr", text, flags=re.M), flags=re.M))
+        text = (root / "lib/cmake/wtf8/wtf8-config.cmake").read_text()
+        cmake.write_text(text.replace("${wtf8_libdir}/../include", "${wtf8_libdir}/../../include"))
+        package("libwtf8-0", version, folder, packed, "libc6 (>= 2.17)", {
+            f"{lib}/libwtf8.so.0": root / "lib/libwtf8.so.0",
+            f"{doc}/libwtf8-0/copyright": root / "LICENSE",
+        }, {"symbols": symbols(root), "triggers": "activate-noawait ldconfig\n"})
+        package("libwtf8-dev", version, folder, packed, f"libwtf8-0 (= {version})", {
+            f"{lib}/libwtf8.so": "libwtf8.so.0",
+            f"{lib}/libwtf8.a": root / "lib/libwtf8.a",
+            f"{lib}/pkgconfig/wtf8.pc": pc,
+            f"{lib}/cmake/wtf8/wtf8-config.cmake": cmake,
+            f"{lib}/cmake/wtf8/wtf8-config-version.cmake": root / "lib/cmake/wtf8/wtf8-config-version.cmake",
+            f"{doc}/libwtf8-dev/copyright": root / "LICENSE",
+            f"{doc}/libwtf8-dev/README.md": root / "README.md",
+            **{f"usr/include/{file.name}": file for file in (root / "include").iterdir()},
+            **{f"{doc}/libwtf8-dev/examples/{file.name}": file for file in (root / "examples").iterdir()},
+        })
