@@ -72,9 +72,8 @@ fn begins_long_text(bytes: &[u8]) -> usize
     }
 }
 
-/// The number of bytes at the front each of which may follow the three before it. The last block overlaps the one before
-/// it.
-#[inline(always)]
+/// The number of bytes at the front each of which may follow the three before it. The last block, which overlaps the one
+/// before it, is tested first: the compiler then keeps the constants of a test in registers throughout the loop.
 fn follows_throughout(bytes: &[u8]) -> usize
     requires { LEAST ≤ length bytes.now }
     ensures { FollowsUpTo bytes.now result }
@@ -84,6 +83,7 @@ fn follows_throughout(bytes: &[u8]) -> usize
         return front;
     }
     let last = bytes.len() - LEAST;
+    let end = last + BEFORE + follows_in_block(bytes, last);
     let mut at = front - BEFORE;
     while at < last {
         if is_ascii_block(u8x32::from_slice(&bytes[at..])) {
@@ -96,7 +96,7 @@ fn follows_throughout(bytes: &[u8]) -> usize
             at += BLOCK;
         }
     }
-    last + BEFORE + follows_in_block(bytes, last)
+    end
 }
 
 /// The number of bytes at the front that blocks find to be UTF-8, but for a code point that is unfinished after them.
@@ -105,11 +105,13 @@ fn follows_at_front(bytes: &[u8]) -> usize
     ensures { FollowsUpTo bytes.now result }
 {
     match bytes.len() {
+        2..=3 if is_ascii_overlapping::<2>(bytes) => bytes.len(),
+        0..=3 => 0,
         4..=7 if is_ascii_overlapping::<4>(bytes) => bytes.len(),
         8..=15 if is_ascii_overlapping::<8>(bytes) => bytes.len(),
         16..=31 if is_ascii_overlapping::<16>(bytes) => bytes.len(),
         32..=63 if is_ascii_overlapping::<32>(bytes) => bytes.len(),
-        0..=BLOCK => begins_text(bytes),
+        ..=BLOCK => begins_text(bytes),
         LEAST.. => follows_throughout(bytes),
         _ => begins_text(&bytes[..BLOCK]),
     }
