@@ -49,25 +49,24 @@ fn follows_in_block(bytes: &[u8], at: usize) -> usize
     first_set_lane(wrong.to_bitmask()).unwrap_or(BLOCK)
 }
 
-/// The number of bytes at the front of at most `BLOCK` that may begin a text: they are copied between zeros.
+/// The number of the first `BLOCK` bytes that may begin a text: the bytes are copied between zeros.
 #[inline(always)]
 fn begins_text(bytes: &[u8]) -> usize
-    requires { length bytes.now ≤ BLOCK }
     ensures { FollowsUpTo bytes.now result }
 {
+    let count = bytes.len().min(BLOCK);
     let mut padded = [0; BEFORE + BLOCK];
-    padded[BEFORE..BEFORE + bytes.len()].copy_from_slice(bytes);
-    follows_in_block(&padded, 0).min(bytes.len())
+    padded[BEFORE..BEFORE + count].copy_from_slice(&bytes[..count]);
+    follows_in_block(&padded, 0).min(count)
 }
 
 /// The number of bytes of ASCII in whole blocks at the front, or how many of the first `BLOCK` bytes may begin a text.
 #[inline(always)]
 fn begins_long_text(bytes: &[u8]) -> usize
-    requires { BLOCK ≤ length bytes.now }
     ensures { FollowsUpTo bytes.now result }
 {
     match ascii_front_len(bytes) {
-        0 => begins_text(&bytes[..BLOCK]),
+        0 => begins_text(bytes),
         ascii => ascii,
     }
 }
@@ -99,7 +98,8 @@ fn follows_throughout(bytes: &[u8]) -> usize
     end
 }
 
-/// The number of bytes at the front that blocks find to be UTF-8, but for a code point that is unfinished after them.
+/// The number of bytes at the front each of which may follow the three before it. Up to three bytes are read one code
+/// point at a time unless they are ASCII.
 #[inline(always)]
 fn follows_at_front(bytes: &[u8]) -> usize
     ensures { FollowsUpTo bytes.now result }
@@ -111,15 +111,15 @@ fn follows_at_front(bytes: &[u8]) -> usize
         8..=15 if is_ascii_overlapping::<8>(bytes) => bytes.len(),
         16..=31 if is_ascii_overlapping::<16>(bytes) => bytes.len(),
         32..=63 if is_ascii_overlapping::<32>(bytes) => bytes.len(),
-        ..=BLOCK => begins_text(bytes),
-        LEAST.. => follows_throughout(bytes),
-        _ => begins_text(&bytes[..BLOCK]),
+        ..LEAST => begins_text(bytes),
+        _ => follows_throughout(bytes),
     }
 }
 
-/// The number of bytes, of the first `end`, before a code point that these leave unfinished.
+/// The index up to `end` at which a text may end: before a code point that the bytes up to `end` leave unfinished. If
+/// they are fewer than three, it is 0.
 #[inline(always)]
-fn whole_len(bytes: &[u8], end: usize) -> usize
+fn ends_text(bytes: &[u8], end: usize) -> usize
     requires { FollowsUpTo bytes.now end }
     ensures within { result ≤ length bytes.now }
     ensures utf8 { IsUtf8 (take result bytes.now) }
@@ -162,7 +162,7 @@ pub fn from_utf8(bytes: &[u8]) -> Result<&str, Utf8Error>
     ensures valid_len { IfErr result (λ e. valid_up_to e ≡ utf8_valid_len bytes.now) }
     ensures error_len { IfErr result (λ e. error_len e ≡ utf8_error_len (drop (valid_up_to e) bytes.now)) }
 {
-    let front = whole_len(bytes, follows_at_front(bytes));
+    let front = ends_text(bytes, follows_at_front(bytes));
     if front == bytes.len() {
         return Ok(unsafe { str::from_utf8_unchecked(bytes) });
     }

@@ -1,5 +1,5 @@
 -- Lanes that show which bytes may not follow the three before them.
-use Rattle.wtf8.proofs.Common.{◌≡◌, ℕ, zero, suc, ◌+◌, ◌*◌, ◌%◌, ◌^◌, ◌<◌, ◌≤◌, Bool, true, false, not, ◌&&◌, ◌||◌, cond}
+use Rattle.wtf8.proofs.Common.{◌≡◌, ℕ, zero, suc, ◌%◌, ◌^◌, ◌<◌, ◌≤◌, Bool, true, false, not, ◌&&◌, ◌||◌, cond}
 use Rattle.wtf8.proofs.Common.{List, [], ◌∷◌, map, length, get_or, replicate, refl, sym, ◌∙◌, arith, eqb, leb, ltb, bit_and, bit_or}
 use Rattle.wtf8.proofs.Common.{zip2, sel_l}
 use Rattle.wtf8.proofs.Common.{mask_l, top, nat_tests, Option, None, Some, unwrap_or, IsFirstSet, IsFirstIn, IsSet, NoneIn, false_from_ne_true}

@@ -1,4 +1,4 @@
-use Rattle.wtf8.proofs.lemmas.strings.Utf8Texts.{follows_in_front, follows_in_ascii_text}
+use Rattle.wtf8.proofs.lemmas.strings.Utf8Texts.{follows_in_ascii_text}
 use Rattle.wtf8.proofs.lanes.utf8.follows_at_front.Goals as goal
 
 pub returns-in-2-to-3 : goal.returns-in-2-to-3
@@ -18,6 +18,3 @@ returns-in-16-to-31 c = follows_in_ascii_text c.args.bytes.now
 pub returns-in-32-to-63 : goal.returns-in-32-to-63
 returns-in-32-to-63 c = follows_in_ascii_text c.args.bytes.now
     (c.is_ascii_overlapping-then-this-lt64.ensures c.if-is_ascii_overlapping-5.true)
-
-pub returns-in_default : goal.returns-in_default
-returns-in_default c = follows_in_front c.args.bytes.now 32 c.begins_text.result c.begins_text.ensures

@@ -1,6 +1,6 @@
 use Rattle.wtf8.proofs.Common.{◌-◌, arith}
 use Rattle.wtf8.proofs.lemmas.strings.Utf8Texts.{text_before_end, text_before_lead}
-use Rattle.wtf8.proofs.lanes.utf8.whole_len.Goals as goal
+use Rattle.wtf8.proofs.lanes.utf8.ends_text.Goals as goal
 
 pub returns-then-bytes-end-ge192-clause-utf8 : goal.returns-then-bytes-end-ge192-clause-utf8
 returns-then-bytes-end-ge192-clause-utf8 c =
