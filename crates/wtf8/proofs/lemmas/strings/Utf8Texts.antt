@@ -111,24 +111,30 @@ follow_from_indexes z y x [] h whole = whole
 follow_from_indexes z y x (b ∷ w) h whole =
     (h 0 (omega arith) (omega arith), follow_from_indexes y x b w (λ i l m. h (suc i) (omega arith) (omega (arith, m))) whole)
 
+-- bytes may follow in a list if they may in one that begins with zeros and these bytes
+follows_in_same : (v w : List ℕ) (n : ℕ) → n ≤ length w
+    → ((j : ℕ) → j < suc (suc (suc n)) → get_or v j 0 ≡ get_or (0 ∷ 0 ∷ 0 ∷ w) j 0) → FollowsIn v 0 n → FollowsUpTo w n
+follows_in_same v w n within same h = (
+  within,
+  λ i l m. rw (
+    same i (omega (arith, m)),
+    same (suc i) (omega (arith, m)),
+    same (suc (suc i)) (omega (arith, m)),
+    same (suc (suc (suc i))) (omega (arith, m)),
+  ) at (h i l m),
+)
+
 -- bytes of which each may follow are UTF-8 if no continuation byte is missing after them
 text_before : (w : List ℕ) (n : ℕ) → FollowsUpTo w n → IsWholeAfter (get_or (0 ∷ 0 ∷ 0 ∷ w) n 0)
     (get_or (0 ∷ 0 ∷ 0 ∷ w) (suc n) 0) (get_or (0 ∷ 0 ∷ 0 ∷ w) (suc (suc n)) 0) → IsUtf8 (take n w)
 text_before w n h whole =
     let long : length (take n w) ≡ n = omega (arith, length-take n w, h.0) in
-    let same : (j : ℕ) → j < suc (suc (suc n)) → get_or (0 ∷ 0 ∷ 0 ∷ take n w) j 0 ≡ get_or (0 ∷ 0 ∷ 0 ∷ w) j 0
-    = λ j l. get_or-take (suc (suc (suc n))) (0 ∷ 0 ∷ 0 ∷ w) j 0 l in
-    let all : FollowsIn (0 ∷ 0 ∷ 0 ∷ take n w) 0 n = λ i l m. rw (
-      same i (omega (arith, m)),
-      same (suc i) (omega (arith, m)),
-      same (suc (suc i)) (omega (arith, m)),
-      same (suc (suc (suc i))) (omega (arith, m)),
-    ) (h.1 i l m) in
-    let ended : IsWholeAfter (get_or (0 ∷ 0 ∷ 0 ∷ take n w) n 0) (get_or (0 ∷ 0 ∷ 0 ∷ take n w) (suc n) 0)
-    (get_or (0 ∷ 0 ∷ 0 ∷ take n w) (suc (suc n)) 0)
-    = rw (same n (omega arith), same (suc n) (omega arith), same (suc (suc n)) (omega arith)) whole in
+    let same : (j : ℕ) → j < suc (suc (suc n)) → get_or (0 ∷ 0 ∷ 0 ∷ w) j 0 ≡ get_or (0 ∷ 0 ∷ 0 ∷ take n w) j 0
+    = λ j l. sym (get_or-take (suc (suc (suc n))) (0 ∷ 0 ∷ 0 ∷ w) j 0 l) in
+    let all = follows_in_same (0 ∷ 0 ∷ 0 ∷ w) (take n w) n (omega (arith, long)) same h.1 in
+    let ended = rw (same n (omega arith), same (suc n) (omega arith), same (suc (suc n)) (omega arith)) at whole in
     text_from_follow n 0 0 0 (take n w) (omega (arith, long)) (omega arith)
-    (follow_from_indexes 0 0 0 (take n w) (rw long all) (rw long ended))
+    (follow_from_indexes 0 0 0 (take n w) (rw long all.1) (rw long ended))
 
 -- the same by the last three of three bytes or more
 pub text_before_end : (w : List ℕ) (n : ℕ) → 3 ≤ n → FollowsUpTo w n
@@ -166,19 +172,6 @@ follows_in_chunks w at n few h i l m =
       lane (at + 2) (suc (suc i)) (omega (arith, l)),
       lane (at + 3) (suc (suc (suc i))) (omega (arith, l)),
     ) at (h (i - at) (omega (arith, l, m)))
-
--- bytes may follow in a list if they may in one that begins with zeros and them
-follows_in_same : (v w : List ℕ) (n : ℕ) → n ≤ length w
-    → ((j : ℕ) → j < suc (suc (suc n)) → get_or v j 0 ≡ get_or (0 ∷ 0 ∷ 0 ∷ w) j 0) → FollowsIn v 0 n → FollowsUpTo w n
-follows_in_same v w n within same h = (
-  within,
-  λ i l m. rw (
-    same i (omega (arith, m)),
-    same (suc i) (omega (arith, m)),
-    same (suc (suc i)) (omega (arith, m)),
-    same (suc (suc (suc i))) (omega (arith, m)),
-  ) at (h i l m),
-)
 
 -- the bytes of a list between zeros
 pub follows_in_padded : (w zeros : List ℕ) (n m : ℕ) → n ≤ length w → n ≤ m
