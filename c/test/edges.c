@@ -111,6 +111,36 @@ static void utf8_after(size_t front) {
     wtf8_free(&part);
 }
 
+/* Bytes that are no text after letters of one to four bytes, cut at each boundary up to index 70, and before them. */
+static void no_utf8_after_wide_letters(void) {
+    static const char wide[] = "\u0421\u044A\u0435\u0448\u044C \u8336\u8336, \U0001F4A9 \u0435\u0449\u0451 "
+                               "\u8336\u8336\u8336\u8336\u8336\u8336\u8336\u8336\u8336 \U0001F4A9\U0001F4A9\U0001F4A9";
+    uint8_t text[2 * sizeof wide + LONGEST_NO_TEXT];
+    wtf8_string string = WTF8_EMPTY;
+    memcpy(text, wide, sizeof wide);
+    for (size_t front = 0; front <= 70; front++) {
+        if ((wide[front] & 0xC0) == 0x80) continue;
+        for (size_t k = 0; k < NO_TEXTS; k++) {
+            memcpy(text + front, no_texts[k].bytes, no_texts[k].len);
+            memcpy(text + front + no_texts[k].len, wide, front);
+            for (size_t back = 0; back <= front; back += front) {
+                size_t len = front + no_texts[k].len + back, valid = 77, used = 77, bad = 77;
+                uint8_t *array = array_of(text, len);
+                must(wtf8_set_utf8(&string, array, len, &valid) == WTF8_NOT_UTF8, "no text after wide letters is set");
+                must(valid == front, "the first byte that is not UTF-8 after wide letters");
+                must(wtf8_push_utf8_part(&string, array, len, &used, &bad) == WTF8_OK, "the wide letters before no text");
+                must(used == front && wtf8_byte_len(&string) == front, "the length of the wide letters");
+                must(bad == (back ? no_texts[k].before_letter : no_texts[k].at_end), "the bytes that are wrong after wide letters");
+                must_begin(array, len, text, len, "bytes that are no text after wide letters");
+                wtf8_clear(&string);
+                if (front == 0) break;
+            }
+        }
+        memcpy(text, wide, sizeof wide);
+    }
+    wtf8_free(&string);
+}
+
 /* As CPython 3.11 hashes the seeds' 16 bytes, the string's and FE, by SipHash-1-3, if its key is 0:
  * PYTHONHASHSEED=0 python3 -c 'print("%016X" % (hash(bytes(16) + b"\xED\xA0\xBD\xFE") % 2**64))' for the seeds 0. */
 static const struct {
@@ -1466,6 +1496,7 @@ int main(void) {
     memset(letters, 'a', LETTERS);
     code_points();
     for (size_t front = 0; front <= 70; front++) utf8_after(front);
+    no_utf8_after_wide_letters();
     sip_vectors();
     hash();
     asked_units();

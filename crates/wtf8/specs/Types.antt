@@ -5,6 +5,7 @@ use Rattle.wtf8.specs.declared.buffers.build.Stopped as stopping
 use Rattle.wtf8.specs.declared.buffers.text.TextError as refusal
 use Rattle.wtf8.specs.declared.codec.code_point.CodePoint as point
 use Rattle.wtf8.specs.declared.from_utf16.front.EncodedFront as front
+use Rattle.wtf8.specs.declared.lanes.utf8_error.Utf8Error as utf8_error
 use Rattle.wtf8.specs.declared.strings.iters.IllFormedUtf16CodeUnits as unit_iterator
 use Rattle.wtf8.specs.declared.strings.iters.Wtf8CodePoints as point_iterator
 use Rattle.wtf8.specs.declared.strings.view.Wtf8 as view
@@ -54,3 +55,7 @@ EncodedFront = front.EncodedFront
 -- Why bytes were not taken.
 abbrev pub TextError : Type 0
 TextError = refusal.TextError
+
+-- Where bytes are not UTF-8.
+abbrev pub Utf8Error : Type 0
+Utf8Error = utf8_error.Utf8Error

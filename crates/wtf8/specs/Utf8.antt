@@ -1,7 +1,8 @@
 -- Why bytes are no text.
 use Rattle.std.specs.Prelude.{◌≡◌, ℕ, List, drop}
-use Rattle.std.specs.Str.{IsUtf8, valid_up_to, error_len}
+use Rattle.std.specs.Str.{IsUtf8}
 use Rattle.std.specs.Str.Lossy.{utf8_valid_len, utf8_error_len}
+use Rattle.wtf8.specs.Utf8Error.{valid_up_to, error_len}
 use Rattle.wtf8.specs.declared.buffers.text.TextError.{TextError}
 use Rattle.wtf8.specs.declared.buffers.text.TextError.TheVariants.{NotUtf8, Refused}
 

@@ -19,6 +19,7 @@ pub use codec::code_point::CodePoint;
 pub use from_utf16::encoded_len::encoded_len;
 pub use from_utf16::front::{EncodedFront, encode_front};
 pub use lanes::utf8::from_utf8;
+pub use lanes::utf8_error::Utf8Error;
 pub use strings::iters::{IllFormedUtf16CodeUnits, Wtf8CodePoints};
 pub use strings::view::Wtf8;
 pub use units::marks::UnitMark;

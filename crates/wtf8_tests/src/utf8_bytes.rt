@@ -1,47 +1,87 @@
 // Strings of bytes that are UTF-8, and what is said of bytes that are not. What is wrong is as CPython's decoder says.
+use crate::sinks::Sink;
 use crate::wrong::{Failed, Wrong, expect, in_row};
 use std::alloc::Global;
-use wtf8::{TextError, Wtf8, Wtf8Buf};
+use std::fmt::Write;
+use wtf8::{TextError, Utf8Error, Wtf8, Wtf8Buf, from_utf8};
 
-/// Bytes, how many at their front are UTF-8, and how many after these are wrong together.
+/// Bytes, how many at their front are UTF-8, and how many after these are wrong together. The `Display` output of the
+/// error is that of Rust's `str::Utf8Error`.
 struct NoText {
     bytes: &'static [u8],
     valid: usize,
     wrong: Option<usize>,
+    display: &'static str,
 }
 
-static NO_TEXTS: [NoText; 4] = [
+static NO_TEXTS: [NoText; 7] = [
     NoText {
         bytes: b"ab\xC3",
         valid: 2,
         wrong: None,
+        display: "incomplete utf-8 byte sequence from index 2",
     },
     NoText {
         bytes: b"\xE4\xB8\xAD\xF0\x9F\x92a",
         valid: 3,
         wrong: Some(3),
+        display: "invalid utf-8 sequence of 3 bytes from index 3",
     },
     NoText {
         bytes: b"a\xED\xA0\x80",
         valid: 1,
         wrong: Some(1),
+        display: "invalid utf-8 sequence of 1 bytes from index 1",
     },
     NoText {
         bytes: b"The quick brown fox jumps over the lazy dog, and over the fence \xFF",
         valid: 64,
         wrong: Some(1),
+        display: "invalid utf-8 sequence of 1 bytes from index 64",
+    },
+    NoText {
+        bytes: b"\xE8\x8C\xB6\xE8\x8C\xB6\xE8\x8C\xB6\xE8\x8C\xB6\xE8\x8C\xB6\xE8\x8C\xB6\xE8\x8C",
+        valid: 18,
+        wrong: None,
+        display: "incomplete utf-8 byte sequence from index 18",
+    },
+    NoText {
+        bytes: b"caf\xC3\xA9 caf\xC3\xA9 caf\xC3\xA9 caf\xC3\xA9 caf\xC3\xA9 caf\xC3\xA9\xF0\x9F\x92",
+        valid: 35,
+        wrong: None,
+        display: "incomplete utf-8 byte sequence from index 35",
+    },
+    NoText {
+        bytes: b"The quick brown fox jumps over the lazy dog, \xE2\x80\x99\xE2\x80 and over the fence and away",
+        valid: 48,
+        wrong: Some(2),
+        display: "invalid utf-8 sequence of 2 bytes from index 48",
     },
 ];
 
 const TEXT: &str = "Съешь же ещё этих мягких французских булок, да выпей чаю: 茶 💩";
 
+fn is_error(error: Utf8Error, row: &NoText) -> bool {
+    error.valid_up_to() == row.valid && error.error_len() == row.wrong
+}
+
 /// Whether a call said of the bytes what the row says.
 fn is_told(outcome: Result<(), TextError>, row: &NoText) -> bool {
     match outcome {
-        Err(TextError::NotUtf8(error)) => {
-            error.valid_up_to() == row.valid && error.error_len() == row.wrong
-        }
+        Err(TextError::NotUtf8(error)) => is_error(error, row),
         _ => false,
+    }
+}
+
+fn displays(alloc: Global, error: Utf8Error, expected: &str) -> bool {
+    let mut sink = Sink::new(alloc, 0);
+    write!(sink, "{error}").is_ok() && sink.has_taken(expected)
+}
+
+fn is_found(alloc: Global, row: &NoText) -> bool {
+    match from_utf8(row.bytes) {
+        Ok(_) => false,
+        Err(error) => is_error(error, row) && displays(alloc, error, row.display),
     }
 }
 
@@ -55,6 +95,7 @@ fn made_of(alloc: Global, bytes: &[u8]) -> Result<(), TextError> {
 
 fn expect_told(alloc: Global, row: &NoText) -> Result<(), Failed> {
     let mut text = Wtf8Buf::new(alloc);
+    expect(is_found(alloc, row), Wrong::Outcome)?;
     expect(is_told(made_of(alloc, row.bytes), row), Wrong::Outcome)?;
     expect(is_told(text.push_utf8(row.bytes), row), Wrong::Outcome)
 }

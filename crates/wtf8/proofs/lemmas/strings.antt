@@ -6,4 +6,5 @@ pub mod PushedUnits
 pub mod StringLaws
 pub mod SurrogatePositions
 pub mod Surrogates
+pub mod Utf8Fronts
 pub mod Utf8Texts

@@ -1,5 +1,5 @@
 -- Which bytes may follow one another in UTF-8.
-use Rattle.std.specs.Prelude.{◌≡◌, ℕ, suc, ◌<◌, ◌≤◌, ◌⊎◌, List, slice_index}
+use Rattle.std.specs.Prelude.{◌≡◌, ℕ, suc, ◌<◌, ◌≤◌, ◌⊎◌, List, ◌∷◌, length, slice_index}
 
 -- A continuation byte (Unicode 3.9, "UTF-8", Table 3-6).
 abbrev pub IsContinuation : ℕ → Type 0
@@ -23,6 +23,10 @@ FollowsAt w i = MayFollow (slice_index w i) (slice_index w (suc i)) (slice_index
 -- `FollowsAt` holds of each index in `from..end`.
 abbrev pub FollowsIn : List ℕ → ℕ → ℕ → Type 0
 FollowsIn w from end = (i : ℕ) → from ≤ i → i < end → FollowsAt w i
+
+-- There are `n` bytes at the front, each of which may follow the three before it, where zeros stand before the first.
+abbrev pub FollowsUpTo : List ℕ → ℕ → Type 0
+FollowsUpTo w n = (n ≤ length w) × FollowsIn (0 ∷ 0 ∷ 0 ∷ w) 0 n
 
 -- No continuation byte is missing after `z`, `y` and `x` (Unicode 3.9, "UTF-8", Table 3-6).
 abbrev pub IsWholeAfter : ℕ → ℕ → ℕ → Type 0

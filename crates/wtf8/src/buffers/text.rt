@@ -6,8 +6,8 @@ ghost use Rattle.wtf8.specs.Unicode.{units};
 
 use crate::buffers::buf::Wtf8Buf;
 use crate::lanes::utf8::from_utf8;
+use crate::lanes::utf8_error::Utf8Error;
 use std::alloc::{AllocError, Allocator};
-use std::str::Utf8Error;
 
 /// The error of `Wtf8Buf::from_utf8` and `push_utf8`.
 #[derive(Clone, Copy, PartialEq, Eq)]

@@ -7,6 +7,7 @@ pub(crate) mod ascii;
 pub(crate) mod memcmp;
 pub(crate) mod search;
 pub(crate) mod utf8;
+pub(crate) mod utf8_error;
 
 /// The number of bytes in one of the processor's vectors.
 pub(crate) const VECTOR: usize = 16;

@@ -1,12 +1,15 @@
-// Tests in SIMD blocks whether bytes are UTF-8: each byte is compared with the three before it.
-ghost use Rattle.std.specs.Prelude.{◌≡◌, ◌+◌, ◌-◌, ◌<◌, ◌≤◌, ◌∷◌, ℕ, length, drop, IsTrue, slice_index, MatchResult, IfErr};
-ghost use Rattle.std.specs.Str.{IsUtf8, IsErrorLen, IsValidUpTo, valid_up_to, error_len};
+// Tests in SIMD blocks how far bytes are UTF-8: each byte is compared with the three before it.
+ghost use Rattle.std.specs.Prelude.{◌≡◌, ◌+◌, ◌-◌, ◌<◌, ◌≤◌, ◌∷◌, ℕ, length, take, drop, MatchResult, IfErr};
+ghost use Rattle.std.specs.Str.{IsUtf8, IsValidUpTo};
 ghost use Rattle.std.specs.Str.Lossy.{utf8_valid_len, utf8_error_len};
-ghost use Rattle.wtf8.specs.private.Utf8Bytes.{FollowsIn, IsWholeAfter};
+ghost use Rattle.wtf8.specs.Utf8Error.{valid_up_to, error_len};
+ghost use Rattle.wtf8.specs.private.Utf8Bytes.{FollowsIn, FollowsUpTo};
 
-use crate::lanes::ascii::{ascii_front_len, is_ascii_block};
+use crate::lanes::ascii::{ascii_front_len, is_ascii_block, is_ascii_overlapping};
+use crate::lanes::first_set_lane;
+use crate::lanes::utf8_error::Utf8Error;
 use std::simd::prelude::*;
-use std::str::{self, Utf8Error};
+use std::str;
 
 /// The number of bytes that are tested together.
 const BLOCK: usize = 32;
@@ -14,15 +17,16 @@ const BLOCK: usize = 32;
 /// The number of bytes before a byte that decide whether it may follow them.
 const BEFORE: usize = 3;
 
-/// The fewest bytes that are tested in blocks: for fewer `str::from_utf8` takes about as long.
-const LEAST: usize = 2 * BLOCK;
+/// The fewest bytes that hold a block and the bytes before it.
+const LEAST: usize = BLOCK + BEFORE;
 
-/// Whether `BLOCK` bytes from index `at + BEFORE` on may each follow the three before them. A byte of A0 or more is wrong
-/// after ED, a smaller one after E0; one of 90 or more after F4, a smaller one after F0.
+/// The number of bytes from index `at + BEFORE` on, at most `BLOCK`, each of which may follow the three before it. A byte
+/// of A0 or more is wrong after ED, a smaller one after E0; one of 90 or more after F4, a smaller one after F0.
 #[inline(always)]
-fn follows_in_block(bytes: &[u8], at: usize) -> bool
-    requires { at + (BLOCK + BEFORE) ≤ length bytes.now }
-    ensures { IsTrue result → FollowsIn bytes.now at (at + BLOCK) }
+fn follows_in_block(bytes: &[u8], at: usize) -> usize
+    requires { at + LEAST ≤ length bytes.now }
+    ensures within { result ≤ BLOCK }
+    ensures follow { FollowsIn bytes.now at (at + result) }
 {
     let third = u8x32::from_slice(&bytes[at..]);
     let second = u8x32::from_slice(&bytes[at + 1..]);
@@ -42,68 +46,125 @@ fn follows_in_block(bytes: &[u8], at: usize) -> bool
         .select(u8x32::splat(0xF4), u8x32::splat(0xF0));
     let out_of_range = first.simd_eq(not_after_three) | first.simd_eq(not_after_four);
     let wrong = (asked ^ continues) | leads_nothing | out_of_range;
-    wrong.to_bitmask() == 0
+    first_set_lane(wrong.to_bitmask()).unwrap_or(BLOCK)
 }
 
-/// Whether the first three bytes may begin a text: each is tested after zeros.
+/// The number of the first `BLOCK` bytes that may begin a text: the bytes are copied between zeros.
 #[inline(always)]
-fn begins_text(bytes: &[u8]) -> bool
-    requires { BLOCK ≤ length bytes.now }
-    ensures { IsTrue result → FollowsIn (0 ∷ 0 ∷ 0 ∷ bytes.now) 0 BEFORE }
+fn begins_text(bytes: &[u8]) -> usize
+    ensures { FollowsUpTo bytes.now result }
 {
-    let mut front = [0; BEFORE + BLOCK];
-    front[BEFORE..].copy_from_slice(&bytes[..BLOCK]);
-    follows_in_block(&front, 0)
+    let count = bytes.len().min(BLOCK);
+    let mut padded = [0; BEFORE + BLOCK];
+    padded[BEFORE..BEFORE + count].copy_from_slice(&bytes[..count]);
+    follows_in_block(&padded, 0).min(count)
 }
 
-/// Whether no continuation byte is missing at the end.
+/// The number of bytes of ASCII in whole blocks at the front, or how many of the first `BLOCK` bytes may begin a text.
 #[inline(always)]
-fn ends_text(bytes: &[u8]) -> bool
-    requires { BEFORE ≤ length bytes.now }
-    ensures { IsTrue result → IsWholeAfter (slice_index bytes.now (length bytes.now - 3)) (slice_index bytes.now (length bytes.now - 2)) (slice_index bytes.now (length bytes.now - 1)) }
+fn begins_long_text(bytes: &[u8]) -> usize
+    ensures { FollowsUpTo bytes.now result }
 {
-    let len = bytes.len();
-    bytes[len - 3] < 0xF0 && bytes[len - 2] < 0xE0 && bytes[len - 1] < 0xC0
+    match ascii_front_len(bytes) {
+        0 => begins_text(bytes),
+        ascii => ascii,
+    }
 }
 
-/// Whether each byte but the first three may follow the three before it. The last block overlaps the one before it. ASCII
-/// at the front is not tested in `LEAST` bytes here: the compiler would take the loads of `follows_in_block` out of its
-/// vectors byte by byte.
-#[inline(always)]
-fn follows_throughout(bytes: &[u8]) -> bool
-    requires { BLOCK + BEFORE ≤ length bytes.now }
-    ensures { IsTrue result → FollowsIn bytes.now 0 (length bytes.now - BEFORE) }
+/// The number of bytes at the front each of which may follow the three before it. The last block, which overlaps the one
+/// before it, is tested first: the compiler then keeps the constants of a test in registers throughout the loop.
+fn follows_throughout(bytes: &[u8]) -> usize
+    requires { LEAST ≤ length bytes.now }
+    ensures { FollowsUpTo bytes.now result }
 {
-    let last = bytes.len() - (BLOCK + BEFORE);
-    let mut at = ascii_front_len(bytes).saturating_sub(BEFORE);
+    let front = begins_long_text(bytes);
+    if front < BLOCK {
+        return front;
+    }
+    let last = bytes.len() - LEAST;
+    let end = last + BEFORE + follows_in_block(bytes, last);
+    let mut at = front - BEFORE;
     while at < last {
         if is_ascii_block(u8x32::from_slice(&bytes[at..])) {
             at += BLOCK - BEFORE;
-        } else if follows_in_block(bytes, at) {
-            at += BLOCK;
         } else {
-            return false;
+            let more = follows_in_block(bytes, at);
+            if more < BLOCK {
+                return at + BEFORE + more;
+            }
+            at += BLOCK;
         }
     }
-    follows_in_block(bytes, last)
+    end
 }
 
-fn is_utf8_by_blocks(bytes: &[u8]) -> bool
-    requires { LEAST ≤ length bytes.now }
-    ensures { IsTrue result → IsUtf8 bytes.now }
+/// The number of bytes at the front each of which may follow the three before it. Up to three bytes are read one code
+/// point at a time unless they are ASCII.
+#[inline(always)]
+fn follows_at_front(bytes: &[u8]) -> usize
+    ensures { FollowsUpTo bytes.now result }
 {
-    begins_text(bytes) && follows_throughout(bytes) && ends_text(bytes)
+    match bytes.len() {
+        2..=3 if is_ascii_overlapping::<2>(bytes) => bytes.len(),
+        0..=3 => 0,
+        4..=7 if is_ascii_overlapping::<4>(bytes) => bytes.len(),
+        8..=15 if is_ascii_overlapping::<8>(bytes) => bytes.len(),
+        16..=31 if is_ascii_overlapping::<16>(bytes) => bytes.len(),
+        32..=63 if is_ascii_overlapping::<32>(bytes) => bytes.len(),
+        ..LEAST => begins_text(bytes),
+        _ => follows_throughout(bytes),
+    }
 }
 
-/// Views bytes as the text that they are in UTF-8, as `str::from_utf8` does, but 32 at a time if there are 64 or more.
-/// The error tells how many bytes at the front are UTF-8, and how many after these are wrong together.
+/// The index up to `end` at which a text may end: before a code point that the bytes up to `end` leave unfinished. If
+/// they are fewer than three, it is 0.
+#[inline(always)]
+fn ends_text(bytes: &[u8], end: usize) -> usize
+    requires { FollowsUpTo bytes.now end }
+    ensures within { result ≤ length bytes.now }
+    ensures utf8 { IsUtf8 (take result bytes.now) }
+{
+    if end < BEFORE {
+        return 0;
+    }
+    if 0xC0 <= bytes[end - 1] {
+        end - 1
+    } else if 0xE0 <= bytes[end - 2] {
+        end - 2
+    } else if 0xF0 <= bytes[end - 3] {
+        end - 3
+    } else {
+        end
+    }
+}
+
+/// Views bytes of which the first `front` are UTF-8 as the text that they are, and reads the others one code point at a
+/// time.
+fn from_utf8_after(bytes: &[u8], front: usize) -> Result<&str, Utf8Error>
+    requires { (front ≤ length bytes.now) × IsUtf8 (take front bytes.now) }
+    ensures cases { MatchResult result (λ s. (s.now ≡ bytes.now) × IsUtf8 bytes.now) (λ e. ¬ (IsUtf8 bytes.now) × IsValidUpTo bytes.now (valid_up_to e)) }
+    ensures valid_len { IfErr result (λ e. valid_up_to e ≡ utf8_valid_len bytes.now) }
+    ensures error_len { IfErr result (λ e. error_len e ≡ utf8_error_len (drop (valid_up_to e) bytes.now)) }
+{
+    match str::from_utf8(&bytes[front..]) {
+        Ok(_) => Ok(unsafe { str::from_utf8_unchecked(bytes) }),
+        Err(error) => Err(Utf8Error {
+            valid_up_to: front + error.valid_up_to(),
+            error_len: error.error_len(),
+        }),
+    }
+}
+
+/// Views bytes as the text that they are in UTF-8, as `str::from_utf8` does, but 32 at a time. The error tells how many
+/// bytes at the front are UTF-8, and how many after these are wrong together.
 pub fn from_utf8(bytes: &[u8]) -> Result<&str, Utf8Error>
     ensures cases { MatchResult result (λ s. (s.now ≡ bytes.now) × IsUtf8 bytes.now) (λ e. ¬ (IsUtf8 bytes.now) × IsValidUpTo bytes.now (valid_up_to e)) }
     ensures valid_len { IfErr result (λ e. valid_up_to e ≡ utf8_valid_len bytes.now) }
     ensures error_len { IfErr result (λ e. error_len e ≡ utf8_error_len (drop (valid_up_to e) bytes.now)) }
 {
-    if LEAST <= bytes.len() && is_utf8_by_blocks(bytes) {
+    let front = ends_text(bytes, follows_at_front(bytes));
+    if front == bytes.len() {
         return Ok(unsafe { str::from_utf8_unchecked(bytes) });
     }
-    str::from_utf8(bytes)
+    from_utf8_after(bytes, front)
 }

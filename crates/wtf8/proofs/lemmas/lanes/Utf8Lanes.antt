@@ -1,8 +1,8 @@
 -- Lanes that show which bytes may not follow the three before them.
-use Rattle.wtf8.proofs.Common.{◌≡◌, ℕ, zero, suc, ◌+◌, ◌*◌, ◌%◌, ◌^◌, ◌<◌, ◌≤◌, Bool, true, false, not, ◌&&◌, ◌||◌, cond}
-use Rattle.wtf8.proofs.Common.{List, [], ◌∷◌, map, length, get_or, replicate, refl, sym, ◌∙◌, arith, IsTrue, eqb, leb, ltb, bit_and, bit_or}
-use Rattle.wtf8.proofs.Common.{eqb-true, zip2, sel_l}
-use Rattle.wtf8.proofs.Common.{mask_l, mask_l-mod, top, nat_tests}
+use Rattle.wtf8.proofs.Common.{◌≡◌, ℕ, zero, suc, ◌%◌, ◌^◌, ◌<◌, ◌≤◌, Bool, true, false, not, ◌&&◌, ◌||◌, cond}
+use Rattle.wtf8.proofs.Common.{List, [], ◌∷◌, map, length, get_or, replicate, refl, sym, ◌∙◌, arith, eqb, leb, ltb, bit_and, bit_or}
+use Rattle.wtf8.proofs.Common.{zip2, sel_l}
+use Rattle.wtf8.proofs.Common.{mask_l, top, nat_tests, Option, None, Some, unwrap_or, IsFirstSet, IsFirstIn, IsSet, NoneIn, false_from_ne_true}
 use Rattle.std.proofs.Common.{bit_xor}
 use Rattle.wtf8.proofs.lemmas.lanes.SurrogateLanes.{lane_of_bool}
 use Rattle.wtf8.specs.private.Utf8Bytes.{MayFollow}
@@ -90,13 +90,10 @@ wrong_lanes n z y x b = zip2 bit_or (zip2 bit_or
     (zip2 bit_or (zip2 bit_and (at_least n 0xC0 b) (below n b 0xC2)) (at_least n 0xF5 b)))
     (zip2 bit_or (equal_lanes x (chosen n b 0xA0 0xED 0xE0)) (equal_lanes x (chosen n b 0x90 0xF4 0xF0)))
 
-first_unset : (t : Bool) (m : ℕ) → cond t 1 0 + 2 * m ≡ 0 → t ≡ false
-first_unset true m e = absurd (omega (arith, e))
-first_unset false m e = refl
-
 length-wrong_lanes : (n : ℕ) (z y x b : List ℕ) → length z ≡ n → length y ≡ n → length x ≡ n → length b ≡ n
-    → length (map (top 7) (wrong_lanes n z y x b)) ≤ n
-length-wrong_lanes zero z y x b p q r s = omega arith
+    → length (map (top 7) (wrong_lanes n z y x b)) ≡ n
+length-wrong_lanes zero [] y x b p q r s = refl
+length-wrong_lanes zero (z ∷ zs) y x b p q r s = absurd (omega (arith, p))
 length-wrong_lanes (suc n) [] y x b p q r s = absurd (omega arith)
 length-wrong_lanes (suc n) (z ∷ zs) [] x b p q r s = absurd (omega arith)
 length-wrong_lanes (suc n) (z ∷ zs) (y ∷ ys) [] b p q r s = absurd (omega arith)
@@ -104,23 +101,30 @@ length-wrong_lanes (suc n) (z ∷ zs) (y ∷ ys) (x ∷ xs) [] p q r s = absurd 
 length-wrong_lanes (suc n) (z ∷ zs) (y ∷ ys) (x ∷ xs) (b ∷ bs) p q r s =
     omega (arith, length-wrong_lanes n zs ys xs bs (omega arith) (omega arith) (omega arith) (omega arith))
 
-none_wrong : (n : ℕ) (z y x b : List ℕ) → length z ≡ n → length y ≡ n → length x ≡ n → length b ≡ n
-    → mask_l (map (top 7) (wrong_lanes n z y x b)) ≡ 0 → (k : ℕ) → k < n
+may_follow_if_unset : (n : ℕ) (z y x b : List ℕ) → length z ≡ n → length y ≡ n → length x ≡ n → length b ≡ n
+    → (k : ℕ) → k < n → ¬ (IsSet (map (top 7) (wrong_lanes n z y x b)) k)
     → MayFollow (get_or z k 0) (get_or y k 0) (get_or x k 0) (get_or b k 0)
-none_wrong zero z y x b p q r s e k l = absurd (omega arith)
-none_wrong (suc n) [] y x b p q r s e k l = absurd (omega arith)
-none_wrong (suc n) (z ∷ zs) [] x b p q r s e k l = absurd (omega arith)
-none_wrong (suc n) (z ∷ zs) (y ∷ ys) [] b p q r s e k l = absurd (omega arith)
-none_wrong (suc n) (z ∷ zs) (y ∷ ys) (x ∷ xs) [] p q r s e k l = absurd (omega arith)
-none_wrong (suc n) (z ∷ zs) (y ∷ ys) (x ∷ xs) (b ∷ bs) p q r s e zero l =
-    may_follow z y x b (first_unset (top 7 (wrong z y x b)) (mask_l (map (top 7) (wrong_lanes n zs ys xs bs))) e)
-none_wrong (suc n) (z ∷ zs) (y ∷ ys) (x ∷ xs) (b ∷ bs) p q r s e (suc k) l =
-    none_wrong n zs ys xs bs (omega arith) (omega arith) (omega arith) (omega arith) (omega (arith, e)) k (omega arith)
+may_follow_if_unset zero z y x b p q r s k l unset = absurd (omega arith)
+may_follow_if_unset (suc n) [] y x b p q r s k l unset = absurd (omega arith)
+may_follow_if_unset (suc n) (z ∷ zs) [] x b p q r s k l unset = absurd (omega arith)
+may_follow_if_unset (suc n) (z ∷ zs) (y ∷ ys) [] b p q r s k l unset = absurd (omega arith)
+may_follow_if_unset (suc n) (z ∷ zs) (y ∷ ys) (x ∷ xs) [] p q r s k l unset = absurd (omega arith)
+may_follow_if_unset (suc n) (z ∷ zs) (y ∷ ys) (x ∷ xs) (b ∷ bs) p q r s zero l unset = may_follow z y x b (false_from_ne_true _ unset)
+may_follow_if_unset (suc n) (z ∷ zs) (y ∷ ys) (x ∷ xs) (b ∷ bs) p q r s (suc k) l unset =
+    may_follow_if_unset n zs ys xs bs (omega arith) (omega arith) (omega arith) (omega arith) k (omega arith) unset
 
--- if the mask of a block is 0, each of its bytes may follow
-pub follows_if_none : (z y x b : List ℕ) → length z ≡ 32 → length y ≡ 32 → length x ≡ 32 → length b ≡ 32
-    → IsTrue (eqb (mask_l (map (top 7) (wrong_lanes 32 z y x b)) % 2 ^ 64) 0) → (k : ℕ) → k < 32
-    → MayFollow (get_or z k 0) (get_or y k 0) (get_or x k 0) (get_or b k 0)
-follows_if_none z y x b p q r s t =
-    let lanes = map (top 7) (wrong_lanes 32 z y x b) in
-    none_wrong 32 z y x b p q r s (sym (mask_l-mod lanes 64 (omega (arith, length-wrong_lanes 32 z y x b p q r s))) ∙ eqb-true _ 0 t)
+-- each byte before the first set bit of the mask of a block may follow, or each of the block if none is set
+pub follows_before_bit : (z y x b : List ℕ) → length z ≡ 32 → length y ≡ 32 → length x ≡ 32 → length b ≡ 32
+    → (r : Option ℕ) → IsFirstSet (mask_l (map (top 7) (wrong_lanes 32 z y x b)) % 2 ^ 64) r → (unwrap_or r 32 ≤ 32)
+    × ((k : ℕ) → k < unwrap_or r 32 → MayFollow (get_or z k 0) (get_or y k 0) (get_or x k 0) (get_or b k 0))
+follows_before_bit z y x b p q r s found first =
+    by found (first 32 (map (top 7) (wrong_lanes 32 z y x b)) (omega arith) (length-wrong_lanes 32 z y x b p q r s) refl)
+  where
+    unset : (n : ℕ) → n ≤ 32 → NoneIn (IsSet (map (top 7) (wrong_lanes 32 z y x b))) 0 n → (k : ℕ) → k < n
+        → MayFollow (get_or z k 0) (get_or y k 0) (get_or x k 0) (get_or b k 0)
+    unset n le none k l = may_follow_if_unset 32 z y x b p q r s k (omega (arith, le, l)) (none k (omega arith) l)
+
+    by : (r : Option ℕ) → IsFirstIn (IsSet (map (top 7) (wrong_lanes 32 z y x b))) 0 32 r → (unwrap_or r 32 ≤ 32)
+        × ((k : ℕ) → k < unwrap_or r 32 → MayFollow (get_or z k 0) (get_or y k 0) (get_or x k 0) (get_or b k 0))
+    by None none = (omega arith, unset 32 (omega arith) none)
+    by (Some n) h = (omega (arith, h.1), unset n (omega (arith, h.1)) h.0.none_between)

@@ -1,12 +1,13 @@
 -- Bytes each of which may follow the three before it are UTF-8.
 use Rattle.wtf8.proofs.Common.{◌≡◌, ℕ, zero, suc, ◌+◌, ◌-◌, ◌*◌, ◌/◌, ◌%◌, ◌<◌, ◌≤◌, inl, inr, List, [], ◌∷◌, ◌++◌, length, get_or, sym, ap}
 use Rattle.wtf8.proofs.Common.{◌∙◌, arith, cases_lt, IsUtf8, IsCodePoint, IsSurrogate, encoding, encoding_is_encode, IsUtf8-from_ascii}
-use Rattle.wtf8.proofs.Common.{chunk, get_or-chunk, take, AreAscii, subst}
+use Rattle.wtf8.proofs.Common.{chunk, get_or-chunk, take, AreAscii, subst, length-take, get_or_append_left}
 use Rattle.std.proofs.lemmas.List.{get_or-take}
+use Rattle.std.proofs.lemmas.Simd.{Each1-get_or}
 use Rattle.wtf8.proofs.lemmas.codec.Encoding.{encoding_one, encoding_two, encoding_three, encoding_four}
 use Rattle.wtf8.proofs.lemmas.lanes.AsciiFronts.{ascii_in_block}
 use Rattle.wtf8.proofs.lemmas.strings.Surrogates.{scalar_true}
-use Rattle.wtf8.specs.private.Utf8Bytes.{MayFollow, FollowsIn, IsWholeAfter, IsContinuation}
+use Rattle.wtf8.specs.private.Utf8Bytes.{MayFollow, FollowsAt, FollowsIn, FollowsUpTo, IsWholeAfter, IsContinuation}
 
 -- each byte of `w` after `z`, `y` and `x` may follow, and none is missing at the end
 abbrev Follow : ℕ → ℕ → ℕ → List ℕ → Type 0
@@ -110,28 +111,61 @@ follow_from_indexes z y x [] h whole = whole
 follow_from_indexes z y x (b ∷ w) h whole =
     (h 0 (omega arith) (omega arith), follow_from_indexes y x b w (λ i l m. h (suc i) (omega arith) (omega (arith, m))) whole)
 
--- bytes are UTF-8 if each of the first three may follow zeros, each later one the three before it, and none is missing
-pub text_from_indexes : (w : List ℕ) → 3 ≤ length w → FollowsIn (0 ∷ 0 ∷ 0 ∷ w) 0 3 → FollowsIn w 0 (length w - 3)
-    → IsWholeAfter (get_or w (length w - 3) 0) (get_or w (length w - 2) 0) (get_or w (length w - 1) 0) → IsUtf8 w
-text_from_indexes [] some front all whole = absurd (omega (arith, some))
-text_from_indexes (a ∷ []) some front all whole = absurd (omega (arith, some))
-text_from_indexes (a ∷ b ∷ []) some front all whole = absurd (omega (arith, some))
-text_from_indexes (a ∷ b ∷ c ∷ w) some front all whole =
-    let third : length (a ∷ b ∷ c ∷ w) - 3 ≡ length w = omega arith in
-    let second : length (a ∷ b ∷ c ∷ w) - 2 ≡ suc (length w) = omega arith in
-    let first : length (a ∷ b ∷ c ∷ w) - 1 ≡ suc (suc (length w)) = omega arith in
-    let at = λ (i : ℕ). get_or (a ∷ b ∷ c ∷ w) i 0 in
-    let later = follow_from_indexes a b c w (λ i l m. all i l (omega (arith, m)))
-    (subst (λ p. p) (λ t. IsWholeAfter (at (third t)) (at (second t)) (at (first t))) whole) in
-    text_from_follow (length (a ∷ b ∷ c ∷ w)) 0 0 0 (a ∷ b ∷ c ∷ w) (omega arith) (omega arith)
-    (front 0 (omega arith) (omega arith), (front 1 (omega arith) (omega arith), (front 2 (omega arith) (omega arith), later)))
+-- bytes may follow in a list if they may in one that begins with zeros and these bytes
+follows_in_same : (v w : List ℕ) (n : ℕ) → n ≤ length w
+    → ((j : ℕ) → j < suc (suc (suc n)) → get_or v j 0 ≡ get_or (0 ∷ 0 ∷ 0 ∷ w) j 0) → FollowsIn v 0 n → FollowsUpTo w n
+follows_in_same v w n within same h = (
+  within,
+  λ i l m. rw (
+    same i (omega (arith, m)),
+    same (suc i) (omega (arith, m)),
+    same (suc (suc i)) (omega (arith, m)),
+    same (suc (suc (suc i))) (omega (arith, m)),
+  ) at (h i l m),
+)
+
+-- bytes of which each may follow are UTF-8 if no continuation byte is missing after them
+text_before : (w : List ℕ) (n : ℕ) → FollowsUpTo w n → IsWholeAfter (get_or (0 ∷ 0 ∷ 0 ∷ w) n 0)
+    (get_or (0 ∷ 0 ∷ 0 ∷ w) (suc n) 0) (get_or (0 ∷ 0 ∷ 0 ∷ w) (suc (suc n)) 0) → IsUtf8 (take n w)
+text_before w n h whole =
+    let long : length (take n w) ≡ n = omega (arith, length-take n w, h.0) in
+    let same : (j : ℕ) → j < suc (suc (suc n)) → get_or (0 ∷ 0 ∷ 0 ∷ w) j 0 ≡ get_or (0 ∷ 0 ∷ 0 ∷ take n w) j 0
+    = λ j l. sym (get_or-take (suc (suc (suc n))) (0 ∷ 0 ∷ 0 ∷ w) j 0 l) in
+    let all = follows_in_same (0 ∷ 0 ∷ 0 ∷ w) (take n w) n (omega (arith, long)) same h.1 in
+    let ended = rw (same n (omega arith), same (suc n) (omega arith), same (suc (suc n)) (omega arith)) at whole in
+    text_from_follow n 0 0 0 (take n w) (omega (arith, long)) (omega arith)
+    (follow_from_indexes 0 0 0 (take n w) (rw long all.1) (rw long ended))
+
+-- the same by the last three of three bytes or more
+pub text_before_end : (w : List ℕ) (n : ℕ) → 3 ≤ n → FollowsUpTo w n
+    → IsWholeAfter (get_or w (n - 3) 0) (get_or w (n - 2) 0) (get_or w (n - 1) 0) → IsUtf8 (take n w)
+text_before_end w zero some h whole = absurd (omega (arith, some))
+text_before_end w (suc zero) some h whole = absurd (omega (arith, some))
+text_before_end w (suc (suc zero)) some h whole = absurd (omega (arith, some))
+text_before_end w (suc (suc (suc n))) some h whole =
+    let third : suc (suc (suc n)) - 3 ≡ n = omega arith in
+    let second : suc (suc (suc n)) - 2 ≡ suc n = omega arith in
+    let first : suc (suc (suc n)) - 1 ≡ suc (suc n) = omega arith in
+    text_before w (suc (suc (suc n))) h (rw (third, second, first) at whole)
+
+whole_before_lead : (z y x b : ℕ) → MayFollow z y x b → 0xC0 ≤ b → IsWholeAfter z y x
+whole_before_lead z y x b may lead = (
+  elim (cases_lt z 0xF0) [ inl l ↦ l | inr l ↦ absurd (omega (arith, may.continues (inr (inr l)), lead)) ],
+  elim (cases_lt y 0xE0) [ inl l ↦ l | inr l ↦ absurd (omega (arith, may.continues (inr (inl l)), lead)) ],
+  elim (cases_lt x 0xC0) [ inl l ↦ l | inr l ↦ absurd (omega (arith, may.continues (inl l), lead)) ],
+)
+
+-- bytes before a lead byte that may follow them are UTF-8
+pub text_before_lead : (w : List ℕ) (n k : ℕ) → FollowsUpTo w n → k < n → 0xC0 ≤ get_or w k 0 → IsUtf8 (take k w)
+text_before_lead w n k h l lead =
+    text_before w k (omega (arith, h.0, l), λ i from m. h.1 i from (omega (arith, l, m))) (whole_before_lead _ _ _ _ (h.1 k (omega arith) l) lead)
 
 -- lanes of which each may follow are the bytes of a block that may follow
-pub follows_in_chunks : (w : List ℕ) (at : ℕ) → ((k : ℕ) → k < 32 → MayFollow (get_or (chunk at 32 w) k 0)
-    (get_or (chunk (at + 1) 32 w) k 0) (get_or (chunk (at + 2) 32 w) k 0) (get_or (chunk (at + 3) 32 w) k 0)) → FollowsIn w at (at + 32)
-follows_in_chunks w at h i l m =
+pub follows_in_chunks : (w : List ℕ) (at n : ℕ) → n ≤ 32 → ((k : ℕ) → k < n → MayFollow (get_or (chunk at 32 w) k 0)
+    (get_or (chunk (at + 1) 32 w) k 0) (get_or (chunk (at + 2) 32 w) k 0) (get_or (chunk (at + 3) 32 w) k 0)) → FollowsIn w at (at + n)
+follows_in_chunks w at n few h i l m =
     let lane : (from j : ℕ) → from + (i - at) ≡ j → get_or (chunk from 32 w) (i - at) 0 ≡ get_or w j 0
-    = λ from j e. get_or-chunk from 32 w (i - at) 0 (omega (arith, l, m)) ∙ ap (λ n. get_or w n 0) e in
+    = λ from j e. get_or-chunk from 32 w (i - at) 0 (omega (arith, few, l, m)) ∙ ap (λ n. get_or w n 0) e in
     rw (
       lane at i (omega (arith, l)),
       lane (at + 1) (suc i) (omega (arith, l)),
@@ -139,32 +173,58 @@ follows_in_chunks w at h i l m =
       lane (at + 3) (suc (suc (suc i))) (omega (arith, l)),
     ) at (h (i - at) (omega (arith, l, m)))
 
--- the first three bytes may follow in a list if they may in its front
-pub follows_in_front : (w : List ℕ) → FollowsIn (take 35 w) 0 32 → FollowsIn w 0 3
-follows_in_front w h i l m =
-    let same : (j : ℕ) → j < 35 → get_or (take 35 w) j 0 ≡ get_or w j 0 = λ j k. get_or-take 35 w j 0 k in
-    rw (
-      same i (omega (arith, m)),
-      same (suc i) (omega (arith, m)),
-      same (suc (suc i)) (omega (arith, m)),
-      same (suc (suc (suc i))) (omega (arith, m)),
-    ) at (h i l (omega (arith, m)))
+-- the bytes of a list between zeros
+pub follows_in_padded : (w zeros : List ℕ) (n m : ℕ) → n ≤ length w → n ≤ m
+    → FollowsIn (0 ∷ 0 ∷ 0 ∷ (w ++ zeros)) 0 (0 + m) → FollowsUpTo w n
+follows_in_padded w zeros n m within le h = follows_in_same (0 ∷ 0 ∷ 0 ∷ (w ++ zeros)) w n within
+    (λ j l. get_or_append_left (0 ∷ 0 ∷ 0 ∷ w) zeros 0 j (omega (arith, l, within))) (λ i l k. h i l (omega (arith, k, le)))
+
+-- the bytes of a list that may follow in its front
+pub follows_in_front : (w : List ℕ) (m n : ℕ) → FollowsUpTo (take m w) n → FollowsUpTo w n
+follows_in_front w m n h =
+    let few = length-take m w in
+    follows_in_same (0 ∷ 0 ∷ 0 ∷ take m w) w n (omega (arith, h.0, few))
+    (λ j l. get_or-take (suc (suc (suc m))) (0 ∷ 0 ∷ 0 ∷ w) j 0 (omega (arith, l, h.0, few))) h.1
+
+-- bytes that may follow, and those from an earlier index on
+pub follows_on : (w : List ℕ) (at from n : ℕ) → from ≤ at → from + 3 + n ≤ length w → FollowsUpTo w (at + 3) → FollowsIn w from (from + n)
+    → FollowsUpTo w (from + 3 + n)
+follows_on w at from n le within front h = (
+  within,
+  λ i l m. elim (cases_lt i (at + 3)) [
+    | inl k ↦ front.1 i l k
+    | inr k ↦ subst (FollowsAt (0 ∷ 0 ∷ 0 ∷ w)) (later i k) (h (i - 3) (omega (arith, k, le)) (omega (arith, k, m)))
+  ],
+)
+  where
+    later : (i : ℕ) → at + 3 ≤ i → suc (suc (suc (i - 3))) ≡ i
+    later i k = omega arith
 
 ascii_follows : (z y x b : ℕ) → z < 0x80 → y < 0x80 → x < 0x80 → b < 0x80 → MayFollow z y x b
 ascii_follows z y x b l m n o = grind (arith)
 
 -- in a block of ASCII each byte but the first three may follow
-pub follows_in_ascii : (w : List ℕ) (at : ℕ) → at + 32 ≤ length w → AreAscii (chunk at 32 w) → FollowsIn w 0 at → FollowsIn w 0 (at + 29)
-follows_in_ascii w at room all before i l m = elim (cases_lt i at) [
-  | inl k ↦ before i l k
-  | inr k ↦
-      let ascii : (j : ℕ) → at ≤ j → j < at + 32 → get_or w j 0 < 0x80 = ascii_in_block 32 at w room all in
-      ascii_follows _ _ _ _ (ascii i k (omega (arith, m))) (ascii (suc i) (omega (arith, k)) (omega (arith, m)))
-      (ascii (suc (suc i)) (omega (arith, k)) (omega (arith, m))) (ascii (suc (suc (suc i))) (omega (arith, k)) (omega (arith, m)))
-]
+pub follows_in_ascii : (w : List ℕ) (at : ℕ) → at + 32 ≤ length w → AreAscii (chunk at 32 w) → FollowsIn w at (at + 29)
+follows_in_ascii w at room all i k m =
+    let ascii : (j : ℕ) → at ≤ j → j < at + 32 → get_or w j 0 < 0x80 = ascii_in_block 32 at w room all in
+    ascii_follows _ _ _ _ (ascii i k (omega (arith, m))) (ascii (suc i) (omega (arith, k)) (omega (arith, m)))
+    (ascii (suc (suc i)) (omega (arith, k)) (omega (arith, m))) (ascii (suc (suc (suc i))) (omega (arith, k)) (omega (arith, m)))
 
--- of ASCII bytes each but the first three may follow
-pub follows_in_ascii_front : (w : List ℕ) (n : ℕ) → ((k : ℕ) → k < n → get_or w k 0 < 0x80) → FollowsIn w 0 (n - 3)
-follows_in_ascii_front w n h i l m =
-    ascii_follows _ _ _ _ (h i (omega (arith, m))) (h (suc i) (omega (arith, m))) (h (suc (suc i)) (omega (arith, m)))
-    (h (suc (suc (suc i))) (omega (arith, m)))
+ascii_after_zeros : (w : List ℕ) (n : ℕ) → ((k : ℕ) → k < n → get_or w k 0 < 0x80) → (j : ℕ) → j < suc (suc (suc n))
+    → get_or (0 ∷ 0 ∷ 0 ∷ w) j 0 < 0x80
+ascii_after_zeros w n h zero l = omega arith
+ascii_after_zeros w n h (suc zero) l = omega arith
+ascii_after_zeros w n h (suc (suc zero)) l = omega arith
+ascii_after_zeros w n h (suc (suc (suc k))) l = h k (omega (arith, l))
+
+-- each byte of an ASCII front may follow
+pub follows_in_ascii_front : (w : List ℕ) (n : ℕ) → n ≤ length w → ((k : ℕ) → k < n → get_or w k 0 < 0x80) → FollowsUpTo w n
+follows_in_ascii_front w n within h = (
+  within,
+  λ i l m. ascii_follows _ _ _ _ (ascii_after_zeros w n h i (omega (arith, m))) (ascii_after_zeros w n h (suc i) (omega (arith, m)))
+      (ascii_after_zeros w n h (suc (suc i)) (omega (arith, m))) (ascii_after_zeros w n h (suc (suc (suc i))) (omega (arith, m))),
+)
+
+-- each byte of an ASCII text may follow
+pub follows_in_ascii_text : (w : List ℕ) → AreAscii w → FollowsUpTo w (length w)
+follows_in_ascii_text w all = follows_in_ascii_front w (length w) (omega arith) (λ k l. Each1-get_or (λ n. n < 0x80) w k 0 l all)
