@@ -6,8 +6,7 @@ ghost use Rattle.wtf8.specs.private.Prefixes.{HasRoomFrom, IsKnownForm, IsReadTo
 
 use crate::codec::code_point::{CodePoint, FIRST_LEAD};
 use crate::codec::encoding::{four_bytes, three_bytes, two_bytes};
-use crate::from_utf16::decode;
-use crate::from_utf16::kernel::Progress;
+use crate::from_utf16::{Progress, decode};
 use crate::vec::to_vec_in;
 use std::alloc::{AllocError, Allocator};
 

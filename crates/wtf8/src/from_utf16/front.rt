@@ -4,10 +4,10 @@ ghost use Rattle.wtf8.specs.Form.{IsForm};
 ghost use Rattle.wtf8.specs.UnitPosition.{DividesPair};
 ghost use Rattle.wtf8.specs.private.Prefixes.{ReadsOn};
 
-use crate::from_utf16::kernel::{self, MIN_SPARE, Progress};
-use crate::from_utf16::transcode::{MOST_POINT_BYTES, narrow_saturating};
-use crate::from_utf16::{BLOCK_UNITS, HALF_BLOCK, QUARTER_BLOCK, TWO_BLOCKS, few};
-use crate::lanes::ascii::ascii_run_len;
+use crate::from_utf16::kernel::{self, MIN_SPARE};
+use crate::from_utf16::transcode::MOST_POINT_BYTES;
+use crate::from_utf16::{BLOCK_UNITS, HALF_BLOCK, Progress, QUARTER_BLOCK, TWO_BLOCKS, few};
+use crate::lanes::ascii::{ascii_run_len, narrow_saturating};
 use std::simd::prelude::*;
 
 /// How many code units at the front of a list were encoded, and how many bytes they took.

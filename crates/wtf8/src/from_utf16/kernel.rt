@@ -23,7 +23,7 @@ ghost use Rattle.wtf8.specs.private.PackedUnits.{tagged_units, tagged_block, sca
 
 use crate::codec::code_point::{FIRST_LEAD, LEAD_KIND, SURROGATES_PER_HALF, TRAIL_KIND};
 use crate::from_utf16::encoded_len::{Growth, make_room};
-use crate::from_utf16::{BLOCK_UNITS, HALF_BLOCK, QUARTER_BLOCK, shuffle_table};
+use crate::from_utf16::{BLOCK_UNITS, HALF_BLOCK, Progress, QUARTER_BLOCK, shuffle_table};
 use std::alloc::{AllocError, Allocator};
 use std::simd::prelude::*;
 
@@ -53,19 +53,11 @@ const BOTH_HALVES: [usize; 16] = [0, 1, 2, 3, 4, 5, 6, 7, 8, 9, 10, 11, 12, 13, 
 /// Lanes 0 to 3 of two vectors, then lanes 4 to 7 of the first, twice.
 const BOTH_QUARTERS: [usize; 16] = [0, 1, 2, 3, 8, 9, 10, 11, 4, 5, 6, 7, 4, 5, 6, 7];
 
-/// Shuffle indices that move 16 bytes to the front: those from index `n` on are of bytes `n` to 15, then 128, which stands
-/// for a zero.
+/// Shuffle indices that move 16 bytes to the front: from index `n` on these select bytes `n` to 15, then, by 128, zeros.
 static BYTE_SHIFTS: [u8; 32] = [
     0, 1, 2, 3, 4, 5, 6, 7, 8, 9, 10, 11, 12, 13, 14, 15, 128, 128, 128, 128, 128, 128, 128, 128,
     128, 128, 128, 128, 128, 128, 128, 128,
 ];
-
-/// How far units are encoded: the index of the next one, and whether no lone surrogate precedes it.
-#[derive(Clone, Copy)]
-pub(crate) struct Progress {
-    pub(crate) at: usize,
-    pub(crate) is_utf8: bool,
-}
 
 /// Heads and lasts of a block's units, and whether none of these is a lone surrogate.
 #[derive(Clone, Copy)]

@@ -7,9 +7,8 @@ ghost use Rattle.wtf8.specs.private.Search.{IsLetter, IsLetterMask};
 
 use crate::codec::code_point::FIRST_LEAD;
 use crate::codec::encoding::{three_bytes, two_bytes};
-use crate::from_utf16::TWO_BLOCKS;
-use crate::from_utf16::kernel::Progress;
-use crate::from_utf16::transcode::narrow_saturating;
+use crate::from_utf16::{Progress, TWO_BLOCKS};
+use crate::lanes::ascii::narrow_saturating;
 use crate::lanes::first_set_lane;
 use crate::vec::push_block;
 use std::alloc::Allocator;

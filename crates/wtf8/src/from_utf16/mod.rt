@@ -1,19 +1,13 @@
-// Conversion of UTF-16 code units to WTF-8 bytes. Which way the next units take:
+// Encodes UTF-16 code units as WTF-8. In a string, by the units that are left:
 //
-//     Units left              They begin with                 Way
-//     all, `QUARTER_BLOCK`    ASCII, and are ASCII            as two blocks, which may overlap: `short_ascii`
-//     to `TWO_BLOCKS` - 1
-//     all, `FEW_UNITS`        any, if none completes a lead   one code point at a time, on the stack: `few`
-//     or fewer                before them
-//     `TWO_BLOCKS` or more    ASCII                           the ASCII run, by `TWO_BLOCKS`; after it `letters`, if at most
-//                                                             `FEW_LETTERS` of them are not ASCII, or blocks, if these
-//                                                             are in `SOME_GROUPS` groups or more, else one code point
-//                             another, then ASCII soon        one code point
-//                             others                          blocks of `BLOCK_UNITS`: `kernel`
-//     `QUARTER_BLOCK`         two ASCII, or one of fewer      the ASCII run in `BLOCK_UNITS`, `HALF_BLOCK` or
-//     or more                 than `HALF_BLOCK`               `QUARTER_BLOCK`, and the code point after it
-//                             others                          blocks, of which the last may have fewer units
-//     fewer                   any                             one code point at a time: `decode_utf16`
+//     4 to 31, the whole list: ASCII      `short_ascii`: two blocks, which may overlap
+//     at most 12, the whole list          `few`: one code point at a time, on the stack
+//     32 or more, the first one ASCII     the ASCII run; then `letters` if few are not ASCII, one code point, or blocks
+//     4 to 31, the first two ASCII        the ASCII run and the code point after it
+//     4 or more, others                   `kernel`: blocks, of which the last may have fewer units than the others
+//     at most 3                           `decode`, the plain form of the conversion: one code point at a time
+//
+// In a slice `front` goes by the first four units alone.
 pub(crate) mod decode;
 pub(crate) mod encoded_len;
 pub(crate) mod few;
@@ -33,3 +27,10 @@ pub(crate) const HALF_BLOCK: usize = BLOCK_UNITS / 2;
 
 /// Also the least number of the last units that are encoded as a block.
 pub(crate) const QUARTER_BLOCK: usize = BLOCK_UNITS / 4;
+
+/// How far units are encoded: the index of the next one, and whether no lone surrogate precedes it.
+#[derive(Clone, Copy)]
+pub(crate) struct Progress {
+    pub(crate) at: usize,
+    pub(crate) is_utf8: bool,
+}

@@ -4,9 +4,8 @@ ghost use Rattle.std.specs.Prelude.{◌≡◌, ◌++◌, ◌+◌, ◌*◌, ◌<�
 ghost use Rattle.wtf8.specs.private.EncodedBytes.{BecomesOrKeeps};
 ghost use Rattle.wtf8.specs.private.Prefixes.{AreAscii};
 
-use crate::from_utf16::transcode::narrow_saturating;
 use crate::from_utf16::{BLOCK_UNITS, HALF_BLOCK, QUARTER_BLOCK, TWO_BLOCKS};
-use crate::lanes::ascii::is_ascii_block;
+use crate::lanes::ascii::{is_ascii_block, narrow_saturating};
 use std::alloc::{AllocError, Allocator};
 use std::simd::prelude::*;
 

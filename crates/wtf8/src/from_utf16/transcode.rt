@@ -8,11 +8,11 @@ use crate::codec::code_point::CodePoint;
 use crate::codec::encoding;
 use crate::from_utf16::encoded_len::{Growth, make_room};
 use crate::from_utf16::few::{self, FEW_UNITS};
-use crate::from_utf16::kernel::{self, MIN_SPARE, Progress};
+use crate::from_utf16::kernel::{self, MIN_SPARE};
 use crate::from_utf16::letters::{LETTERS_SPARE, append_letters, is_letter};
 use crate::from_utf16::short_ascii::{self, is_short_ascii};
-use crate::from_utf16::{BLOCK_UNITS, HALF_BLOCK, QUARTER_BLOCK, TWO_BLOCKS, decode};
-use crate::lanes::ascii::first_not_ascii;
+use crate::from_utf16::{BLOCK_UNITS, HALF_BLOCK, Progress, QUARTER_BLOCK, TWO_BLOCKS, decode};
+use crate::lanes::ascii::{first_not_ascii, narrow_saturating};
 use crate::vec::spare_capacity;
 use std::alloc::{AllocError, Allocator};
 use std::simd::prelude::*;
@@ -37,14 +37,6 @@ pub(crate) const MOST_POINT_BYTES: usize = 4;
 
 /// The most bytes that a code unit adds.
 const MOST_BYTES: usize = 3;
-
-/// Units narrowed to bytes. A unit above 0xFF becomes 0xFF, so that it is not ASCII.
-#[inline(always)]
-pub(crate) fn narrow_saturating<const N: usize>(units: Simd<u16, N>) -> Simd<u8, N>
-    ensures { result ≡ map (λ unit. min unit 0xFF) units.entry }
-{
-    units.simd_min(Simd::splat(0xFF)).cast::<u8>()
-}
 
 #[inline(always)]
 fn append_point<A: Allocator>(

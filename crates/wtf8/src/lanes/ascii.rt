@@ -1,9 +1,17 @@
 // ASCII in blocks of bytes: whether all bytes are ASCII, and how many at the front are.
-ghost use Rattle.std.specs.Prelude.{ℕ, ◌*◌, ◌<◌, ◌≤◌, length, take, slice_index, IsTrue, IfNone, IfSome};
+ghost use Rattle.std.specs.Prelude.{◌≡◌, ℕ, ◌*◌, ◌<◌, ◌≤◌, length, map, min, take, slice_index, IsTrue, IfNone, IfSome};
 ghost use Rattle.wtf8.specs.private.Prefixes.{AreAscii};
 
 use crate::lanes::{BLOCK, first_set_lane};
 use std::simd::prelude::*;
+
+/// Units narrowed to bytes. A unit above 0xFF becomes 0xFF, so that it is not ASCII.
+#[inline(always)]
+pub(crate) fn narrow_saturating<const N: usize>(units: Simd<u16, N>) -> Simd<u8, N>
+    ensures { result ≡ map (λ unit. min unit 0xFF) units.entry }
+{
+    units.simd_min(Simd::splat(0xFF)).cast::<u8>()
+}
 
 /// Returns the index of the first byte that is not ASCII, or `None` if all are.
 #[inline(always)]

@@ -5,7 +5,7 @@ ghost use Rattle.wtf8.specs.CodePoint.{number};
 ghost use Rattle.wtf8.specs.Concatenation.{MeetsAsPair};
 ghost use Rattle.wtf8.specs.Form.{IsWellFormed, Reads, encoding};
 ghost use Rattle.wtf8.specs.private.EncodedBytes.{ExtendsForm, BecomesOrKeeps, ExtendsFormOrKeeps};
-ghost use Rattle.wtf8.specs.private.Prefixes.{AreAscii, AreScalarTo, FrontsFit, IsKnownForm};
+ghost use Rattle.wtf8.specs.private.Prefixes.{AreScalarTo, FrontsFit, IsKnownForm};
 ghost use Rattle.wtf8.specs.Surrogates.{AreScalar};
 ghost use Rattle.wtf8.specs.Unicode.{units, units_of, pair, IsSurrogate, IsLead, IsTrail};
 ghost use Rattle.wtf8.specs.View.{view_points, view_units};
@@ -14,9 +14,8 @@ use crate::codec::code_point::{CodePoint, FIRST_TRAIL, code_point_of_pair, is_tr
 use crate::codec::encoding;
 use crate::from_utf16::encoded_len::Growth;
 use crate::from_utf16::few::{self, FEW_UNITS};
-use crate::from_utf16::kernel::Progress;
 use crate::from_utf16::short_ascii::{self, is_short_ascii};
-use crate::from_utf16::{QUARTER_BLOCK, TWO_BLOCKS, transcode};
+use crate::from_utf16::{Progress, transcode};
 use crate::strings::utf8_prefix::Utf8Prefix;
 use crate::strings::view::Wtf8;
 use crate::vec::spare_capacity;
@@ -317,54 +316,23 @@ fn push_utf16<A: Allocator>(
     }
 }
 
-/// Whether the first of the units is a trail, without which they form no pair with what is before them.
+/// Whether the first of the units may complete a lead at the end of a string. One without surrogates, as `is_utf8` says,
+/// has none.
 #[inline(always)]
-fn begins_with_trail(v: &[u16]) -> bool
-    ensures { (c : List ℕ) → MeetsAsPair c v.now → IsTrue result }
+fn may_complete_lead(is_utf8: bool, v: &[u16]) -> bool
+    ensures { (c : List ℕ) → (IsTrue is_utf8 → AreScalar c) → MeetsAsPair c v.now → IsTrue result }
 {
+    if is_utf8 {
+        return false;
+    }
     match v.first() {
         Some(unit) => is_trail(u32::from(*unit)),
         None => false,
     }
 }
 
-/// `push_utf16` of few units that form no pair with the bytes before them.
-#[inline(always)]
-fn push_few<A: Allocator>(
-    bytes: &mut Vec<u8, A>,
-    v: &[u16],
-    utf8_prefix: &mut Utf8Prefix,
-) -> Result<(), AllocError>
-    requires well_formed { IsWellFormed bytes.old.items }
-    requires scalar_prefix { (h : IsWellFormed bytes.old.items) → AreScalarTo utf8_prefix.old.len h.points }
-    requires no_pair { (h : IsWellFormed bytes.old.items) → ¬ (MeetsAsPair h.points v.now) }
-    requires few { length v.now ≤ FEW_UNITS }
-    ensures extends { ExtendsFormOrKeeps bytes.old v.now bytes.new result }
-    ensures order { utf8_prefix.new.len ≤ utf8_prefix.old.len }
-    ensures scalar { length bytes.old.items < utf8_prefix.new.len → OnOk result ((c : List ℕ) → Reads c v.now → AreScalar c) }
-{
-    let len = bytes.len();
-    let is_utf8 = few::append(bytes, v, len <= utf8_prefix.len)?;
-    if !is_utf8 {
-        *utf8_prefix = utf8_prefix.up_to(len);
-    }
-    Ok(())
-}
-
-/// `push_utf16` of units of which `is_short_ascii` is true.
-#[inline(always)]
-fn push_short_ascii<A: Allocator>(bytes: &mut Vec<u8, A>, v: &[u16]) -> Result<(), AllocError>
-    requires well_formed { IsWellFormed bytes.old.items }
-    requires len { (QUARTER_BLOCK ≤ length v.now) × (length v.now < TWO_BLOCKS) }
-    requires ascii { AreAscii v.now }
-    ensures extends { ExtendsFormOrKeeps bytes.old v.now bytes.new result }
-    ensures scalar { (c : List ℕ) → Reads c v.now → AreScalar c }
-{
-    short_ascii::append(bytes, v)
-}
-
-/// Appends code units as `push_utf16` does. Few units take a shorter way. Inlined, so that a caller saves no registers
-/// for `push_utf16` before it chooses.
+/// Appends code units as `push_utf16` does. Few units, and short ASCII, take a shorter way. Inlined, so that a caller saves
+/// no registers for `push_utf16` before it chooses.
 #[inline(always)]
 pub(crate) fn push_units<A: Allocator>(
     bytes: &mut Vec<u8, A>,
@@ -378,13 +346,16 @@ pub(crate) fn push_units<A: Allocator>(
     ensures scalar { length bytes.old.items < utf8_prefix.new.len → OnOk result ((c : List ℕ) → Reads c v.now → AreScalar c) }
 {
     if is_short_ascii(v) {
-        return push_short_ascii(bytes, v);
+        return short_ascii::append(bytes, v);
     }
-    if v.len() <= FEW_UNITS {
-        // A string without surrogates has no lead at its end.
-        if bytes.len() <= utf8_prefix.len || !begins_with_trail(v) {
-            return push_few(bytes, v, utf8_prefix);
-        }
+    let len = bytes.len();
+    let is_utf8 = len <= utf8_prefix.len;
+    if FEW_UNITS < v.len() || may_complete_lead(is_utf8, v) {
+        return push_utf16(bytes, v, utf8_prefix);
     }
-    push_utf16(bytes, v, utf8_prefix)
+    let is_utf8 = few::append(bytes, v, is_utf8)?;
+    if !is_utf8 {
+        *utf8_prefix = utf8_prefix.up_to(len);
+    }
+    Ok(())
 }

@@ -11,6 +11,7 @@ use Rattle.std.proofs.lemmas.Simd.{get_or-swz_l_below}
 use Rattle.wtf8.specs.private.PackedUnits.{first_byte, second_byte, scalar_last_byte, last_byte, scalar_head, three_byte_flag}
 use Rattle.wtf8.specs.private.PackedUnits.{three_byte_bit, byte_count, byte_lanes, units_table_index, source_lanes}
 use Rattle.wtf8.specs.private.PackedUnits.{IsByteCount, packed_unit, packed_units, tagged, tagged_units, tagged_block, AreUnitBytes}
+use Rattle.wtf8.proofs.lemmas.from_utf16.Padded.{twice}
 use Rattle.wtf8.proofs.lemmas.from_utf16.PackedUnits.{packed_unit-lead, IsTag, IsTag-tagged, tagged-scalar, tagged-lead_before_trail, length-tagged_units}
 use Rattle.std.proofs.Math.Seq.{take-append_seam}
 
@@ -338,10 +339,6 @@ two_digits m l t x i j =
     let b : y / 256 % 256 ≡ t * 0x80 = omega arith in
     let rest : y / 256 / 256 ≡ x = omega arith in
     λ i. a i ∷ b i ∷ digits_l 256 m (rest i)
-
-abbrev twice : List ℕ → ℕ
-twice [] = 0
-twice (x ∷ u) = suc (suc (twice u))
 
 mask-table_index : (u : List ℕ) → mask_l (map is_set (digits_l 256 (twice u) (number_l 65536 (map last u)))) ≡ units_table_index u
 mask-table_index [] = refl

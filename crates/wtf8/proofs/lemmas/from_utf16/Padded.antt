@@ -13,7 +13,7 @@ abbrev le_bytes : List ℕ → List ℕ
 le_bytes [] = []
 le_bytes (x ∷ u) = (x % 256) ∷ (x / 256) ∷ le_bytes u
 
-abbrev twice : List ℕ → ℕ
+abbrev pub twice : List ℕ → ℕ
 twice [] = 0
 twice (x ∷ u) = suc (suc (twice u))
 

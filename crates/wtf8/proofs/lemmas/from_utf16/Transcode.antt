@@ -7,7 +7,7 @@ use Rattle.wtf8.proofs.Common.{length-take, take-add, take_at, AreScalarUnits}
 use Rattle.wtf8.proofs.Common.{take-append-add, min, length-map, take-take, zip2_splat, IsLead, IsReadTo}
 use Rattle.wtf8.proofs.Common.{IsForm, ReadsOn, HasRoomFrom, take_all, vec_capacity}
 use Rattle.std.specs.declared.vec.Vec.{Vec}
-use Rattle.wtf8.specs.declared.from_utf16.kernel.Progress.{Progress}
+use Rattle.wtf8.specs.declared.from_utf16.Progress.{Progress}
 use Rattle.std.proofs.Math.Bool.{and-true}
 use Rattle.std.proofs.lemmas.List.{take-append-le}
 use Rattle.std.proofs.Math.Seq.{take-suc}

@@ -1,6 +1,6 @@
 use Rattle.wtf8.proofs.Common.{◌∙◌, arith, map-id, min}
 use Rattle.wtf8.proofs.lemmas.lanes.AsciiFronts.{saturated_lanes, Each1-map_all}
-use Rattle.wtf8.proofs.from_utf16.transcode.narrow_saturating.Goals as goal
+use Rattle.wtf8.proofs.lanes.ascii.narrow_saturating.Goals as goal
 
 pub overflow_cast-result : goal.overflow_cast-result
 overflow_cast-result g c =
