@@ -2,12 +2,12 @@
 use Rattle.wtf8.proofs.Common.{◌≡◌, ℕ, ◌+◌, ◌/◌, ◌%◌, ◌<◌, ◌≤◌, List, [], ◌∷◌, ◌++◌, Bool, true, false, length, take}
 use Rattle.wtf8.proofs.Common.{drop, get_or, refl, sym, ap, ◌∙◌, subst, arith, cases_lt, lt-ltb, le-ltb, inl, inr, encoding, bytes, units, units_of}
 use Rattle.wtf8.proofs.Common.{IsClean, IsWellFormed, BeginsWithUnits, Writes, length-append, nat_tests, drop_at, take-append-drop}
-use Rattle.wtf8.proofs.Common.{AreAscii, append-nil, append_assoc, take-take, drop_all, form_of, length-replicate, length-take-le, replicate, suc, take_all, take_at, zero, ◌-◌}
+use Rattle.wtf8.proofs.Common.{AreAscii, append-nil, append_assoc, take-take, drop_all, length-replicate, length-take-le, replicate, suc, take_all, take_at, zero, ◌-◌}
 use Rattle.std.proofs.lemmas.Simd.{Each1-replicate}
-use Rattle.wtf8.proofs.lemmas.codec.Scalars.{IsKnownForm-ascii, bytes-ascii, clean-ascii, units-ascii}
+use Rattle.wtf8.proofs.lemmas.codec.Scalars.{bytes-ascii, clean-ascii, units-ascii}
 use Rattle.wtf8.specs.private.UnitsOut.{IsBlock}
 use Rattle.wtf8.proofs.lemmas.codec.Encoding.{encoding_cases, one, two, three, four, bytes-append, length-encoding_bounds, second_row, third_row, fourth_row}
-use Rattle.wtf8.proofs.lemmas.codec.Readings.{units_one, units_two, units-append, clean-append, unpaired-before_no_trail, units_from_form, IsWellFormed-equal_bytes, clean-first, clean-rest, clean-back, lead_of, trail_of}
+use Rattle.wtf8.proofs.lemmas.codec.Readings.{units_one, units_two, units-append, clean-append, unpaired-before_no_trail, IsWellFormed-equal_bytes, clean-first, clean-rest, clean-back, lead_of, trail_of}
 use Rattle.wtf8.proofs.lemmas.units.PackedWords.{whole_len, whole_len-bound}
 use Rattle.wtf8.proofs.lemmas.units.UnitLanes.{length-set_lanes, unit_at_end}
 use Rattle.wtf8.specs.private.UnitEnds.{by_position, ends_in_block, set_lanes, picked}
@@ -111,7 +111,7 @@ Takes-two {n} {m} {l} {t} {u} b d {s} e g f h = record {
 -- The code points that a block holds whole.
 
 -- the block `v` after `z`, `y` and `x` holds the code points `front` of `c` whole: their units are picked
-pub record HoldsPoints (z y x : ℕ) (v c : List ℕ) : Type 0 where
+record HoldsPoints (z y x : ℕ) (v c : List ℕ) : Type 0 where
   pub front : List ℕ
   pub back : List ℕ
   pub joined : c ≡ front ++ back
@@ -249,7 +249,7 @@ holds_four z y x p c (b ∷ d ∷ f ∷ h ∷ v) r k m l e g more =
     )
 
 -- the front of the bytes of code points, from the start of one on, holds code points whole
-pub holds_points : (z y x : ℕ) (c v r : List ℕ) → AreBefore z y x → IsClean c → bytes c ≡ v ++ r → HoldsPoints z y x v c
+holds_points : (z y x : ℕ) (c v r : List ℕ) → AreBefore z y x → IsClean c → bytes c ≡ v ++ r → HoldsPoints z y x v c
 holds_points z y x [] [] r k clean g =
     record { front = []; back = []; joined = refl; picks = refl; len = refl; some = λ h. absurd (omega (arith, h)); all = λ _. refl }
 holds_points z y x [] (b ∷ v) r k clean g = absurd (omega (arith, ap length g))
@@ -263,7 +263,7 @@ holds_points z y x (p ∷ c) v r k clean g =
     ]
 
 -- the units that end in the front of well-formed bytes are the next units
-pub begins_with_block : (w block : List ℕ) → block ≡ take 32 w
+begins_with_block : (w block : List ℕ) → block ≡ take 32 w
     → BeginsWithUnits w (picked (by_position unit_at_end 0 0 0 block) (set_lanes 0 0 block)) (whole_len (set_lanes 0 0 block))
 begins_with_block w block same h =
     let whole : bytes h.points ≡ block ++ drop 32 w = h.encoded ∙ (sym (take-append-drop 32 w) ∙ ap (λ b. b ++ drop 32 w) (sym same)) in
@@ -277,7 +277,7 @@ begins_with_block w block same h =
     )
 
 -- a block of four bytes and more has a first code point whole
-pub some_held : (w block : List ℕ) → IsWellFormed w → block ≡ take 32 w → 4 ≤ length block → 0 < whole_len (set_lanes 0 0 block)
+some_held : (w block : List ℕ) → IsWellFormed w → block ≡ take 32 w → 4 ≤ length block → 0 < whole_len (set_lanes 0 0 block)
 some_held w block h same long =
     let whole : bytes h.points ≡ block ++ drop 32 w = h.encoded ∙ (sym (take-append-drop 32 w) ∙ ap (λ b. b ++ drop 32 w) (sym same)) in
     (holds_points 0 0 0 h.points block (drop 32 w) (record { first = omega arith; second = omega arith; third = omega arith }) h.clean whole).some long
@@ -350,22 +350,6 @@ holds_units w block (suc k) b h =
       all = λ _. refl;
       within = omega (arith, width, count);
     }
-
-ascii_take : (n : ℕ) (u : List ℕ) → AreAscii u → AreAscii (take n u)
-ascii_take zero u h = tt
-ascii_take (suc n) [] h = tt
-ascii_take (suc n) (x ∷ u) h = (h.0, ascii_take n u h.1)
-
--- bytes of a block that are all ASCII are the next units
-pub begins_with_ascii : (w block : List ℕ) (padding : ℕ) → block ≡ w ++ replicate padding 0 → AreAscii block
-    → BeginsWithUnits w (take (length w) block) (length w)
-begins_with_ascii w block padding same ascii h =
-    let front : take (length w) block ≡ w = ap (take (length w)) same ∙ take_at w (replicate padding 0) (length w) refl in
-    let low : AreAscii w = subst AreAscii front (ascii_take (length w) block ascii) in
-    let none : drop (length w) w ≡ [] = drop_all (length w) w (omega arith) in (
-      record { points = []; clean = tt; encoded = sym none },
-      units_from_form _ _ _ (form_of h) (IsKnownForm-ascii w low).form ∙ (sym front ∙ sym (append-nil (take (length w) block))),
-    )
 
 pub Writes-trans : {a b d l m r : List ℕ} {i j k : ℕ} → Writes a i l b j m → Writes b j m d k r → Writes a i l d k r
 Writes-trans v w = record {

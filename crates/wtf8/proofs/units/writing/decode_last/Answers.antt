@@ -1,21 +1,28 @@
-use Rattle.wtf8.proofs.Common.{◌≡◌, ◌-◌, ◌∙◌, ◌≤◌, ap, arith, length, length-drop, subst, sym, take, BeginsWithUnits}
+use Rattle.wtf8.proofs.Common.{◌≡◌, ℕ, zero, suc, List, [], ◌∷◌, ◌-◌, ◌∙◌, ◌≤◌, ap, arith, length, length-drop, replicate, subst, sym, take, take_all, take_at}
+use Rattle.wtf8.proofs.Common.{AreAscii}
 use Rattle.std.proofs.lemmas.List.{nil_from_length}
 use Rattle.wtf8.proofs.lemmas.codec.Readings.{lists_have_lengths}
-use Rattle.wtf8.proofs.lemmas.units.UnitEnds.{IsBlock-padded, begins_with_ascii}
+use Rattle.wtf8.proofs.lemmas.units.Blocks.{begins_with_ascii}
+use Rattle.wtf8.proofs.lemmas.units.UnitEnds.{IsBlock-padded}
 use Rattle.wtf8.proofs.units.writing.decode_last.Goals as goal
+
+ascii_take : (n : ℕ) (u : List ℕ) → AreAscii u → AreAscii (take n u)
+ascii_take zero u h = tt
+ascii_take (suc n) [] h = tt
+ascii_take (suc n) (b ∷ u) h = (h.0, ascii_take n u h.1)
 
 pub write_front-requires : goal.write_front-requires
 write_front-requires c =
     let w = c.args.left.view.bytes.now in
-    let count : length w ≡ c.len-len.result = sym c.len-len.ensures.bytes in
-    let ascii = c.is_ascii_block.ensures c.if-is_ascii_block.true in
-    let begins = subst (λ n. BeginsWithUnits w (take n c.padded-block.result) n) count
-    (begins_with_ascii w c.padded-block.result (32 - length w) c.padded-block.ensures ascii) in
-    let own = subst (λ u. BeginsWithUnits w (take c.len-len.result u) c.len-len.result) (sym c.widen.ensures) begins in
-    let few : c.len-len.result ≤ 32 = omega (arith, count, c.requires.few) in (
-      omega arith,
-      (omega arith, (omega (arith, c.if-units-left-ge-POSITIONS.true, c.requires.room), ((few, omega (arith, count)), own))),
-    )
+    let n = c.len-len.result in
+    let count : n ≡ length w = c.len-len.ensures.bytes in
+    let block = c.widen.ensures ∙ c.padded-block.ensures in
+    let front : take n c.widen.result ≡ take n w =
+    ap (take n) block ∙ (take_at w (replicate (32 - length w) 0) n (sym count) ∙ sym (take_all n w (omega (arith, count)))) in
+    let ascii = ascii_take n c.widen.result (subst AreAscii (sym c.widen.ensures) (c.is_ascii_block.ensures c.if-is_ascii_block.true)) in
+    let begins = begins_with_ascii w (take n c.widen.result) n (omega (arith, count)) front ascii in
+    let few : n ≤ 32 = omega (arith, count, c.requires.few) in
+    (omega arith, (omega arith, (omega (arith, c.if-units-left-ge-POSITIONS.true, c.requires.room), ((few, omega (arith, count)), begins))))
 
 pub returns-then-units-left-ge-POSITIONS-clause-all : goal.returns-then-units-left-ge-POSITIONS-clause-all
 returns-then-units-left-ge-POSITIONS-clause-all c =
