@@ -2,6 +2,7 @@ pub mod AsciiFronts
 pub mod Copies
 pub mod Mismatch
 pub mod Masks
+pub mod Padding
 pub mod SurrogateLanes
 pub mod UnitCounts
 pub mod ListOrder

@@ -1,5 +1,5 @@
 -- The part of a view that is left to decode: whether its units fit the slice, and what was written of them.
-use Rattle.std.specs.Prelude.{ℕ, ◌+◌, ◌≤◌, List, length}
+use Rattle.std.specs.Prelude.{◌≡◌, ℕ, ◌+◌, ◌<◌, ◌≤◌, List, ◌++◌, length, take, replicate}
 use Rattle.wtf8.specs.View.{view_units}
 use Rattle.wtf8.specs.private.EncodedBytes.{Writes}
 use Rattle.wtf8.specs.declared.units.writing.Undecoded.{Undecoded}
@@ -11,3 +11,9 @@ HasRoom units left = left.at + length (view_units left.view) ≤ length units
 -- `rest` is left of `left`, and the units before it were written to the slice `old`, which became `new`.
 abbrev pub Decodes : List ℕ → Undecoded → List ℕ → Undecoded → Type 0
 Decodes old left new rest = Writes old left.at (view_units left.view) new rest.at (view_units rest.view)
+
+-- `block` is the first 32 of the bytes, or all of them and then `padding` zeros.
+pub record IsBlock (w block : List ℕ) (padding : ℕ) : Type 0 where
+  pub front : block ≡ take 32 (w ++ replicate padding 0)
+  pub fills : 32 ≤ length w + padding
+  pub all : 0 < padding → length w + padding ≡ 32

@@ -5,17 +5,11 @@ ghost use lib.Lanes.{mask_l};
 ghost use Rattle.wtf8.specs.private.Prefixes.{AreAscii};
 ghost use Rattle.wtf8.specs.private.UnitEnds.{picked, words, joined_words};
 ghost use Rattle.wtf8.specs.private.EncodedBytes.{BecomesOrKeeps, BeginsWithUnits, Writes};
-ghost use Rattle.wtf8.specs.private.UnitsOut.{Decodes, HasRoom};
-ghost use Rattle.wtf8.specs.CodePoint.{number};
-ghost use Rattle.wtf8.specs.Unicode.{units_of};
+ghost use Rattle.wtf8.specs.private.UnitsOut.{Decodes, HasRoom, IsBlock};
 ghost use Rattle.wtf8.specs.View.{view_units};
 
-use crate::codec::code_point::{
-    CodePoint, FIRST_LEAD, FIRST_SUPPLEMENTARY, FIRST_TRAIL, SURROGATES_PER_HALF,
-};
-use crate::codec::encoding;
-use crate::lanes::VECTOR;
-use crate::lanes::ascii::{ascii_run_len, is_ascii_overlapping};
+use crate::lanes::ascii::{is_ascii_block, is_ascii_overlapping};
+use crate::lanes::padding::padded;
 use crate::strings::view::Wtf8;
 use crate::units::blocks::{EncodedLength, FourBytes, ThreeBytes, TwoBytes, widen};
 use crate::units::unit_ends::{
@@ -25,10 +19,13 @@ use crate::vec::push_block;
 use std::alloc::{AllocError, Allocator};
 use std::simd::prelude::*;
 
-/// Strings of fewer bytes than this, but for short ASCII ones, are decoded into a buffer on the stack, so that their
-/// units need not be counted first: to write five CJK units takes 321 instructions for 379. With 128 in place of 64, 12
-/// take 363 for 353, though 30 take 559 for 683.
-const SCRATCH_UNITS: usize = 4 * VECTOR;
+/// The last bytes of a string, fewer than this number, are decoded to a scratch buffer, and their units copied from there,
+/// so that they need not be counted. A block before them leaves at least three times `POSITIONS` bytes, so `POSITIONS`
+/// units, since a unit takes at most three bytes: its stores reach no further.
+const END_BYTES: usize = 4 * POSITIONS;
+
+/// There are no more units than bytes, and stores of a block reach at most `POSITIONS` units further.
+const SCRATCH_UNITS: usize = END_BYTES + POSITIONS;
 
 /// Where units end in 32 bytes of two-byte code points; below, of three-byte and of four-byte ones.
 const ENDS_OF_TWOS: u64 = 0xAAAA_AAAA;
@@ -36,17 +33,6 @@ const ENDS_OF_TWOS: u64 = 0xAAAA_AAAA;
 const ENDS_OF_THREES: u64 = 0x2492_4924;
 
 const ENDS_OF_FOURS: u64 = 0xCCCC_CCCC;
-
-/// From this number of ASCII bytes at the front of a block on it is cheaper to decode them and one code point more than
-/// the whole block by positions. With 16, emoji in words take 1.2 of the time. With 4, texts that do not repeat, so that
-/// a processor cannot foresee how long a front is, take longer: French 1.2 to 1.3, one accent in six 1.3 to 1.5.
-const LEAST_ASCII_FRONT: usize = 12;
-
-/// The bytes at the end of a string of `COUNTED_FROM` bytes or more whose units `write_units` counts: `POSITIONS` units
-/// or more, since a unit takes at most three. Stores of the bytes before reach no further.
-const COUNTED_BYTES: usize = 3 * POSITIONS;
-
-const COUNTED_FROM: usize = 2 * COUNTED_BYTES;
 
 /// The part of a view that is not decoded yet, and the index at which its first unit will be written.
 #[derive(Clone, Copy)]
@@ -107,42 +93,6 @@ fn write_ascii<const N: usize>(out: &mut [u16], view: Wtf8<'_>) -> usize
     bytes.len()
 }
 
-#[inline(always)]
-#[tactic(auto, using(crate::proofs::lemmas::codec::Readings::units_two))]
-fn pair_of(code_point: CodePoint) -> [u16; 2]
-    requires { 0x10000 ≤ number code_point }
-    ensures { result ≡ units_of (number code_point) }
-{
-    let per_half = SURROGATES_PER_HALF as u32;
-    let offset = code_point.to_u32() - FIRST_SUPPLEMENTARY;
-    let lead = FIRST_LEAD as u32 + offset / per_half;
-    [lead as u16, (FIRST_TRAIL as u32 + offset % per_half) as u16]
-}
-
-#[inline(always)]
-fn decode_point<'a>(units: &mut [u16], left: Undecoded<'a>) -> Undecoded<'a>
-    requires room { HasRoom units.old left }
-    requires nonempty { 0 < length left.view.bytes.now }
-    ensures written { Decodes units.old left.entry units.new result }
-    ensures shorter { length result.view.bytes.now < length left.entry.view.bytes.now }
-{
-    let bytes = left.view.bytes;
-    match bytes[0] {
-        0x80..=0xDF => write_front(units, left, [encoding::read_two(bytes) as u16], 1, 2),
-        0xE0..=0xEF => write_front(units, left, [encoding::read_three(bytes) as u16], 1, 3),
-        _ => {
-            let (code_point, width) = encoding::read(bytes, 0);
-            let value = code_point.to_u32();
-            // Two- and three-byte lead bytes are matched above, so a value below 0x10000 is ASCII.
-            if value < 0x10000 {
-                return write_front(units, left, [value as u16], 1, width);
-            }
-            let pair = pair_of(code_point);
-            write_front(units, left, pair, 2, width)
-        }
-    }
-}
-
 /// The units of the block after the first `count` are written too, where later units come, or are never read.
 #[inline(always)]
 fn write_front<'a, const N: usize>(
@@ -172,6 +122,8 @@ fn store_packed(units: &mut [u16], at: usize, lanes: u8x16, index: usize) -> usi
     requires room { at + 8 ≤ length units.old }
     ensures count { result ≡ at + ones index }
     ensures len { length units.new ≡ length units.old }
+    ensures within { result ≤ at + 8 }
+    ensures later { (n : ℕ) → at + 8 ≤ n → drop n units.new ≡ drop n units.old }
     ensures written { (s : List Bool) (rest : List ℕ) → length s ≡ 8 → index ≡ mask_l s
         → Writes units.old at (picked (words lanes) s ++ rest) units.new result rest }
 {
@@ -179,25 +131,12 @@ fn store_packed(units: &mut [u16], at: usize, lanes: u8x16, index: usize) -> usi
     at + index.count_ones() as usize
 }
 
-/// The index of the first unit that ends in the last eight of the 32 positions, if the block's first unit has index
-/// `at`.
-#[inline(always)]
-fn last_group(at: usize, ends: u64) -> usize
-    requires { at < 2 ^ 63 }
-    ensures within { result ≤ at + 24 }
-    ensures index { result ≡ at + ones (ends % 0x100) + ones (ends / 0x100 % 0x100) + ones (ends / 0x1_0000 % 0x100) }
-{
-    let ends = ends as usize;
-    let first = (ends % 0x100).count_ones() as usize;
-    let second = (ends / 0x100 % 0x100).count_ones() as usize;
-    at + first + second + (ends / 0x1_0000 % 0x100).count_ones() as usize
-}
-
 #[inline(always)]
 fn store_block(units: &mut [u16], at: usize, block: UnitEnds) -> usize
     requires room { at + ones (block.ends % 0x100) + ones (block.ends / 0x100 % 0x100) + ones (block.ends / 0x1_0000 % 0x100) + 8 ≤ length units.old }
-    ensures { (s : List Bool) (rest : List ℕ) → length s ≡ POSITIONS → block.ends ≡ mask_l s
+    ensures written { (s : List Bool) (rest : List ℕ) → length s ≡ POSITIONS → block.ends ≡ mask_l s
         → Writes units.old at (picked (joined_words block.low block.high) s ++ rest) units.new result rest }
+    ensures later { (n : ℕ) → at + POSITIONS ≤ n → drop n units.new ≡ drop n units.old }
 {
     let (front, second, third, last) = interleave(block.low, block.high);
     let ends = block.ends as usize;
@@ -207,54 +146,95 @@ fn store_block(units: &mut [u16], at: usize, block: UnitEnds) -> usize
     store_packed(units, after, last, ends / 0x100_0000 % 0x100)
 }
 
+/// Decodes all whole code points of a block, which has room for its stores.
 #[inline(always)]
-fn decode_points<'a>(units: &mut [u16], left: Undecoded<'a>) -> Undecoded<'a>
-    requires room { HasRoom units.old left }
+fn decode_block<'a>(
+    units: &mut [u16],
+    left: Undecoded<'a>,
+    bytes: u8x32,
+    padding: usize,
+) -> Undecoded<'a>
+    requires room { left.at + POSITIONS ≤ length units.old }
+    requires block { IsBlock left.view.bytes.now bytes padding }
     ensures written { Decodes units.old left.entry units.new result }
-    ensures all { (result.view.bytes.now ≡ []) × (view_units result.view ≡ []) }
-{
-    let mut rest = left;
-    while !rest.view.is_empty() {
-        rest = decode_point(units, rest);
-    }
-    rest
-}
-
-/// Decodes all whole code points of 32 bytes. Without room for the eight units that the last store writes, so near the
-/// end, decodes the rest of the string code point by code point.
-#[inline(always)]
-fn decode_positions<'a>(units: &mut [u16], left: Undecoded<'a>, bytes: u8x32) -> Undecoded<'a>
-    requires room { HasRoom units.old left }
-    requires least { POSITIONS ≤ length left.view.bytes.now }
-    requires front { bytes ≡ take POSITIONS left.view.bytes.now }
-    ensures written { Decodes units.old left.entry units.new result }
-    ensures shorter { length result.view.bytes.now < length left.entry.view.bytes.now }
+    ensures shorter { 0 < length left.entry.view.bytes.now → length result.view.bytes.now < length left.entry.view.bytes.now }
+    ensures within { length left.entry.view.bytes.now ≤ length result.view.bytes.now + POSITIONS }
+    ensures all { 0 < padding → view_units result.view ≡ [] }
 {
     let block = unit_ends(bytes);
-    if units.len() - left.at < POSITIONS && units.len() < last_group(left.at, block.ends) + 8 {
-        return decode_points(units, left);
-    }
-    let at = store_block(units, left.at, block);
-    let width = (u64::BITS - block.ends.leading_zeros()) as usize;
+    let at = store_block(units, left.at, block) - padding;
+    let width = (u64::BITS - block.ends.leading_zeros()) as usize - padding;
     Undecoded {
         view: left.view.skip_bytes(width),
         at,
     }
 }
 
-/// Decodes full blocks of code points of one encoded length, as many as follow each other.
+/// Decodes all whole code points of a block to a scratch buffer, and copies their units. No later unit is overwritten.
+#[inline(never)]
+fn decode_by_scratch<'a>(
+    units: &mut [u16],
+    left: Undecoded<'a>,
+    bytes: u8x32,
+    padding: usize,
+) -> Undecoded<'a>
+    requires room { HasRoom units.old left }
+    requires block { IsBlock left.view.bytes.now bytes padding }
+    ensures written { Decodes units.old left.entry units.new result }
+    ensures rest { (n : ℕ) → result.at ≤ n → drop n units.new ≡ drop n units.old }
+    ensures shorter { 0 < length left.entry.view.bytes.now → length result.view.bytes.now < length left.entry.view.bytes.now }
+    ensures within { length left.entry.view.bytes.now ≤ length result.view.bytes.now + POSITIONS }
+    ensures all { 0 < padding → view_units result.view ≡ [] }
+{
+    let mut scratch = [0; POSITIONS];
+    let start = Undecoded {
+        view: left.view,
+        at: 0,
+    };
+    let rest = decode_block(&mut scratch, start, bytes, padding);
+    units[left.at..left.at + rest.at].copy_from_slice(&scratch[..rest.at]);
+    Undecoded {
+        view: rest.view,
+        at: left.at + rest.at,
+    }
+}
+
+#[inline(always)]
+fn decode_positions<'a>(
+    units: &mut [u16],
+    left: Undecoded<'a>,
+    bytes: u8x32,
+    padding: usize,
+) -> Undecoded<'a>
+    requires room { HasRoom units.old left }
+    requires block { IsBlock left.view.bytes.now bytes padding }
+    ensures written { Decodes units.old left.entry units.new result }
+    ensures shorter { 0 < length left.entry.view.bytes.now → length result.view.bytes.now < length left.entry.view.bytes.now }
+    ensures within { length left.entry.view.bytes.now ≤ length result.view.bytes.now + POSITIONS }
+    ensures all { 0 < padding → view_units result.view ≡ [] }
+{
+    if POSITIONS <= units.len() - left.at {
+        return decode_block(units, left, bytes, padding);
+    }
+    decode_by_scratch(units, left, bytes, padding)
+}
+
+/// Decodes full blocks of code points of one encoded length, as many as follow each other while `least` bytes are left.
 #[inline(always)]
 fn decode_full_blocks<'a, const N: usize, const BYTES: usize, K: EncodedLength<N, BYTES>>(
     units: &mut [u16],
     left: Undecoded<'a>,
+    least: usize,
 ) -> Undecoded<'a>
-    requires lanes { (N ≤ POSITIONS) × (0 < BYTES) }
+    requires lanes { (N ≤ POSITIONS) × (0 < BYTES) × (BYTES ≤ POSITIONS) }
+    requires least { (POSITIONS ≤ least) × (least ≤ length left.view.bytes.now) }
     requires room { HasRoom units.old left }
     ensures written { Decodes units.old left.entry units.new result }
     ensures within { length result.view.bytes.now ≤ length left.entry.view.bytes.now }
+    ensures kept { least ≤ length result.view.bytes.now + POSITIONS }
 {
     let mut rest = left;
-    while BYTES <= rest.view.len() {
+    while least <= rest.view.len() {
         let Some(block) = K::read(rest.view.bytes) else {
             return rest;
         };
@@ -263,31 +243,9 @@ fn decode_full_blocks<'a, const N: usize, const BYTES: usize, K: EncodedLength<N
     rest
 }
 
-/// Decodes the ASCII bytes at the front of a block and the code point after them.
-#[inline(always)]
-fn decode_ascii_front<'a>(
-    units: &mut [u16],
-    left: Undecoded<'a>,
-    block: u8x32,
-    count: usize,
-) -> Undecoded<'a>
-    requires room { HasRoom units.old left }
-    requires block_room { left.at + POSITIONS ≤ length units.old }
-    requires least { POSITIONS ≤ length left.view.bytes.now }
-    requires front { block ≡ take POSITIONS left.view.bytes.now }
-    requires few { count < POSITIONS }
-    requires ascii { AreAscii (take count block) }
-    ensures written { Decodes units.old left.entry units.new result }
-    ensures shorter { length result.view.bytes.now < length left.entry.view.bytes.now }
-{
-    let after = write_front(units, left, widen(block), count, count);
-    decode_point(units, after)
-}
-
 /// Decodes the front of a string, which its first 32 bytes choose the way for:
 ///
 /// - 32 ASCII bytes: widened at once, in 0.78 of the time that blocks of 16 take;
-/// - `LEAST_ASCII_FRONT` ASCII bytes or more, with room for 32 units: these bytes and the code point after them;
 /// - two-, three- or four-byte code points alone: full blocks of them, and the 32 bytes after these by positions. All by
 ///   positions take 1.7 to 1.9, four-byte ones 3.5 of the instructions. To choose again after the full blocks takes
 ///   Japanese 1.08;
@@ -296,34 +254,65 @@ fn decode_ascii_front<'a>(
 /// Code points of one length are told by these positions alone. Those of other lengths that end units at the same ones
 /// have no full block, and go by positions too.
 #[inline(always)]
-fn decode_next<'a>(units: &mut [u16], left: Undecoded<'a>) -> Undecoded<'a>
+fn decode_next<'a>(units: &mut [u16], left: Undecoded<'a>, least: usize) -> Undecoded<'a>
     requires room { HasRoom units.old left }
-    requires least { POSITIONS ≤ length left.view.bytes.now }
+    requires least { (POSITIONS ≤ least) × (least ≤ length left.view.bytes.now) }
     ensures written { Decodes units.old left.entry units.new result }
     ensures shorter { length result.view.bytes.now < length left.entry.view.bytes.now }
+    ensures kept { least ≤ length result.view.bytes.now + POSITIONS }
 {
-    let bytes = left.view.bytes;
-    let block = u8x32::from_slice(bytes);
-    let count = ascii_run_len(block);
-    if count == POSITIONS {
+    let block = u8x32::from_slice(left.view.bytes);
+    if is_ascii_block(block) {
         return write_front(units, left, widen(block), POSITIONS, POSITIONS);
     }
-    if LEAST_ASCII_FRONT <= count && POSITIONS <= units.len() - left.at {
-        return decode_ascii_front(units, left, block, count);
-    }
     let rest = match end_positions(block) {
-        ENDS_OF_TWOS => decode_full_blocks::<16, 32, TwoBytes>(units, left),
-        ENDS_OF_THREES => decode_full_blocks::<8, 24, ThreeBytes>(units, left),
-        ENDS_OF_FOURS => decode_full_blocks::<16, 32, FourBytes>(units, left),
-        _ => return decode_positions(units, left, block),
+        ENDS_OF_TWOS => decode_full_blocks::<16, 32, TwoBytes>(units, left, least),
+        ENDS_OF_THREES => decode_full_blocks::<8, 24, ThreeBytes>(units, left, least),
+        ENDS_OF_FOURS => decode_full_blocks::<16, 32, FourBytes>(units, left, least),
+        _ => return decode_positions(units, left, block, 0),
     };
-    if rest.view.len() < POSITIONS {
+    if rest.view.len() < least {
         return rest;
     }
-    decode_positions(units, rest, u8x32::from_slice(rest.view.bytes))
+    decode_positions(units, rest, u8x32::from_slice(rest.view.bytes), 0)
 }
 
-/// May overwrite up to `POSITIONS` later units. Not inlined, so that all callers share the one loop.
+/// Decodes blocks while `least` bytes are left. Not inlined, so that all callers share the one loop.
+#[inline(never)]
+fn decode_blocks<'a>(units: &mut [u16], from: usize, view: Wtf8<'a>, least: usize) -> Undecoded<'a>
+    requires room { from + length (view_units view) ≤ length units.old }
+    requires least { POSITIONS ≤ least }
+    ensures written { Writes units.old from (view_units view.entry) units.new result.at (view_units result.view) }
+    ensures few { length result.view.bytes.now < least }
+    ensures rest { END_BYTES ≤ least → (n : ℕ) → from + length (view_units view.entry) ≤ n → drop n units.new ≡ drop n units.old }
+{
+    let mut left = Undecoded { view, at: from };
+    while least <= left.view.len() {
+        left = decode_next(units, left, least);
+    }
+    left
+}
+
+/// Decodes the bytes that are left after the blocks, as a block with zeros after them, whose units are left out.
+#[inline(always)]
+fn decode_last<'a>(units: &mut [u16], left: Undecoded<'a>) -> Undecoded<'a>
+    requires room { HasRoom units.old left }
+    requires few { length left.view.bytes.now < POSITIONS }
+    ensures written { Decodes units.old left.entry units.new result }
+    ensures all { view_units result.view ≡ [] }
+{
+    if left.view.is_empty() {
+        return left;
+    }
+    let len = left.view.len();
+    let block = padded(left.view.bytes);
+    if is_ascii_block(block) && POSITIONS <= units.len() - left.at {
+        return write_front(units, left, widen(block), len, len);
+    }
+    decode_positions(units, left, block, POSITIONS - len)
+}
+
+/// May overwrite up to `POSITIONS` later units. Not inlined, since few callers need the code twice.
 #[inline(never)]
 pub(crate) fn decode_all(units: &mut [u16], from: usize, view: Wtf8<'_>) -> usize
     requires room { from + length (view_units view) ≤ length units.old }
@@ -332,24 +321,21 @@ pub(crate) fn decode_all(units: &mut [u16], from: usize, view: Wtf8<'_>) -> usiz
     ensures later { (n : ℕ) → result + POSITIONS ≤ n → drop n units.new ≡ drop n units.old }
     ensures len { length units.new ≡ length units.old }
 {
-    let mut left = Undecoded { view, at: from };
-    while POSITIONS <= left.view.len() {
-        left = decode_next(units, left);
-    }
-    decode_points(units, left).at
+    let left = decode_blocks(units, from, view, POSITIONS);
+    decode_last(units, left).at
 }
 
 /// Not inlined, since a caller would pay for the buffer on the stack at each entry.
 #[inline(never)]
 fn append_short<B: Allocator>(units: &mut Vec<u16, B>, view: Wtf8<'_>) -> Result<(), AllocError>
-    requires { length view.bytes.now < SCRATCH_UNITS }
+    requires { length view.bytes.now < END_BYTES }
     ensures { BecomesOrKeeps units.old (units.old.items ++ view_units view.entry) units.new result }
 {
     // There are no more units than bytes.
     prove!(view.len() <= SCRATCH_UNITS);
-    let mut block = [0; SCRATCH_UNITS];
-    let count = decode_all(&mut block, 0, view);
-    units.extend_from_slice(&block[..count])
+    let mut scratch = [0; SCRATCH_UNITS];
+    let count = decode_all(&mut scratch, 0, view);
+    units.extend_from_slice(&scratch[..count])
 }
 
 #[inline(never)]
@@ -360,55 +346,30 @@ fn append_counted<B: Allocator>(units: &mut Vec<u16, B>, view: Wtf8<'_>) -> Resu
     prove!(view.len() <= usize::MAX / 2);
     let from = units.len();
     units.resize(from + view.unit_len(), 0)?;
-    decode_all(units, from, view);
+    write_all(&mut units[from..], view);
     Ok(())
 }
 
+/// Not inlined, so that `write_units` saves no registers before it chooses.
 #[inline(never)]
-fn write_short(out: &mut [u16], view: Wtf8<'_>) -> usize
-    requires short { length view.bytes.now < SCRATCH_UNITS }
-    requires room { length (view_units view) ≤ length out.old }
-    ensures units { take result out.new ≡ view_units view.entry }
-    ensures rest { drop result out.new ≡ drop result out.old }
-    ensures count { result ≡ length (view_units view.entry) }
-    ensures len { length out.new ≡ length out.old }
-{
-    // There are no more units than bytes.
-    prove!(view.len() <= SCRATCH_UNITS);
-    let mut block = [0; SCRATCH_UNITS];
-    let count = decode_all(&mut block, 0, view);
-    out[..count].copy_from_slice(&block[..count]);
-    count
-}
-
-#[inline(always)]
-fn write_counted(out: &mut [u16], from: usize, view: Wtf8<'_>) -> usize
-    requires room { from + length (view_units view) ≤ length out.old }
-    ensures units { take result out.new ≡ take from out.old ++ view_units view.entry }
-    ensures rest { drop result out.new ≡ drop result out.old }
-    ensures index { result ≡ from + length (view_units view.entry) }
-    ensures len { length out.new ≡ length out.old }
-{
-    let end = from + view.unit_len();
-    decode_all(&mut out[..end], from, view)
-}
-
-/// Counts the units of the last bytes alone: no store of the bytes before them reaches past the units. Not inlined, so
-/// that `write_units` saves no registers before it chooses.
-#[inline(never)]
-fn write_long(out: &mut [u16], view: Wtf8<'_>) -> usize
+fn write_all(out: &mut [u16], view: Wtf8<'_>) -> usize
     requires { length (view_units view) ≤ length out.old }
     ensures units { take result out.new ≡ view_units view.entry }
     ensures rest { drop result out.new ≡ drop result out.old }
     ensures count { result ≡ length (view_units view.entry) }
     ensures len { length out.new ≡ length out.old }
 {
-    if view.len() < COUNTED_FROM {
-        return write_counted(out, 0, view);
+    if view.len() < POSITIONS {
+        let all = Undecoded { view, at: 0 };
+        return decode_by_scratch(out, all, padded(view.bytes), POSITIONS - view.len()).at;
     }
-    let position = view.boundary_before(view.len() - COUNTED_BYTES);
-    let at = decode_all(out, 0, view.slice_to(position));
-    write_counted(out, at, view.slice_from(position))
+    let left = decode_blocks(out, 0, view, END_BYTES);
+    // There are no more units than bytes.
+    prove!(left.view.len() <= SCRATCH_UNITS);
+    let mut scratch = [0; SCRATCH_UNITS];
+    let count = decode_all(&mut scratch, 0, left.view);
+    out[left.at..left.at + count].copy_from_slice(&scratch[..count]);
+    left.at + count
 }
 
 impl<'a> Wtf8<'a> {
@@ -422,9 +383,6 @@ impl<'a> Wtf8<'a> {
         ensures count { result ≡ length (view_units self.now) }
         ensures len { length out.new ≡ length out.old }
     {
-        if SCRATCH_UNITS <= self.len() {
-            return write_long(out, *self);
-        }
         match self.len() {
             1 if is_ascii_overlapping::<1>(self.bytes) => write_ascii::<1>(out, *self),
             2..=3 if is_ascii_overlapping::<2>(self.bytes) => write_ascii::<2>(out, *self),
@@ -432,7 +390,7 @@ impl<'a> Wtf8<'a> {
             8..=15 if is_ascii_overlapping::<8>(self.bytes) => write_ascii::<8>(out, *self),
             16..=31 if is_ascii_overlapping::<16>(self.bytes) => write_ascii::<16>(out, *self),
             32..=63 if is_ascii_overlapping::<32>(self.bytes) => write_ascii::<32>(out, *self),
-            _ => write_short(out, *self),
+            _ => write_all(out, *self),
         }
     }
 
@@ -452,7 +410,7 @@ impl<'a> Wtf8<'a> {
             16..=31 if is_ascii_overlapping::<16>(self.bytes) => append_ascii::<16, B>(
                 units, *self,
             ),
-            0..SCRATCH_UNITS => append_short(units, *self),
+            0..END_BYTES => append_short(units, *self),
             _ => append_counted(units, *self),
         }
     }

@@ -30,12 +30,15 @@ AreScalar-scalar_units : (u : List ℕ) → AreScalarUnits u → AreScalar u
 AreScalar-scalar_units [] h = tt
 AreScalar-scalar_units (p ∷ u) h = (h.0.1, AreScalar-scalar_units u h.1)
 
-bytes-ascii : (u : List ℕ) → AreAscii u → bytes u ≡ u
+pub bytes-ascii : (u : List ℕ) → AreAscii u → bytes u ≡ u
 bytes-ascii [] h = refl
 bytes-ascii (p ∷ u) h = ap (λ w. w ++ bytes u) (encoding_one p h.0) ∙ ap (λ v. p ∷ v) (bytes-ascii u h.1)
 
 AreScalarUnits-ascii : (u : List ℕ) → AreAscii u → AreScalarUnits u
 AreScalarUnits-ascii u h = grind (arith, Each1-weaker)
+
+pub clean-ascii : (u : List ℕ) → AreAscii u → IsClean u
+clean-ascii u h = clean-scalar_units u (AreScalarUnits-ascii u h)
 
 pub units-ascii : (u : List ℕ) → AreAscii u → units u ≡ u
 units-ascii u h = units-scalar_units u (AreScalarUnits-ascii u h)
@@ -46,7 +49,7 @@ IsKnownForm-ascii u h = record {
   form = record {
     points = u;
     reads =
-        record { clean = clean-scalar_units u (AreScalarUnits-ascii u h); same_units = units-scalar_units u (AreScalarUnits-ascii u h) };
+        record { clean = clean-ascii u h; same_units = units-ascii u h };
     encoded = bytes-ascii u h;
   };
   scalar = λ _. AreScalar-scalar_units u (AreScalarUnits-ascii u h);

@@ -1,12 +1,12 @@
 -- Blocks of code points of one encoded length, decoded to units.
 use Rattle.wtf8.proofs.Common.{◌≡◌, ℕ, zero, suc, ◌<◌, ◌≤◌, List, [], ◌∷◌, ◌++◌, length, take, drop, get_or, refl, sym, ap, ◌∙◌, arith}
 use Rattle.wtf8.proofs.Common.{IsWellFormed, units, encoding, length-append, units_of, ◌+◌, ◌*◌, subst, Each1, drop-drop, length-drop}
-use Rattle.wtf8.proofs.Common.{length-take, take-take, take-append-drop, append_assoc, get_or_append_left, drop-append-le, FirstPointIs}
+use Rattle.wtf8.proofs.Common.{length-take, take-append-drop, append_assoc, get_or_append_left, drop-append-le}
 use Rattle.wtf8.proofs.Common.{BeginsWithUnits, unit_of_two, unit_of_three, ◌/◌, AreAscii}
-use Rattle.wtf8.proofs.lemmas.codec.Encoding.{encoding_cases, length-encoding_bounds, encoding-from_ascii_byte}
+use Rattle.wtf8.proofs.lemmas.codec.Encoding.{encoding_cases, encoding-from_ascii_byte}
 use native.Mathlib.Nat.{mul-suc}
 use Rattle.wtf8.specs.private.EncodedBytes.{map_run, lead_of_four, trail_of_four, pairs_of_fours}
-use Rattle.wtf8.proofs.lemmas.codec.Readings.{first_of, IsWellFormed-equal_bytes, Taken-from_first, units_one, units_two}
+use Rattle.wtf8.proofs.lemmas.codec.Readings.{first_of, IsWellFormed-equal_bytes, units_one, units_two}
 
 -- the string after its first `at` bytes, whose units are `v`
 pub record UnitsThenRest (w v : List ℕ) (at : ℕ) (h : IsWellFormed w) : Type 0 where
@@ -76,31 +76,13 @@ one_byte_run : (w : List ℕ) → w ≡ map_run 1 lead_byte (length w) w
 one_byte_run [] = refl
 one_byte_run (b ∷ w) = ap (λ v. b ∷ v) (one_byte_run w)
 
--- the ASCII bytes at the front of a block are the next units
-pub begins_with_front : (w block : List ℕ) (count : ℕ) → 32 ≤ length w → count ≤ 32 → block ≡ take 32 w → AreAscii (take count (take 32 w))
-    → BeginsWithUnits w (take count block) count
-begins_with_front w block count least few same ascii =
-    let one : 1 * count ≡ count = omega arith in
-    let front : take count (take 32 w) ≡ take (1 * count) w = take-take count 32 w few ∙ ap (λ n. take n w) (sym one) in
-    let long : length (take (1 * count) w) ≡ count = omega (arith, length-take (1 * count) w, least, few) in
-    let own : take (1 * count) w ≡ map_run 1 lead_byte count (take (1 * count) w) =
-    one_byte_run (take (1 * count) w) ∙ ap (λ n. map_run 1 lead_byte n (take (1 * count) w)) long in
-    subst (BeginsWithUnits w (take count block)) one (begins_with_run 1 count (λ w. lead_byte w ∷ []) (map_run 1 lead_byte) DecodesRun-one_byte w
-    (take (1 * count) w) (take count block) (omega (arith, one, few, least)) own (ap (take count) same ∙ (front ∙ own))
-    (subst AreAscii front ascii))
-
--- a code point `p` that was decoded from `n` bytes gives the next units
-pub record ReadUnits (w : List ℕ) (p n : ℕ) : Type 0 where
-  pub positive : 0 < n
-  pub within : n ≤ length w
-  pub begins : BeginsWithUnits w (units_of p) n
-
-pub read_units : {w : List ℕ} → IsWellFormed w → (p n : ℕ) → 0 < length w → FirstPointIs w p n → ReadUnits w p n
-read_units {w} h p n positive read =
-    let b = (first_of h positive).0 in
-    let t = λ (k : IsWellFormed w). Taken-from_first w 0 k p n positive (λ b. let was = read b in (was.0, omega (arith, was.1))) in
-    record {
-      positive = omega (arith, (read b).1, length-encoding_bounds b.point);
-      within = (t h).within;
-      begins = λ k. ((t k).rest, ap units (t k).joined);
-    }
+-- ASCII bytes at the front are the next units
+pub begins_with_ascii : (w v : List ℕ) (n : ℕ) → n ≤ length w → v ≡ take n w → AreAscii v → BeginsWithUnits w v n
+begins_with_ascii w v n within same ascii =
+    let one : 1 * n ≡ n = omega arith in
+    let front : v ≡ take (1 * n) w = same ∙ ap (λ m. take m w) (sym one) in
+    let long : length (take (1 * n) w) ≡ n = omega (arith, length-take (1 * n) w, within) in
+    let own : take (1 * n) w ≡ map_run 1 lead_byte n (take (1 * n) w) =
+    one_byte_run (take (1 * n) w) ∙ ap (λ m. map_run 1 lead_byte m (take (1 * n) w)) long in
+    subst (BeginsWithUnits w v) one (begins_with_run 1 n (λ w. lead_byte w ∷ []) (map_run 1 lead_byte) DecodesRun-one_byte w (take (1 * n) w) v
+    (omega (arith, one, within)) own (front ∙ own) (subst AreAscii front ascii))

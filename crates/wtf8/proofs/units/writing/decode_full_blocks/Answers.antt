@@ -11,7 +11,7 @@ write_front-rest-requires g c =
     let done = c.loop-block.invariant.written in
     let room : c.loop-block.rest.at + g.row.N ≤ length c.loop-block.units =
     omega (arith, done.same_total, done.len, c.requires.room, ap length first.1, length-append block (units first.0.points), long) in
-    let within : g.row.BYTES ≤ length view.bytes.now = omega (arith, c.loop-block-test.true, c.len.ensures.bytes) in
+    let within : g.row.BYTES ≤ length view.bytes.now = omega (arith, c.loop-block-test.true, c.len.ensures.bytes, c.requires.lanes.2, c.requires.least.0) in
     let all = take_all g.row.N block (omega (arith, long)) in (
       omega (arith, c.requires.lanes),
       (

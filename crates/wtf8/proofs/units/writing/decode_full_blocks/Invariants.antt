@@ -1,4 +1,4 @@
-use Rattle.wtf8.proofs.Common.{◌≤◌, length}
+use Rattle.wtf8.proofs.Common.{◌+◌, ◌≤◌, length}
 use Rattle.wtf8.specs.private.UnitsOut.{Decodes}
 use Rattle.wtf8.proofs.units.writing.decode_full_blocks.Given as goal
 
@@ -7,6 +7,7 @@ abbrev pub invariant-loop-block : goal.invariant-loop-block
 invariant-loop-block g l = record {
   written : Decodes l.fn.units l.left l.units l.rest;
   within : length l.rest.view.bytes.now ≤ length l.left.view.bytes.now;
+  kept : l.least ≤ length l.rest.view.bytes.now + 32;
 }
 
 abbrev pub decreases-loop-block : goal.decreases-loop-block

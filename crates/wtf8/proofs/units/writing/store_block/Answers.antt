@@ -4,8 +4,8 @@ use Rattle.wtf8.proofs.lemmas.units.PackedWords.{four_masks, picked_by_eight}
 use Rattle.wtf8.proofs.lemmas.units.UnitEnds.{Writes-trans, Writes-equal_left}
 use Rattle.wtf8.proofs.units.writing.store_block.Goals as goal
 
-pub returns : goal.returns
-returns c s rest long same =
+pub returns-clause-written : goal.returns-clause-written
+returns-clause-written c s rest long same =
     let masks = four_masks s c.args.block.ends long same in
     let s1 = drop 8 s in
     let s2 = drop 8 s1 in
@@ -29,3 +29,12 @@ returns c s rest long same =
     (λ i. picked (words_of.first i) (take 8 s) ++ (picked (words_of.second i) (take 8 s1) ++ (picked (words_of.third i) (take 8 s2)
     ++ (picked (words_of.fourth i) s3 ++ rest)))) ∙ sym (picked_by_eight u s rest) in
     Writes-equal_left whole (Writes-trans first (Writes-trans second (Writes-trans third fourth)))
+
+pub returns-clause-later : goal.returns-clause-later
+returns-clause-later c n after =
+    let first = c.store_packed-after.ensures in
+    let second = c.store_packed-after-2.ensures in
+    let third = c.store_packed-after-3.ensures in
+    c.store_packed.ensures.later n (omega (arith, after, first.within, second.within, third.within))
+    ∙ (third.later n (omega (arith, after, first.within, second.within))
+    ∙ (second.later n (omega (arith, after, first.within)) ∙ first.later n (omega (arith, after))))
