@@ -1,4 +1,5 @@
 pub mod MarkLemmas
 pub mod PositionLemmas
 pub mod ReadingLemmas
+pub mod SearchLemmas
 pub mod UnitLemmas

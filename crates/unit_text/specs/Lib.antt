@@ -1,5 +1,6 @@
 pub mod Marks
 pub mod Positions
 pub mod Reading
+pub mod Search
 pub mod Types
 pub mod Written

@@ -587,7 +587,7 @@ impl<A: Allocator> IndexedBuf<A> {
 
     /// The view of the string with its marks.
     #[inline(always)]
-    fn marked(&self) -> MarkedView<'_>
+    pub(crate) fn marked(&self) -> MarkedView<'_>
         ensures bytes { result.text.view.bytes.now ≡ self.now.bytes }
         ensures units { view_units result.text.view ≡ self.now.units }
         ensures count { result.text.count ≡ length self.now.units }

@@ -6,6 +6,7 @@ mod comparisons;
 mod debug_text;
 mod indexed;
 mod marks;
+mod search;
 mod slices;
 mod text;
 
