@@ -113,6 +113,11 @@ DECLARE(int32_t, compare_with_units, handle *, const uint16_t *, size_t)
 DECLARE(bool, equal_utf8, handle *, const uint8_t *, size_t)
 DECLARE(bool, starts_with, handle *, size_t, handle *)
 DECLARE(bool, starts_with_units, handle *, size_t, const uint16_t *, size_t)
+DECLARE(wtf8_result, find, handle *, size_t, handle *, size_t *)
+DECLARE(wtf8_result, find_units, handle *, size_t, const uint16_t *, size_t, size_t *)
+DECLARE(wtf8_result, rfind, handle *, size_t, handle *, size_t *)
+DECLARE(wtf8_result, rfind_units, handle *, size_t, const uint16_t *, size_t, size_t *)
+DECLARE(bool, divides_pair, handle *, size_t)
 DECLARE(wtf8_result, truncate_bytes, handle *, size_t)
 DECLARE(wtf8_result, truncate_units, handle *, size_t)
 DECLARE(wtf8_result, pop, handle *, uint32_t *)
@@ -465,6 +470,43 @@ bool wtf8_starts_with_units(const wtf8_string *string, size_t index, const uint1
     return PROVED(starts_with_units)(&copy, index, n ? units : nothing, n);
 }
 
+/* A string occurs in itself at index 0 alone. */
+static wtf8_result find_itself(size_t from, bool is_last, size_t *index) {
+    if (from > 0 && !is_last) return WTF8_END;
+    *index = 0;
+    return WTF8_OK;
+}
+
+wtf8_result wtf8_find(const wtf8_string *string, size_t from, const wtf8_string *other, size_t *index) {
+    wtf8_string empty, empty_other;
+    handle copy = asked(string, &empty), others = asked(other, &empty_other);
+    return string == other ? find_itself(from, false, index) : PROVED(find)(&copy, from, &others, index);
+}
+
+wtf8_result wtf8_find_units(const wtf8_string *string, size_t from, const uint16_t *units, size_t n, size_t *index) {
+    wtf8_string empty;
+    handle copy = asked(string, &empty);
+    return PROVED(find_units)(&copy, from, n ? units : nothing, n, index);
+}
+
+wtf8_result wtf8_rfind(const wtf8_string *string, size_t from, const wtf8_string *other, size_t *index) {
+    wtf8_string empty, empty_other;
+    handle copy = asked(string, &empty), others = asked(other, &empty_other);
+    return string == other ? find_itself(from, true, index) : PROVED(rfind)(&copy, from, &others, index);
+}
+
+wtf8_result wtf8_rfind_units(const wtf8_string *string, size_t from, const uint16_t *units, size_t n, size_t *index) {
+    wtf8_string empty;
+    handle copy = asked(string, &empty);
+    return PROVED(rfind_units)(&copy, from, n ? units : nothing, n, index);
+}
+
+bool wtf8_divides_pair(const wtf8_string *string, size_t index) {
+    wtf8_string empty;
+    handle copy = asked(string, &empty);
+    return PROVED(divides_pair)(&copy, index);
+}
+
 wtf8_result wtf8_slice_units(wtf8_string *into, const wtf8_string *string, size_t begin, size_t end) {
     wtf8_string part;
     handle changed = opened(into);
@@ -520,7 +562,7 @@ const char *wtf8_result_text(wtf8_result code) {
         case WTF8_HAS_SURROGATE: return "the string holds a surrogate";
         case WTF8_BAD_CODE_POINT: return "the number is not a code point";
         case WTF8_NOT_UTF8: return "the bytes are not UTF-8";
-        case WTF8_END: return "there is no further code point";
+        case WTF8_END: return "there is no further code point, surrogate or index";
     }
     return "not a code of this library";
 }

@@ -94,7 +94,7 @@ typedef enum wtf8_result {
     WTF8_HAS_SURROGATE = 4,   /* the string holds a surrogate, so it is not a text in UTF-8 */
     WTF8_BAD_CODE_POINT = 5,  /* the number is greater than 10FFFF */
     WTF8_NOT_UTF8 = 6,        /* the bytes are not UTF-8 */
-    WTF8_END = 7              /* there is no further code point: a walk is at its end, or the string is empty */
+    WTF8_END = 7              /* there is no further code point, surrogate or index */
 } wtf8_result;
 
 /* The code in words, for a message. The text is static. */
@@ -308,6 +308,29 @@ bool wtf8_starts_with(const wtf8_string *string, size_t index, const wtf8_string
 /* The same of `n` units, without a string of them. */
 WTF8_READS(3, 4)
 bool wtf8_starts_with_units(const wtf8_string *string, size_t index, const uint16_t *units, size_t n);
+
+/* Writes the first index at or after `from` at which the units of `other` occur, also within a pair, to `*index`. If `other` has
+ * no units they do at `from`, unless that is after the end. END leaves `*index`. Linear in the distance to the index times
+ * the length of `other` at worst; in the distance alone if units seldom go on as those of `other` begin. Codes: OK, END (they
+ * occur at no such index). Since 0.2.0. */
+WTF8_CODE WTF8_WRITES(4)
+wtf8_result wtf8_find(const wtf8_string *string, size_t from, const wtf8_string *other, size_t *index);
+
+/* The same of `n` units, without a string of them. Since 0.2.0. */
+WTF8_CODE WTF8_READS(3, 4) WTF8_WRITES(5)
+wtf8_result wtf8_find_units(const wtf8_string *string, size_t from, const uint16_t *units, size_t n, size_t *index);
+
+/* The last index at or before `from` at which the units of `other` occur; if `other` has none, `from` or the end, whichever
+ * comes first. All else is as in wtf8_find, the distance from `from` or the end. Since 0.2.0. */
+WTF8_CODE WTF8_WRITES(4)
+wtf8_result wtf8_rfind(const wtf8_string *string, size_t from, const wtf8_string *other, size_t *index);
+
+/* The same of `n` units, without a string of them. Since 0.2.0. */
+WTF8_CODE WTF8_READS(3, 4) WTF8_WRITES(5)
+wtf8_result wtf8_rfind_units(const wtf8_string *string, size_t from, const uint16_t *units, size_t n, size_t *index);
+
+/* Whether a cut at `index`, found by the marks, divides a surrogate pair: false at the end and after it. Since 0.2.0. */
+bool wtf8_divides_pair(const wtf8_string *string, size_t index);
 
 /* A hash for tables: SipHash-1-3 under the key 0 of the 16 bytes of the seed, the lowest byte of `seed_0` first, the bytes of
  * the string, and one byte FE. A seed that nobody knows, made at the start of the program, keeps a table from strings that

@@ -260,6 +260,26 @@ public:
     WTF8_NODISCARD bool is_boundary(size_t position) const noexcept { return wtf8_is_boundary(get(), position); }
     WTF8_NODISCARD bool is_utf8() const noexcept { return wtf8_is_utf8(get()); }
     /* Whether units begin at the index, or are the last. */
+    /* What find and rfind return if there is no index. */
+    enum : size_t { npos = static_cast<size_t>(-1) };
+    /* The first index at or after `from` at which units or those of a string occur, and the last one at or before it. */
+    WTF8_NODISCARD size_t find(const string &other, size_t from = 0) const noexcept {
+        size_t index = npos;
+        return wtf8_find(get(), from, other.get(), &index) == WTF8_OK ? index : static_cast<size_t>(npos);
+    }
+    WTF8_NODISCARD size_t find(units_in units, size_t from = 0) const noexcept {
+        size_t index = npos;
+        return wtf8_find_units(get(), from, raw(units.data()), units.size(), &index) == WTF8_OK ? index : static_cast<size_t>(npos);
+    }
+    WTF8_NODISCARD size_t rfind(const string &other, size_t from = npos) const noexcept {
+        size_t index = npos;
+        return wtf8_rfind(get(), from, other.get(), &index) == WTF8_OK ? index : static_cast<size_t>(npos);
+    }
+    WTF8_NODISCARD size_t rfind(units_in units, size_t from = npos) const noexcept {
+        size_t index = npos;
+        return wtf8_rfind_units(get(), from, raw(units.data()), units.size(), &index) == WTF8_OK ? index : static_cast<size_t>(npos);
+    }
+    WTF8_NODISCARD bool divides_pair(size_t index) const noexcept { return wtf8_divides_pair(get(), index); }
     WTF8_NODISCARD bool starts_with(const string &other, size_t index = 0) const noexcept {
         return wtf8_starts_with(get(), index, other.get());
     }

@@ -13,7 +13,7 @@ import functools
 import operator
 import os
 import threading
-from typing import Iterable, Iterator, Union
+from typing import Callable, Iterable, Iterator, Optional, Union
 
 
 def load() -> ctypes.CDLL:
@@ -43,7 +43,7 @@ RESULTS = [
     (ctypes.c_char_p, "result_text version"),
     (None, "use_memory use_memory_with clear free shrink"),
     (ctypes.c_size_t, "encoded_len unit_len byte_len capacity unit_before"),
-    (ctypes.c_bool, "is_boundary is_utf8 equal equal_units equal_utf8 starts_with starts_with_units"),
+    (ctypes.c_bool, "is_boundary is_utf8 equal equal_units equal_utf8 starts_with starts_with_units divides_pair"),
     (ctypes.c_uint64, "hash hash_units hash_utf8"),
     (
         ctypes.c_int32,
@@ -51,7 +51,7 @@ RESULTS = [
         set_units set_utf8 set_string reserve_bytes mark push_unit push_code_point push_units push_latin1 push_utf8
         push_utf8_part push_string push_slice position_at unit_at next_surrogate next_code_point previous_code_point
         truncate_bytes truncate_units pop slice_units copy_code_points copy_units copy_slice copy_utf8 copy_lossy
-        compare_units compare_code_points compare_with_units
+        compare_units compare_code_points compare_with_units find find_units rfind rfind_units
         """,
     ),
 ]
@@ -163,11 +163,26 @@ class String:
 
     def __contains__(self, text: Union[str, String]) -> bool:
         """Whether the units of a text or a string stand one after another in this one, also within a pair."""
-        units, whole = (text if isinstance(text, String) else String(text)).key(), self.key()
-        at = whole.find(units)
-        while 0 < at and at % 2:
-            at = whole.find(units, at + 1)
-        return at != -1
+        return self.find(text) != -1
+
+    def find(self, text: Union[str, String], start: int = 0, end: Optional[int] = None) -> int:
+        """The first index in `self[start:end]` at which the units of a text or a string occur, or -1, as of a str."""
+        return self._find(lib.wtf8_find, text, start, end)
+
+    def rfind(self, text: Union[str, String], start: int = 0, end: Optional[int] = None) -> int:
+        """The last such index, or -1."""
+        return self._find(lib.wtf8_rfind, text, start, end)
+
+    def _find(self, call: Callable[..., int], text: Union[str, String], start: int, end: Optional[int]) -> int:
+        other = text if isinstance(text, String) else String(text)
+        begin, stop, _ = slice(start, end).indices(len(self))
+        last = stop - len(other)
+        if last < begin or len(self) < start:
+            return -1
+        index = ctypes.c_size_t()
+        with locked(self, other):
+            code = call(self, ctypes.c_size_t(begin if call is lib.wtf8_find else last), other, ctypes.byref(index))
+        return index.value if code == 0 and begin <= index.value <= last else -1
 
     def __add__(self, other: Union[str, String]) -> String:
         if not isinstance(other, (str, String)):

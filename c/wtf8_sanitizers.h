@@ -223,6 +223,23 @@ WTF8_TELLS(bool, starts_with, (const wtf8_string *string, size_t index, const wt
            wtf8_asks(string); wtf8_asks(other))
 WTF8_TELLS(bool, starts_with_units, (const wtf8_string *string, size_t index, const uint16_t *units, size_t n),
            (string, index, units, n), wtf8_asks(string); wtf8_reads(units, n * 2))
+WTF8_TELLS_AFTER(find, (const wtf8_string *string, size_t from, const wtf8_string *other, size_t *index),
+                 (string, from, other, index),
+                 wtf8_asks(string); wtf8_asks(other); wtf8_may_write(index, sizeof *index),
+                 if (code == WTF8_OK) wtf8_wrote(index, sizeof *index))
+WTF8_TELLS_AFTER(find_units, (const wtf8_string *string, size_t from, const uint16_t *units, size_t n, size_t *index),
+                 (string, from, units, n, index),
+                 wtf8_asks(string); wtf8_reads(units, n * 2); wtf8_may_write(index, sizeof *index),
+                 if (code == WTF8_OK) wtf8_wrote(index, sizeof *index))
+WTF8_TELLS_AFTER(rfind, (const wtf8_string *string, size_t from, const wtf8_string *other, size_t *index),
+                 (string, from, other, index),
+                 wtf8_asks(string); wtf8_asks(other); wtf8_may_write(index, sizeof *index),
+                 if (code == WTF8_OK) wtf8_wrote(index, sizeof *index))
+WTF8_TELLS_AFTER(rfind_units, (const wtf8_string *string, size_t from, const uint16_t *units, size_t n, size_t *index),
+                 (string, from, units, n, index),
+                 wtf8_asks(string); wtf8_reads(units, n * 2); wtf8_may_write(index, sizeof *index),
+                 if (code == WTF8_OK) wtf8_wrote(index, sizeof *index))
+WTF8_TELLS(bool, divides_pair, (const wtf8_string *string, size_t index), (string, index), wtf8_asks(string))
 WTF8_TELLS(uint64_t, hash, (const wtf8_string *string, uint64_t seed_0, uint64_t seed_1), (string, seed_0, seed_1),
            wtf8_asks(string))
 WTF8_TELLS(uint64_t, hash_units, (const uint16_t *units, size_t n, uint64_t seed_0, uint64_t seed_1),
@@ -304,6 +321,11 @@ WTF8_TELLS_AFTER(copy_lossy, (const wtf8_string *string, uint8_t *out, size_t si
 #define wtf8_equal_utf8 wtf8_told_equal_utf8
 #define wtf8_starts_with wtf8_told_starts_with
 #define wtf8_starts_with_units wtf8_told_starts_with_units
+#define wtf8_find wtf8_told_find
+#define wtf8_find_units wtf8_told_find_units
+#define wtf8_rfind wtf8_told_rfind
+#define wtf8_rfind_units wtf8_told_rfind_units
+#define wtf8_divides_pair wtf8_told_divides_pair
 #define wtf8_hash wtf8_told_hash
 #define wtf8_hash_units wtf8_told_hash_units
 #define wtf8_hash_utf8 wtf8_told_hash_utf8

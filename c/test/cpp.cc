@@ -146,6 +146,9 @@ static void test_parts() {
     for (size_t i = 0; i <= 4; i++) must(s.position_at(i) == positions[i], "position_at");
     for (size_t i = 0; i <= 9; i++) must(s.unit_before(i) == units_before[i], "unit_before");
     for (size_t i = 0; i <= 9; i++) must(s.is_boundary(i) == (i < 2 || i == 5 || i == 8), "is_boundary");
+    must(s.find(u"\xDCA9") == 2 && s.find(string(u"\xD83D\xDCA9")) == 1 && s.find(u"a", 1) == string::npos, "find");
+    must(s.rfind(u"") == s.unit_len() && s.rfind(string(u"a")) == 0 && s.rfind(u"\xDCA9", 1) == string::npos, "rfind");
+    must(s.divides_pair(2) && !s.divides_pair(1) && !s.divides_pair(3), "divides_pair");
     must(s.starts_with(string(u"a\xD83D")) && !s.starts_with(string(u"b")), "starts_with at the start");
     must(s.starts_with(string(u"\xDCA9"), 2) && !s.starts_with(string(u"\xDCA9"), 1), "starts_with at an index");
     s.mark();

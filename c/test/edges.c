@@ -1431,6 +1431,65 @@ static void texts_of_codes(void) {
     must(strcmp(wtf8_version(), WTF8_VERSION) == 0 && strcmp(version, WTF8_VERSION) == 0, "the version");
 }
 
+/* Asks for the first and the last index of units near `at`, with a string of them and without. */
+static void must_search(const struct pair *p, const uint16_t *units, size_t n, size_t at) {
+    size_t starts[] = {0, at > 0 ? at - 1 : 0, at, at + 1, p->n, p->n + 1};
+    wtf8_string part = WTF8_EMPTY;
+    must(wtf8_set_units(&part, units, n) == WTF8_OK, "a part");
+    for (size_t i = 0; i < sizeof starts / sizeof starts[0]; i++) {
+        size_t from = starts[i], index = 77;
+        wtf8_result code = wtf8_find(&p->string, from, &part, &index);
+        must(is_found(p, from, units, n, 0, code, index), "find");
+        index = 77;
+        code = wtf8_find_units(&p->string, from, units, n, &index);
+        must(is_found(p, from, units, n, 0, code, index), "find_units");
+        index = 77;
+        code = wtf8_rfind(&p->string, from, &part, &index);
+        must(is_found(p, from, units, n, 1, code, index), "rfind");
+        index = 77;
+        code = wtf8_rfind_units(&p->string, from, units, n, &index);
+        must(is_found(p, from, units, n, 1, code, index), "rfind_units");
+    }
+    wtf8_free(&part);
+}
+
+/* Parts of strings of each length up to 70, and of a long one about the ends of what is searched at a time, are found, with
+ * pairs cut and joined; and the same with another last unit, which may occur elsewhere. Units are of six kinds, so that many
+ * parts begin alike. */
+static void searches(void) {
+    static const uint16_t kinds[] = {'a', 'a', 'b', 0xD83D, 0xDCA9, 0xE9};
+    static const size_t sizes[] = {0, 1, 2, 3, 7, 40, 64, 65, 130};
+    enum { SHORT = 70, LONG = 700, LONGEST_PART = 130 };
+    static struct pair p;
+    uint16_t part[LONGEST_PART];
+    state = 3;
+    for (size_t n = 0; n <= SHORT + 1; n++) {
+        p.n = n > SHORT ? LONG : n;
+        for (size_t i = 0; i < p.n; i++) p.units[i] = kinds[below(6)];
+        must(wtf8_set_units(&p.string, p.units, p.n) == WTF8_OK, "a string to search");
+        if (n % 2 == 1) wtf8_mark(&p.string);
+        for (size_t k = 0; k < sizeof sizes / sizeof sizes[0]; k++) {
+            for (size_t at = n > SHORT ? 440 : 0; at + sizes[k] <= p.n && at < 600; at += n > SHORT ? 1 + sizes[k] / 8 : 1) {
+                memcpy(part, p.units + at, 2 * sizes[k]);
+                must_search(&p, part, sizes[k], at);
+                if (sizes[k] == 0) continue;
+                part[sizes[k] - 1] ^= 1;
+                must_search(&p, part, sizes[k], at);
+            }
+        }
+        for (size_t i = 0; i <= p.n + 1; i++) {
+            int divides = 0 < i && i < p.n && is_lead(p.units[i - 1]) && is_trail(p.units[i]);
+            must(wtf8_divides_pair(&p.string, i) == divides, "divides_pair");
+        }
+        size_t index = 77;
+        must(wtf8_find(&p.string, 0, &p.string, &index) == WTF8_OK && index == 0, "a string in itself");
+        index = 77;
+        must(wtf8_find(&p.string, 1, &p.string, &index) == WTF8_END && index == 77, "a string in itself, after its start");
+        must(wtf8_rfind(&p.string, 9, &p.string, &index) == WTF8_OK && index == 0, "the last index of a string in itself");
+    }
+    wtf8_free(&p.string);
+}
+
 /* Functions with a context: what was used before them, and how often each was called. */
 struct counted {
     wtf8_memory used;
@@ -1529,6 +1588,7 @@ int main(void) {
     growth();
     structs();
     texts_of_codes();
+    searches();
     memory_with_context();
     printf("edges: %ld requests, no difference\n", requests);
     return 0;

@@ -75,6 +75,13 @@ int main(int argc, char **argv) {
     must(answer == 1, "a string begins with its part");
     COUNT(starts_with_units, wtf8_starts_with_units(&s, index, units + index, FEW));
     must(answer == 1, "a string begins with its units");
+    COUNT_OK(find, wtf8_find(&s, index - FEW, &part, &position));
+    must(position == index, "a part is found");
+    COUNT_OK(find_units, wtf8_find_units(&s, index - FEW, units + index, FEW, &position));
+    COUNT_OK(rfind, wtf8_rfind(&s, index + FEW, &part, &position));
+    COUNT_OK(rfind_units, wtf8_rfind_units(&s, index + FEW, units + index, FEW, &position));
+    must(position == index, "units are found");
+    COUNT(divides_pair, wtf8_divides_pair(&s, index));
     COUNT(compare_units, wtf8_compare_units(&s, &part));
     COUNT(compare_code_points, wtf8_compare_code_points(&s, &part));
     COUNT(compare_with_units, wtf8_compare_with_units(&s, other, FEW));

@@ -250,6 +250,17 @@ static inline int has_at(const struct pair *p, size_t index, const struct pair *
     return 1;
 }
 
+/* Whether the first index at or after `from` at which `n` units occur, or the last one at or before it, is what a call wrote over
+ * 77, or it said that there is none. */
+static inline int is_found(const struct pair *p, size_t from, const uint16_t *units, size_t n, int is_last, wtf8_result code, size_t index) {
+    for (size_t i = 0; n <= p->n && i <= p->n - n; i++) {
+        size_t at = is_last ? p->n - n - i : i, same = 0;
+        while (same < n && p->units[at + same] == units[same]) same++;
+        if (same == n && (is_last ? at <= from : from <= at)) return code == WTF8_OK && index == at;
+    }
+    return code == WTF8_END && index == 77;
+}
+
 static inline int compare_points(const struct pair *p, const struct pair *q) {
     size_t i = 0, j = 0, one = 0, two = 0;
     for (; i < p->n && j < q->n; i += one, j += two) {

@@ -6,7 +6,7 @@
 
 #include <string.h>
 
-enum { QUESTIONS = 30, SEED_0 = 77, SEED_1 = 88 };
+enum { QUESTIONS = 35, SEED_0 = 77, SEED_1 = 88 };
 
 /* What the calls must answer of one string, and of it and another. */
 struct answers {
@@ -103,6 +103,24 @@ static inline int is_right(unsigned kind, size_t number, const struct pair *p, c
         case 26: return wtf8_equal_utf8(s, a->lossy, a->byte_len) == a->is_utf8;
         case 27: return !a->is_utf8 || wtf8_hash_utf8(a->lossy, a->byte_len, SEED_0, SEED_1) == a->hash;
         case 28: return wtf8_starts_with_units(s, index, q->units, q->n) == has_at(p, index, q);
+        case 29:
+            len = 77;
+            code = wtf8_find(s, index, &q->string, &len);
+            return is_found(p, index, q->units, q->n, 0, code, len);
+        case 30:
+            len = 77;
+            code = wtf8_rfind(s, index, &q->string, &len);
+            return is_found(p, index, q->units, q->n, 1, code, len);
+        case 31:
+            len = 77;
+            code = wtf8_find_units(s, index, p->units + begin, end - begin, &len);
+            return is_found(p, index, p->units + begin, end - begin, 0, code, len);
+        case 32:
+            len = 77;
+            code = wtf8_rfind_units(s, index, p->units + begin, end - begin, &len);
+            return is_found(p, index, p->units + begin, end - begin, 1, code, len);
+        case 33:
+            return wtf8_divides_pair(s, index) == (0 < index && index < p->n && position_of(p, index - 1) == position_of(p, index));
         default:
             wtf8_clear(own);
             return wtf8_push_string(own, s) == WTF8_OK && has_units(own, p->units, p->n);

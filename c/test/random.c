@@ -85,6 +85,18 @@ static size_t a_size(size_t n) {
     }
 }
 
+static void must_find(const struct pair *p, size_t from, const struct pair *q, int is_last) {
+    size_t index = 77;
+    wtf8_result code = is_last ? wtf8_rfind(&p->string, from, &q->string, &index) : wtf8_find(&p->string, from, &q->string, &index);
+    must(is_found(p, from, q->units, q->n, is_last, code, index), "find, rfind");
+}
+
+static void must_find_units(const struct pair *p, size_t from, const uint16_t *units, size_t n, int is_last) {
+    size_t index = 77;
+    wtf8_result code = is_last ? wtf8_rfind_units(&p->string, from, units, n, &index) : wtf8_find_units(&p->string, from, units, n, &index);
+    must(is_found(p, from, units, n, is_last, code, index), "find_units, rfind_units");
+}
+
 /* Returns 1 and has each request refused from now on, if `more` bytes fit the capacity, so that the call that follows
  * needs no memory. Half of the time it returns 0, so that such calls are made with memory too. */
 static int refuse_if_fits(const struct pair *p, size_t more) {
@@ -505,11 +517,14 @@ static void step(enum call call, struct pair *p, struct pair *q) {
             }
             refuse_after = 0;
             requested = requests;
-            if (call == STARTS_WITH) must(wtf8_starts_with(&p->string, at, &q->string) == has_at(p, at, q), "starts_with");
-            else {
+            if (call == STARTS_WITH) {
+                must(wtf8_starts_with(&p->string, at, &q->string) == has_at(p, at, q), "starts_with");
+                must_find(p, at, q, (int)below(2));
+            } else {
                 array = array_of(q->units, 2 * q->n);
                 const uint16_t *given = q->n || below(2) ? array : NULL;
                 must(wtf8_starts_with_units(&p->string, at, given, q->n) == has_at(p, at, q), "starts_with_units");
+                must_find_units(p, at, given, q->n, (int)below(2));
                 must_begin(array, 2 * q->n, q->units, 2 * q->n, "units that it may start with");
             }
             break;

@@ -11,5 +11,6 @@ mod hashing;
 mod latin1;
 mod making;
 mod points_out;
+mod searching;
 mod units_out;
 mod walking;
