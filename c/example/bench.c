@@ -25,9 +25,7 @@ static size_t utf8_len, len;
 static wtf8_string string = WTF8_EMPTY, equal = WTF8_EMPTY;
 static volatile uint64_t sum;
 
-static void must(int holds) {
-    if (!holds) exit(1);
-}
+static void must(int holds) { if (!holds) exit(1); }
 
 // The units of a text, again and again. The last one's lone surrogates are no text.
 static void fill(const char *text, int is_lone) {
