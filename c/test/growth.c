@@ -46,8 +46,8 @@ int main(int argc, char **argv) {
     make(&same, n);
     must(wtf8_copy_utf8(&s, text, POINTS, &len) == WTF8_OK, "the text");
     size_t width = len / n;
-    /* In the middle, 64 units after a mark. */
-    index = n / 256 * 128 + 64;
+    /* Three quarters on, 64 units after a mark, and further from both ends than a search decodes at a time. */
+    index = 3 * n / 512 * 128 + 64;
     byte = index * width;
     must(wtf8_set_units(&part, units + index, FEW) == WTF8_OK && wtf8_reserve_bytes(&part, 999) == WTF8_OK, "a part");
 
