@@ -1,8 +1,9 @@
 // Tests in SIMD blocks how far bytes are UTF-8: each byte is compared with the three before it.
-ghost use Rattle.std.specs.Prelude.{◌≡◌, ◌+◌, ◌-◌, ◌<◌, ◌≤◌, ◌∷◌, ℕ, length, take, drop, MatchResult, IfErr};
+ghost use Rattle.std.specs.Prelude.{◌≡◌, ◌+◌, ◌-◌, ◌<◌, ◌≤◌, ◌∷◌, ℕ, length, take, drop, MatchResult, IfErr, IsTrue};
 ghost use Rattle.std.specs.Str.{IsUtf8, IsValidUpTo};
 ghost use Rattle.std.specs.Str.Lossy.{utf8_valid_len, utf8_error_len};
 ghost use Rattle.wtf8.specs.Utf8Error.{valid_up_to, error_len};
+ghost use Rattle.wtf8.specs.private.Prefixes.{AreAscii};
 ghost use Rattle.wtf8.specs.private.Utf8Bytes.{FollowsIn, FollowsUpTo};
 
 use crate::lanes::ascii::{ascii_front_len, is_ascii_block, is_ascii_overlapping};
@@ -98,19 +99,30 @@ fn follows_throughout(bytes: &[u8]) -> usize
     end
 }
 
-/// The number of bytes at the front each of which may follow the three before it. Up to three bytes are read one code
-/// point at a time unless they are ASCII.
+/// Whether the bytes are all ASCII, of which there are at most 63.
+#[inline(always)]
+fn is_short_ascii(bytes: &[u8]) -> bool
+    ensures { IsTrue result → AreAscii bytes.now }
+{
+    match bytes.len() {
+        1 => is_ascii_overlapping::<1>(bytes),
+        2..=3 => is_ascii_overlapping::<2>(bytes),
+        4..=7 => is_ascii_overlapping::<4>(bytes),
+        8..=15 => is_ascii_overlapping::<8>(bytes),
+        16..=31 => is_ascii_overlapping::<16>(bytes),
+        32..=63 => is_ascii_overlapping::<32>(bytes),
+        _ => false,
+    }
+}
+
+/// The number of bytes at the front each of which may follow the three before it. Up to three bytes are left to be read
+/// one code point at a time.
 #[inline(always)]
 fn follows_at_front(bytes: &[u8]) -> usize
     ensures { FollowsUpTo bytes.now result }
 {
     match bytes.len() {
-        2..=3 if is_ascii_overlapping::<2>(bytes) => bytes.len(),
-        0..=3 => 0,
-        4..=7 if is_ascii_overlapping::<4>(bytes) => bytes.len(),
-        8..=15 if is_ascii_overlapping::<8>(bytes) => bytes.len(),
-        16..=31 if is_ascii_overlapping::<16>(bytes) => bytes.len(),
-        32..=63 if is_ascii_overlapping::<32>(bytes) => bytes.len(),
+        ..=BEFORE => 0,
         ..LEAST => begins_text(bytes),
         _ => follows_throughout(bytes),
     }
@@ -162,6 +174,9 @@ pub fn from_utf8(bytes: &[u8]) -> Result<&str, Utf8Error>
     ensures valid_len { IfErr result (λ e. valid_up_to e ≡ utf8_valid_len bytes.now) }
     ensures error_len { IfErr result (λ e. error_len e ≡ utf8_error_len (drop (valid_up_to e) bytes.now)) }
 {
+    if is_short_ascii(bytes) {
+        return Ok(unsafe { str::from_utf8_unchecked(bytes) });
+    }
     let front = ends_text(bytes, follows_at_front(bytes));
     if front == bytes.len() {
         return Ok(unsafe { str::from_utf8_unchecked(bytes) });

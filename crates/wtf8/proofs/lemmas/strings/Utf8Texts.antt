@@ -4,6 +4,7 @@ use Rattle.wtf8.proofs.Common.{◌∙◌, arith, cases_lt, IsUtf8, IsCodePoint, 
 use Rattle.wtf8.proofs.Common.{chunk, get_or-chunk, take, AreAscii, subst, length-take, get_or_append_left}
 use Rattle.std.proofs.lemmas.List.{get_or-take}
 use Rattle.std.proofs.lemmas.Simd.{Each1-get_or}
+use Rattle.std.proofs.lemmas.Str.Ascii.{IsAscii-from_reads}
 use Rattle.wtf8.proofs.lemmas.codec.Encoding.{encoding_one, encoding_two, encoding_three, encoding_four}
 use Rattle.wtf8.proofs.lemmas.lanes.AsciiFronts.{ascii_in_block}
 use Rattle.wtf8.proofs.lemmas.strings.Surrogates.{scalar_true}
@@ -225,6 +226,7 @@ follows_in_ascii_front w n within h = (
       (ascii_after_zeros w n h (suc (suc i)) (omega (arith, m))) (ascii_after_zeros w n h (suc (suc (suc i))) (omega (arith, m))),
 )
 
--- each byte of an ASCII text may follow
-pub follows_in_ascii_text : (w : List ℕ) → AreAscii w → FollowsUpTo w (length w)
-follows_in_ascii_text w all = follows_in_ascii_front w (length w) (omega arith) (λ k l. Each1-get_or (λ n. n < 0x80) w k 0 l all)
+-- ASCII bytes are UTF-8
+pub text_of_ascii : (w : List ℕ) → AreAscii w → IsUtf8 w
+text_of_ascii w all =
+    IsUtf8-from_ascii w (IsAscii-from_reads w (length w) (omega arith) (λ k l. Each1-get_or (λ n. n < 0x80) w k 0 l all))
