@@ -7,11 +7,12 @@ ghost use Rattle.wtf8.specs.private.Search.{IsLetterMask};
 use crate::codec::code_point::CodePoint;
 use crate::codec::encoding;
 use crate::from_utf16::encoded_len::{Growth, make_room};
-use crate::from_utf16::few::{self, FEW_UNITS};
 use crate::from_utf16::kernel::{self, MIN_SPARE};
 use crate::from_utf16::letters::{LETTERS_SPARE, append_letters, is_letter};
 use crate::from_utf16::short_ascii::{self, is_short_ascii};
-use crate::from_utf16::{BLOCK_UNITS, HALF_BLOCK, Progress, QUARTER_BLOCK, TWO_BLOCKS, decode};
+use crate::from_utf16::{
+    BLOCK_UNITS, HALF_BLOCK, Progress, QUARTER_BLOCK, TWO_BLOCKS, decode, few,
+};
 use crate::lanes::ascii::{first_not_ascii, narrow_saturating};
 use crate::vec::spare_capacity;
 use std::alloc::{AllocError, Allocator};
@@ -346,7 +347,7 @@ pub(crate) fn encode<A: Allocator>(alloc: A, v: &[u16]) -> Result<(Vec<u8, A>, b
         let narrowed = short_ascii::encode(alloc, v)?;
         return Ok((narrowed, true));
     }
-    if v.len() <= FEW_UNITS {
+    if v.len() < TWO_BLOCKS {
         return few::encode(alloc, v);
     }
     let room = if may_be_ascii(v) { v.len() } else { 0 };
