@@ -1,12 +1,13 @@
-// Encodes lists of fewer than `TWO_BLOCKS` code units on the stack, so that their bytes are counted when they are copied.
-ghost use Rattle.std.specs.Prelude.{◌≡◌, ℕ, List, [], ◌++◌, ◌+◌, ◌-◌, ◌*◌, ◌<◌, ◌≤◌, length, take, slice_index, vec_capacity, IfOk, IsOk, OnErr};
+// Encodes short lists of code units on the stack, so that the number of their bytes is known before memory is requested.
+ghost use Rattle.std.specs.Prelude.{◌≡◌, ℕ, List, [], true, ◌++◌, ◌+◌, ◌-◌, ◌*◌, ◌^◌, ◌<◌, ◌≤◌, length, take, slice_index, vec_capacity, IfOk, IsOk, OnErr};
 ghost use Rattle.wtf8.specs.CodePoint.{number};
 ghost use Rattle.wtf8.specs.Form.{encoding};
 ghost use Rattle.wtf8.specs.private.Prefixes.{HasRoomFrom, IsKnownForm, IsReadTo, ReadsOn};
 
 use crate::codec::code_point::{CodePoint, FIRST_LEAD};
 use crate::codec::encoding::{four_bytes, three_bytes, two_bytes};
-use crate::from_utf16::{Progress, TWO_BLOCKS, decode, kernel};
+use crate::from_utf16::kernel::{self, MIN_SPARE};
+use crate::from_utf16::{Progress, QUARTER_BLOCK, decode};
 use crate::vec::to_vec_in;
 use std::alloc::{AllocError, Allocator};
 
@@ -14,9 +15,8 @@ use std::alloc::{AllocError, Allocator};
 /// 1.1 of the time to be pushed and 1.2 as new strings, and 1.9 and 1.8 on x86-64 without SSSE3.
 pub(crate) const FEW_UNITS: usize = 12;
 
-/// At least three bytes for each unit, and four for the last code point; the scratch buffer of two blocks. A multiple of 16,
-/// so that few stores zero them.
-const FEW_BYTES: usize = 112;
+/// At least three bytes for each unit, and four for the last code point. A multiple of 16, so that few stores zero them.
+const FEW_BYTES: usize = 48;
 
 /// Writes an array at index `at`. Returns the index after it.
 #[inline(always)]
@@ -104,56 +104,84 @@ pub(crate) fn write_point(
     (end, Progress { at, is_utf8 })
 }
 
-/// Encodes more than `FEW_UNITS` units at the front of `out` as blocks, as far as these go, and no fewer units. Returns the
-/// number of their bytes and how far they are encoded.
+/// Encodes the units from index `from.at` on, one code point at a time, at index `start`. Returns the index after their
+/// bytes, and whether `from.is_utf8` and none of them is a lone surrogate.
 #[inline(always)]
-fn write_front(v: &[u16], is_utf8: bool, out: &mut [u8]) -> (usize, Progress)
-    requires room { FEW_BYTES ≤ length out.old }
-    ensures within { result.1.at ≤ length v.now }
-    ensures most { result.0 ≤ 3 * result.1.at }
-    ensures read { (w : List ℕ) → ReadsOn w (w ++ take result.0 out.new) v.now 0 is_utf8 result.1.at result.1.is_utf8 }
+fn write_points(v: &[u16], from: Progress, out: &mut [u8], start: usize) -> (usize, bool)
+    requires within { from.at ≤ length v.now }
+    requires start { start ≤ 3 * from.at }
+    requires room { 3 * length v.now + 4 ≤ length out.old }
+    ensures most { result.0 ≤ 3 * length v.now }
+    ensures read { (w : List ℕ) → ReadsOn (w ++ take start out.old) (w ++ take result.0 out.new) v.now from.at from.is_utf8 (length v.now) result.1 }
 {
-    if v.len() <= FEW_UNITS {
-        return (0, Progress { at: 0, is_utf8 });
-    }
-    let (len, to) = kernel::write_blocks(v, 0, out);
-    let is_utf8 = is_utf8 & to.is_utf8;
-    (len, Progress { at: to.at, is_utf8 })
-}
-
-/// Encodes units at the front of `out`. Returns the number of their bytes, and whether `is_utf8` and none of them is a
-/// lone surrogate.
-#[inline(always)]
-fn write_few(v: &[u16], is_utf8: bool, out: &mut [u8]) -> (usize, bool)
-    requires few { length v.now < TWO_BLOCKS }
-    requires room { FEW_BYTES ≤ length out.old }
-    ensures within { result.0 ≤ length out.new }
-    ensures short { result.0 ≤ FEW_BYTES }
-    ensures read { (w : List ℕ) → ReadsOn w (w ++ take result.0 out.new) v.now 0 is_utf8 (length v.now) result.1 }
-{
-    let (count, front) = write_front(v, is_utf8, out);
-    let mut len = count;
-    let mut read = front;
+    let mut len = start;
+    let mut read = from;
     while read.at < v.len() {
         (len, read) = write_point(v, read, out, len);
     }
     (len, read.is_utf8)
 }
 
-/// Makes a vector of just the bytes of fewer than `TWO_BLOCKS` units. Returns whether none of them is a lone surrogate.
+/// Encodes units at the front of `out`. Returns the number of their bytes, and whether `is_utf8` and none of them is a
+/// lone surrogate.
 #[inline(always)]
-pub(crate) fn encode<A: Allocator>(alloc: A, v: &[u16]) -> Result<(Vec<u8, A>, bool), AllocError>
-    requires few { length v.now < TWO_BLOCKS }
+fn write_few(v: &[u16], is_utf8: bool, out: &mut [u8]) -> (usize, bool)
+    requires few { length v.now ≤ FEW_UNITS }
+    requires room { FEW_BYTES ≤ length out.old }
+    ensures within { result.0 ≤ length out.new }
+    ensures read { (w : List ℕ) → ReadsOn w (w ++ take result.0 out.new) v.now 0 is_utf8 (length v.now) result.1 }
+{
+    write_points(v, Progress { at: 0, is_utf8 }, out, 0)
+}
+
+/// Encodes units at the front of `out` as blocks, and one code point at a time those that these leave. Returns the number of
+/// their bytes, and whether none of them is a lone surrogate. Not inlined, so that shorter lists save no registers for it.
+#[inline(never)]
+fn write_blocks(v: &[u16], out: &mut [u8]) -> (usize, bool)
+    requires units { QUARTER_BLOCK ≤ length v.now }
+    requires spare { MIN_SPARE ≤ length out.old }
+    requires room { 3 * length v.now + 4 ≤ length out.old }
+    ensures within { result.0 ≤ length out.new }
+    ensures read { (w : List ℕ) → ReadsOn w (w ++ take result.0 out.new) v.now 0 true (length v.now) result.1 }
+{
+    let (len, to) = kernel::write_blocks(v, 0, out);
+    write_points(v, to, out, len)
+}
+
+/// Encodes units at the front of `out` in the way that is shorter. Returns as `write_blocks` does.
+#[inline(always)]
+fn write_all(v: &[u16], out: &mut [u8]) -> (usize, bool)
+    requires spare { MIN_SPARE ≤ length out.old }
+    requires room { 3 * length v.now + 4 ≤ length out.old }
+    ensures within { result.0 ≤ length out.new }
+    ensures read { (w : List ℕ) → ReadsOn w (w ++ take result.0 out.new) v.now 0 true (length v.now) result.1 }
+{
+    if v.len() <= FEW_UNITS {
+        write_few(v, true, out)
+    } else {
+        write_blocks(v, out)
+    }
+}
+
+/// Makes a vector of just the bytes of the units, which are encoded in `N` bytes. Returns whether none of them is a lone
+/// surrogate.
+#[inline(always)]
+pub(crate) fn encode<const N: usize, A: Allocator>(
+    alloc: A,
+    v: &[u16],
+) -> Result<(Vec<u8, A>, bool), AllocError>
+    requires bytes { (MIN_SPARE ≤ N) × (N < 2 ^ 16) }
+    requires room { 3 * length v.now + 4 ≤ N }
     ensures form { IfOk result (λ r. IsKnownForm r.0.items v.now r.1) }
     ensures empty { v.now ≡ [] → IsOk result }
 {
-    let mut block = [0; FEW_BYTES];
-    let (len, is_utf8) = write_few(v, true, &mut block);
+    let mut block = [0; N];
+    let (len, is_utf8) = write_all(v, &mut block);
     let bytes = to_vec_in(alloc, &block[..len])?;
     Ok((bytes, is_utf8))
 }
 
-/// Appends the bytes of fewer than `TWO_BLOCKS` units, after bytes with which they form no pair. Returns whether `is_utf8`
+/// Appends the bytes of at most `FEW_UNITS` units, after bytes with which they form no pair. Returns whether `is_utf8`
 /// and none of them is a lone surrogate. They are encoded on the stack, so that one request is enough.
 #[inline(always)]
 pub(crate) fn append<A: Allocator>(
@@ -161,7 +189,7 @@ pub(crate) fn append<A: Allocator>(
     v: &[u16],
     is_utf8: bool,
 ) -> Result<bool, AllocError>
-    requires few { length v.now < TWO_BLOCKS }
+    requires few { length v.now ≤ FEW_UNITS }
     ensures ok { IfOk result (λ known. (front : List ℕ) → IsReadTo bytes.old.items front v.now 0 is_utf8 → IsKnownForm bytes.new.items (front ++ v.now) known) }
     ensures kept { OnErr result (bytes.new.items ≡ bytes.old.items) }
     ensures room { HasRoomFrom bytes.old v.now 0 is_utf8 → IsOk result }

@@ -33,6 +33,16 @@ const SCRATCH_BYTES: usize = 512;
 /// The scratch buffer's size for fewer than `TWO_BLOCKS` units: room for two blocks, since it is zeroed first.
 const SHORT_SCRATCH_BYTES: usize = 112;
 
+/// The size in bytes of the scratch buffer of a new string of fewer than `TWO_BLOCKS` units.
+const SHORT_BYTES: usize = 112;
+
+/// The most units of a new string that are encoded on the stack if they do not begin with an ASCII run: counting them first
+/// takes a tenth to a third more instructions.
+const STACK_UNITS: usize = 128;
+
+/// The size in bytes of their scratch buffer.
+const STACK_BYTES: usize = 448;
+
 /// The most bytes of a code point.
 pub(crate) const MOST_POINT_BYTES: usize = 4;
 
@@ -348,7 +358,10 @@ pub(crate) fn encode<A: Allocator>(alloc: A, v: &[u16]) -> Result<(Vec<u8, A>, b
         return Ok((narrowed, true));
     }
     if v.len() < TWO_BLOCKS {
-        return few::encode(alloc, v);
+        return few::encode::<SHORT_BYTES, A>(alloc, v);
+    }
+    if v.len() <= STACK_UNITS && (0x80 <= v[0] || 0x80 <= v[1]) {
+        return few::encode::<STACK_BYTES, A>(alloc, v);
     }
     let room = if may_be_ascii(v) { v.len() } else { 0 };
     let mut bytes = Vec::with_capacity(alloc, room)?;

@@ -1,10 +1,10 @@
-use Rattle.wtf8.proofs.Common.{[], ◌++◌, ◌≤◌, ◌*◌, ap, arith, length, length-take, refl, take, true}
+use Rattle.wtf8.proofs.Common.{[], ap, arith, length, length-take, refl, true}
 use Rattle.wtf8.proofs.lemmas.codec.Readings.{lists_have_lengths}
 use Rattle.wtf8.proofs.lemmas.from_utf16.Transcode.{read_none}
-use Rattle.wtf8.proofs.from_utf16.few.write_front.Goals as goal
+use Rattle.wtf8.proofs.from_utf16.few.write_blocks.Goals as goal
 
-pub returns-clause-most : goal.returns-clause-most
-returns-clause-most c =
+pub write_points-requires-clause-start : goal.write_points-requires-clause-start
+write_points-requires-clause-start c =
     let own = c.write_blocks-len in
     let form = (own.ensures.read [] true [] (read_none true refl)).form.form in
     omega (
@@ -19,4 +19,4 @@ returns-clause-most c =
     )
 
 pub returns-clause-read : goal.returns-clause-read
-returns-clause-read c w front read = c.write_blocks-len.ensures.read w c.args.is_utf8 front read
+returns-clause-read c w front read = c.write_points.ensures.read w front (c.write_blocks-len.ensures.read w true front read)
