@@ -15,6 +15,7 @@ pub(crate) mod few;
 pub(crate) mod front;
 pub(crate) mod kernel;
 pub(crate) mod letters;
+pub(crate) mod room;
 pub(crate) mod short_ascii;
 pub(crate) mod shuffle_table;
 pub(crate) mod transcode;
