@@ -1,14 +1,11 @@
 // Counts the bytes of code units before they are encoded: one for each unit, and those that units from 0x80 on add.
-ghost use Rattle.std.specs.Prelude.{◌≡◌, ◌+◌, ◌<◌, ◌≤◌, ◌^◌, ℕ, List, length, slice_index, slice_index_or, vec_capacity, IsOk};
+ghost use Rattle.std.specs.Prelude.{◌≡◌, ◌+◌, ◌<◌, ◌≤◌, ℕ, List, length, slice_index, slice_index_or};
 ghost use lib.Lanes.{zip2};
 ghost use Rattle.wtf8.specs.Form.{IsForm};
 ghost use Rattle.wtf8.specs.private.EncodedLengths.{more_bytes, IsCounted};
-ghost use Rattle.wtf8.specs.private.Prefixes.{HasRoomAfter};
 
 use crate::codec::code_point::{LEAD_KIND, SURROGATES_PER_HALF, TRAIL_KIND};
 use crate::from_utf16::{BLOCK_UNITS, QUARTER_BLOCK};
-use crate::vec::spare_capacity;
-use std::alloc::{AllocError, Allocator};
 use std::simd::prelude::*;
 
 /// The most units whose lanes are added before they are summed up: a unit adds at most 2 to a sum of 16 bits.
@@ -101,70 +98,4 @@ pub fn encoded_len(units: &[u16]) -> usize
         };
     }
     counted.len
-}
-
-/// How the capacity of a string grows.
-#[derive(Clone, Copy)]
-pub(crate) enum Growth {
-    /// To what is needed: a new string has no spare capacity.
-    Exact,
-    /// To at least twice the capacity, so that many appends are linear together.
-    Amortized,
-}
-
-#[inline(always)]
-fn reserve<A: Allocator>(
-    bytes: &mut Vec<u8, A>,
-    count: usize,
-    growth: Growth,
-) -> Result<(), AllocError>
-    ensures items { bytes.new.items ≡ bytes.old.items }
-    ensures room { length bytes.old.items + count ≤ vec_capacity bytes.old → IsOk result }
-    ensures capacity { vec_capacity bytes.old ≤ vec_capacity bytes.new }
-{
-    match growth {
-        Growth::Exact => bytes.reserve_exact(count),
-        Growth::Amortized => bytes.reserve(count),
-    }
-}
-
-/// Reserves `encoded` bytes, and those of the units from index `at` on. These are counted, so that one request is
-/// enough. Not inlined, since few calls need it.
-#[inline(never)]
-fn reserve_rest<A: Allocator>(
-    bytes: &mut Vec<u8, A>,
-    v: &[u16],
-    at: usize,
-    encoded: usize,
-    growth: Growth,
-) -> Result<(), AllocError>
-    requires within { at ≤ length v.now }
-    requires encoded { encoded < 2 ^ 16 }
-    ensures items { bytes.new.items ≡ bytes.old.items }
-    ensures room { (w : List ℕ) → length w ≡ encoded → HasRoomAfter bytes.old w v.now at → IsOk result }
-    ensures capacity { vec_capacity bytes.old ≤ vec_capacity bytes.new }
-{
-    reserve(bytes, encoded + encoded_len(&v[at..]), growth)
-}
-
-/// If there is no room for the next `least` bytes, reserves `encoded` bytes, and those of the units from index `at` on.
-#[inline(always)]
-pub(crate) fn make_room<A: Allocator>(
-    bytes: &mut Vec<u8, A>,
-    v: &[u16],
-    at: usize,
-    encoded: usize,
-    least: usize,
-    growth: Growth,
-) -> Result<(), AllocError>
-    requires within { at ≤ length v.now }
-    requires encoded { encoded < 2 ^ 16 }
-    ensures items { bytes.new.items ≡ bytes.old.items }
-    ensures room { (w : List ℕ) → length w ≡ encoded → HasRoomAfter bytes.old w v.now at → IsOk result }
-    ensures capacity { vec_capacity bytes.old ≤ vec_capacity bytes.new }
-{
-    if least <= spare_capacity(bytes) {
-        return Ok(());
-    }
-    reserve_rest(bytes, v, at, encoded, growth)
 }

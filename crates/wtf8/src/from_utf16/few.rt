@@ -1,12 +1,13 @@
-// Encodes a few code units on the stack, and appends their bytes at once.
-ghost use Rattle.std.specs.Prelude.{◌≡◌, ℕ, List, [], ◌++◌, ◌+◌, ◌-◌, ◌*◌, ◌<◌, ◌≤◌, length, take, slice_index, vec_capacity, IfOk, IsOk, OnErr};
+// Encodes short lists of code units on the stack, so that the number of their bytes is known before memory is requested.
+ghost use Rattle.std.specs.Prelude.{◌≡◌, ℕ, List, [], true, ◌++◌, ◌+◌, ◌-◌, ◌*◌, ◌^◌, ◌<◌, ◌≤◌, length, take, slice_index, vec_capacity, IfOk, IsOk, OnErr};
 ghost use Rattle.wtf8.specs.CodePoint.{number};
 ghost use Rattle.wtf8.specs.Form.{encoding};
 ghost use Rattle.wtf8.specs.private.Prefixes.{HasRoomFrom, IsKnownForm, IsReadTo, ReadsOn};
 
 use crate::codec::code_point::{CodePoint, FIRST_LEAD};
 use crate::codec::encoding::{four_bytes, three_bytes, two_bytes};
-use crate::from_utf16::{Progress, decode};
+use crate::from_utf16::kernel::{self, MIN_SPARE};
+use crate::from_utf16::{Progress, QUARTER_BLOCK, decode};
 use crate::vec::to_vec_in;
 use std::alloc::{AllocError, Allocator};
 
@@ -103,6 +104,24 @@ pub(crate) fn write_point(
     (end, Progress { at, is_utf8 })
 }
 
+/// Encodes the units from index `from.at` on, one code point at a time, at index `start`. Returns the index after their
+/// bytes, and whether `from.is_utf8` and none of them is a lone surrogate.
+#[inline(always)]
+fn write_points(v: &[u16], from: Progress, out: &mut [u8], start: usize) -> (usize, bool)
+    requires within { from.at ≤ length v.now }
+    requires start { start ≤ 3 * from.at }
+    requires room { 3 * length v.now + 4 ≤ length out.old }
+    ensures most { result.0 ≤ 3 * length v.now }
+    ensures read { (w : List ℕ) → ReadsOn (w ++ take start out.old) (w ++ take result.0 out.new) v.now from.at from.is_utf8 (length v.now) result.1 }
+{
+    let mut len = start;
+    let mut read = from;
+    while read.at < v.len() {
+        (len, read) = write_point(v, read, out, len);
+    }
+    (len, read.is_utf8)
+}
+
 /// Encodes units at the front of `out`. Returns the number of their bytes, and whether `is_utf8` and none of them is a
 /// lone surrogate.
 #[inline(always)]
@@ -110,26 +129,54 @@ fn write_few(v: &[u16], is_utf8: bool, out: &mut [u8]) -> (usize, bool)
     requires few { length v.now ≤ FEW_UNITS }
     requires room { FEW_BYTES ≤ length out.old }
     ensures within { result.0 ≤ length out.new }
-    ensures short { result.0 ≤ FEW_BYTES }
     ensures read { (w : List ℕ) → ReadsOn w (w ++ take result.0 out.new) v.now 0 is_utf8 (length v.now) result.1 }
 {
-    let mut len = 0;
-    let mut read = Progress { at: 0, is_utf8 };
-    while read.at < v.len() {
-        (len, read) = write_point(v, read, out, len);
-    }
-    (len, read.is_utf8)
+    write_points(v, Progress { at: 0, is_utf8 }, out, 0)
 }
 
-/// Makes a vector of the bytes of at most `FEW_UNITS` units. Returns whether none of them is a lone surrogate.
+/// Encodes units at the front of `out` as blocks, and one code point at a time those that these leave. Returns the number of
+/// their bytes, and whether none of them is a lone surrogate. Not inlined, so that shorter lists save no registers for it.
+#[inline(never)]
+fn write_blocks(v: &[u16], out: &mut [u8]) -> (usize, bool)
+    requires units { QUARTER_BLOCK ≤ length v.now }
+    requires spare { MIN_SPARE ≤ length out.old }
+    requires room { 3 * length v.now + 4 ≤ length out.old }
+    ensures within { result.0 ≤ length out.new }
+    ensures read { (w : List ℕ) → ReadsOn w (w ++ take result.0 out.new) v.now 0 true (length v.now) result.1 }
+{
+    let (len, to) = kernel::write_blocks(v, 0, out);
+    write_points(v, to, out, len)
+}
+
+/// Encodes units at the front of `out` in the way that is shorter. Returns as `write_blocks` does.
 #[inline(always)]
-pub(crate) fn encode<A: Allocator>(alloc: A, v: &[u16]) -> Result<(Vec<u8, A>, bool), AllocError>
-    requires few { length v.now ≤ FEW_UNITS }
+fn write_all(v: &[u16], out: &mut [u8]) -> (usize, bool)
+    requires spare { MIN_SPARE ≤ length out.old }
+    requires room { 3 * length v.now + 4 ≤ length out.old }
+    ensures within { result.0 ≤ length out.new }
+    ensures read { (w : List ℕ) → ReadsOn w (w ++ take result.0 out.new) v.now 0 true (length v.now) result.1 }
+{
+    if v.len() <= FEW_UNITS {
+        write_few(v, true, out)
+    } else {
+        write_blocks(v, out)
+    }
+}
+
+/// Makes a vector of just the bytes of the units, which are encoded in `N` bytes. Returns whether none of them is a lone
+/// surrogate.
+#[inline(always)]
+pub(crate) fn encode<const N: usize, A: Allocator>(
+    alloc: A,
+    v: &[u16],
+) -> Result<(Vec<u8, A>, bool), AllocError>
+    requires bytes { (MIN_SPARE ≤ N) × (N < 2 ^ 16) }
+    requires room { 3 * length v.now + 4 ≤ N }
     ensures form { IfOk result (λ r. IsKnownForm r.0.items v.now r.1) }
     ensures empty { v.now ≡ [] → IsOk result }
 {
-    let mut block = [0; FEW_BYTES];
-    let (len, is_utf8) = write_few(v, true, &mut block);
+    let mut block = [0; N];
+    let (len, is_utf8) = write_all(v, &mut block);
     let bytes = to_vec_in(alloc, &block[..len])?;
     Ok((bytes, is_utf8))
 }

@@ -22,7 +22,7 @@ ghost use Rattle.wtf8.specs.private.Prefixes.{AreScalarUnits, HasRoomFrom, IsKno
 ghost use Rattle.wtf8.specs.private.PackedUnits.{tagged_units, tagged_block, scalar_head, scalar_last_byte, three_byte_flag, byte_lanes, units_table_index, AreUnitBytes, packed_units};
 
 use crate::codec::code_point::{FIRST_LEAD, LEAD_KIND, SURROGATES_PER_HALF, TRAIL_KIND};
-use crate::from_utf16::encoded_len::{Growth, make_room};
+use crate::from_utf16::room::{Growth, make_room};
 use crate::from_utf16::{BLOCK_UNITS, HALF_BLOCK, Progress, QUARTER_BLOCK, shuffle_table};
 use std::alloc::{AllocError, Allocator};
 use std::simd::prelude::*;

@@ -1,7 +1,8 @@
 // Encodes UTF-16 code units as WTF-8. In a string, by the units that are left:
 //
-//     4 to 31, the whole list: ASCII      `short_ascii`: two blocks, which may overlap
-//     at most 12, the whole list          `few`: one code point at a time, on the stack
+//     4 to 31, a whole list of ASCII      `short_ascii`: two blocks, which may overlap
+//     at most 12, a whole list            `few`: on the stack, one code point at a time
+//     to 31, to 128 if no ASCII run       `few`, only of a new string: on the stack, as blocks
 //     32 or more, the first one ASCII     the ASCII run; then `letters` if few are not ASCII, one code point, or blocks
 //     4 to 31, the first two ASCII        the ASCII run and the code point after it
 //     4 or more, others                   `kernel`: blocks, of which the last may have fewer units than the others
@@ -14,6 +15,7 @@ pub(crate) mod few;
 pub(crate) mod front;
 pub(crate) mod kernel;
 pub(crate) mod letters;
+pub(crate) mod room;
 pub(crate) mod short_ascii;
 pub(crate) mod shuffle_table;
 pub(crate) mod transcode;

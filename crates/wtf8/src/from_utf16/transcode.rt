@@ -1,17 +1,18 @@
 // Encodes code units in steps, by what the next units are: an ASCII run and the code point after it, blocks of `kernel`,
 // or one code point. `decode_utf16` decodes the last ones, fewer than `QUARTER_BLOCK`.
-ghost use Rattle.std.specs.Prelude.{◌≡◌, ℕ, Bool, List, [], ◌++◌, ◌+◌, ◌^◌, ◌<◌, ◌≤◌, ◌⊎◌, length, take, drop, map, min, vec_capacity, IfOk, IsOk};
+ghost use Rattle.std.specs.Prelude.{◌≡◌, ℕ, List, [], ◌++◌, ◌+◌, ◌<◌, ◌≤◌, ◌⊎◌, length, take, drop, vec_capacity, IfOk, IsOk};
 ghost use Rattle.wtf8.specs.private.Prefixes.{IsKnownForm, IsReadTo, ReadsOn, HasRoomFrom};
 ghost use Rattle.wtf8.specs.private.Search.{IsLetterMask};
 
 use crate::codec::code_point::CodePoint;
 use crate::codec::encoding;
-use crate::from_utf16::encoded_len::{Growth, make_room};
-use crate::from_utf16::few::{self, FEW_UNITS};
 use crate::from_utf16::kernel::{self, MIN_SPARE};
 use crate::from_utf16::letters::{LETTERS_SPARE, append_letters, is_letter};
+use crate::from_utf16::room::{Growth, make_room, may_be_ascii, reserve_ascii};
 use crate::from_utf16::short_ascii::{self, is_short_ascii};
-use crate::from_utf16::{BLOCK_UNITS, HALF_BLOCK, Progress, QUARTER_BLOCK, TWO_BLOCKS, decode};
+use crate::from_utf16::{
+    BLOCK_UNITS, HALF_BLOCK, Progress, QUARTER_BLOCK, TWO_BLOCKS, decode, few,
+};
 use crate::lanes::ascii::{first_not_ascii, narrow_saturating};
 use crate::vec::spare_capacity;
 use std::alloc::{AllocError, Allocator};
@@ -31,6 +32,16 @@ const SCRATCH_BYTES: usize = 512;
 
 /// The scratch buffer's size for fewer than `TWO_BLOCKS` units: room for two blocks, since it is zeroed first.
 const SHORT_SCRATCH_BYTES: usize = 112;
+
+/// The size in bytes of the scratch buffer of a new string of fewer than `TWO_BLOCKS` units.
+const SHORT_BYTES: usize = 112;
+
+/// The most units of a new string that are encoded on the stack if they do not begin with an ASCII run: counting them first
+/// takes a tenth to a third more instructions.
+const STACK_UNITS: usize = 128;
+
+/// The size in bytes of their scratch buffer.
+const STACK_BYTES: usize = 448;
 
 /// The most bytes of a code point.
 pub(crate) const MOST_POINT_BYTES: usize = 4;
@@ -284,31 +295,6 @@ fn append_rest<A: Allocator>(
     Ok(is_utf8)
 }
 
-/// Whether a byte for each unit may be enough: they are many, and the first is ASCII.
-#[inline(always)]
-fn may_be_ascii(units: &[u16]) -> bool {
-    TWO_BLOCKS <= units.len() && units[0] < 0x80
-}
-
-/// Reserves a byte for each unit from index `at` on, if that may be enough.
-#[inline(always)]
-fn reserve_ascii<A: Allocator>(
-    bytes: &mut Vec<u8, A>,
-    v: &[u16],
-    at: usize,
-) -> Result<(), AllocError>
-    requires within { at ≤ length v.now }
-    ensures items { bytes.new.items ≡ bytes.old.items }
-    ensures room { (is_utf8 : Bool) → HasRoomFrom bytes.old v.now at is_utf8 → IsOk result }
-    ensures capacity { vec_capacity bytes.old ≤ vec_capacity bytes.new }
-{
-    let left = v.len() - at;
-    if left <= spare_capacity(bytes) || !may_be_ascii(&v[at..]) {
-        return Ok(());
-    }
-    bytes.reserve(left)
-}
-
 /// Appends the bytes of all units from index `from.at` on, after bytes with which they form no pair. Returns whether
 /// `from.is_utf8` and none of them is a lone surrogate. If memory is refused, more bytes may have been appended.
 pub(crate) fn append_utf16<A: Allocator>(
@@ -346,8 +332,11 @@ pub(crate) fn encode<A: Allocator>(alloc: A, v: &[u16]) -> Result<(Vec<u8, A>, b
         let narrowed = short_ascii::encode(alloc, v)?;
         return Ok((narrowed, true));
     }
-    if v.len() <= FEW_UNITS {
-        return few::encode(alloc, v);
+    if v.len() < TWO_BLOCKS {
+        return few::encode::<SHORT_BYTES, A>(alloc, v);
+    }
+    if v.len() <= STACK_UNITS && (0x80 <= v[0] || 0x80 <= v[1]) {
+        return few::encode::<STACK_BYTES, A>(alloc, v);
     }
     let room = if may_be_ascii(v) { v.len() } else { 0 };
     let mut bytes = Vec::with_capacity(alloc, room)?;

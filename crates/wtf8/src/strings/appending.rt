@@ -12,8 +12,8 @@ ghost use Rattle.wtf8.specs.View.{view_points, view_units};
 
 use crate::codec::code_point::{CodePoint, FIRST_TRAIL, code_point_of_pair, is_trail};
 use crate::codec::encoding;
-use crate::from_utf16::encoded_len::Growth;
 use crate::from_utf16::few::{self, FEW_UNITS};
+use crate::from_utf16::room::Growth;
 use crate::from_utf16::short_ascii::{self, is_short_ascii};
 use crate::from_utf16::{Progress, transcode};
 use crate::strings::utf8_prefix::Utf8Prefix;

@@ -1,15 +1,6 @@
-use Rattle.wtf8.proofs.Common.{◌++◌, arith, subst, take, IsReadTo}
+use Rattle.wtf8.proofs.Common.{append-nil, IsReadTo, subst, sym}
 use Rattle.wtf8.proofs.from_utf16.few.write_few.Goals as goal
 
-pub loop-read-preserved : goal.loop-read-preserved
-loop-read-preserved c = record {
-  within = c.write_point.ensures.order.1;
-  len = omega (arith, c.loop-read.invariant.len, c.write_point.ensures.end, c.write_point.ensures.order.0);
-  read = λ w front read. c.write_point.ensures.read w front (c.loop-read.invariant.read w front read);
-}
-
 pub returns-clause-read : goal.returns-clause-read
-returns-clause-read c w front read =
-    let end = c.loop-read.read in
-    subst (λ at. IsReadTo (w ++ take c.loop-read.len c.loop-read.out) front c.args.v.now at end.is_utf8)
-    (omega (arith, c.loop-read-test.false, c.loop-read.invariant.within)) (c.loop-read.invariant.read w front read)
+returns-clause-read c w front read = c.write_points.ensures.read w front
+    (subst (λ z. IsReadTo z front c.args.v.now 0 c.args.is_utf8) (sym (append-nil w)) read)

@@ -1,6 +1,6 @@
 use Rattle.wtf8.proofs.Common.{[], arith}
 use Rattle.wtf8.proofs.lemmas.from_utf16.EncodedLen.{HasRoomAfter-nothing, rest_form-fits, rest_form-longer}
-use Rattle.wtf8.proofs.from_utf16.transcode.reserve_ascii.Goals as goal
+use Rattle.wtf8.proofs.from_utf16.room.reserve_ascii.Goals as goal
 
 pub returns-clause-room : goal.returns-clause-room
 returns-clause-room g c is_utf8 room = c.reserve.ensures.succeeds (omega (

@@ -1,7 +1,7 @@
 use Rattle.wtf8.proofs.Common.{◌≡◌, ◌-◌, IsForm, arith, drop, length, length-drop, subst, sym, take, take_all}
 use Rattle.wtf8.proofs.lemmas.from_utf16.EncodedLen.{rest_form, rest_form-fits, rest_form-is, rest_form-most}
-use Rattle.wtf8.proofs.from_utf16.encoded_len.reserve_rest.Goals.{After-encoded_len}
-use Rattle.wtf8.proofs.from_utf16.encoded_len.reserve_rest.Goals as goal
+use Rattle.wtf8.proofs.from_utf16.room.reserve_rest.Goals.{After-encoded_len}
+use Rattle.wtf8.proofs.from_utf16.room.reserve_rest.Goals as goal
 
 -- the number of bytes that are counted
 counted : (g : _) (c : After-encoded_len g) → c.encoded_len.result ≡ length (rest_form c.args.v.now c.args.at)
