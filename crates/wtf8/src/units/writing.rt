@@ -5,7 +5,7 @@ ghost use lib.Lanes.{mask_l};
 ghost use Rattle.wtf8.specs.private.Prefixes.{AreAscii};
 ghost use Rattle.wtf8.specs.private.UnitEnds.{picked, words, joined_words};
 ghost use Rattle.wtf8.specs.private.EncodedBytes.{BecomesOrKeeps, BeginsWithUnits, Writes};
-ghost use Rattle.wtf8.specs.private.UnitsOut.{Decodes, HasRoom, IsBlock};
+ghost use Rattle.wtf8.specs.private.UnitsOut.{Decodes, DecodesBlock, HasRoom, IsBlock};
 ghost use Rattle.wtf8.specs.View.{view_units};
 
 use crate::lanes::ascii::{is_ascii_block, is_ascii_overlapping};
@@ -146,7 +146,8 @@ fn store_block(units: &mut [u16], at: usize, block: UnitEnds) -> usize
     store_packed(units, after, last, ends / 0x100_0000 % 0x100)
 }
 
-/// Decodes all whole code points of a block, which has room for its stores.
+/// Decodes all whole code points of a block where its stores have room: some write eight units from where they begin.
+/// The last `padding` bytes of the block are zeros after the string, whose units are left out.
 #[inline(always)]
 fn decode_block<'a>(
     units: &mut [u16],
@@ -156,10 +157,7 @@ fn decode_block<'a>(
 ) -> Undecoded<'a>
     requires room { left.at + POSITIONS ≤ length units.old }
     requires block { IsBlock left.view.bytes.now bytes padding }
-    ensures written { Decodes units.old left.entry units.new result }
-    ensures shorter { 0 < length left.entry.view.bytes.now → length result.view.bytes.now < length left.entry.view.bytes.now }
-    ensures within { length left.entry.view.bytes.now ≤ length result.view.bytes.now + POSITIONS }
-    ensures all { 0 < padding → view_units result.view ≡ [] }
+    ensures { DecodesBlock units.old left.entry padding units.new result }
 {
     let block = unit_ends(bytes);
     let at = store_block(units, left.at, block) - padding;
@@ -170,7 +168,8 @@ fn decode_block<'a>(
     }
 }
 
-/// Decodes all whole code points of a block to a scratch buffer, and copies their units. No later unit is overwritten.
+/// Decodes a block to a scratch buffer and copies its units, so that no later unit is overwritten. Not inlined, since only
+/// the ends of slices need it.
 #[inline(never)]
 fn decode_by_scratch<'a>(
     units: &mut [u16],
@@ -180,11 +179,8 @@ fn decode_by_scratch<'a>(
 ) -> Undecoded<'a>
     requires room { HasRoom units.old left }
     requires block { IsBlock left.view.bytes.now bytes padding }
-    ensures written { Decodes units.old left.entry units.new result }
+    ensures decoded { DecodesBlock units.old left.entry padding units.new result }
     ensures rest { (n : ℕ) → result.at ≤ n → drop n units.new ≡ drop n units.old }
-    ensures shorter { 0 < length left.entry.view.bytes.now → length result.view.bytes.now < length left.entry.view.bytes.now }
-    ensures within { length left.entry.view.bytes.now ≤ length result.view.bytes.now + POSITIONS }
-    ensures all { 0 < padding → view_units result.view ≡ [] }
 {
     let mut scratch = [0; POSITIONS];
     let start = Undecoded {
@@ -208,10 +204,7 @@ fn decode_positions<'a>(
 ) -> Undecoded<'a>
     requires room { HasRoom units.old left }
     requires block { IsBlock left.view.bytes.now bytes padding }
-    ensures written { Decodes units.old left.entry units.new result }
-    ensures shorter { 0 < length left.entry.view.bytes.now → length result.view.bytes.now < length left.entry.view.bytes.now }
-    ensures within { length left.entry.view.bytes.now ≤ length result.view.bytes.now + POSITIONS }
-    ensures all { 0 < padding → view_units result.view ≡ [] }
+    ensures { DecodesBlock units.old left.entry padding units.new result }
 {
     if POSITIONS <= units.len() - left.at {
         return decode_block(units, left, bytes, padding);
@@ -293,7 +286,7 @@ fn decode_blocks<'a>(units: &mut [u16], from: usize, view: Wtf8<'a>, least: usiz
     left
 }
 
-/// Decodes the bytes that are left after the blocks, as a block with zeros after them, whose units are left out.
+/// Decodes the last bytes as a block with zeros after them: one by one, code points take more from the fourth on.
 #[inline(always)]
 fn decode_last<'a>(units: &mut [u16], left: Undecoded<'a>) -> Undecoded<'a>
     requires room { HasRoom units.old left }
@@ -312,7 +305,7 @@ fn decode_last<'a>(units: &mut [u16], left: Undecoded<'a>) -> Undecoded<'a>
     decode_positions(units, left, block, POSITIONS - len)
 }
 
-/// May overwrite up to `POSITIONS` later units. Not inlined, since few callers need the code twice.
+/// May overwrite up to `POSITIONS` later units. Not inlined, so that all callers share it.
 #[inline(never)]
 pub(crate) fn decode_all(units: &mut [u16], from: usize, view: Wtf8<'_>) -> usize
     requires room { from + length (view_units view) ≤ length units.old }
@@ -350,7 +343,8 @@ fn append_counted<B: Allocator>(units: &mut Vec<u16, B>, view: Wtf8<'_>) -> Resu
     Ok(())
 }
 
-/// Not inlined, so that `write_units` saves no registers before it chooses.
+/// Fewer than `POSITIONS` bytes are one block, which takes a smaller buffer. Not inlined, so that `write_units` saves no
+/// registers before it chooses.
 #[inline(never)]
 fn write_all(out: &mut [u16], view: Wtf8<'_>) -> usize
     requires { length (view_units view) ≤ length out.old }

@@ -1,4 +1,4 @@
-use Rattle.wtf8.proofs.Common.{◌≡◌, ◌∙◌, ◌-◌, ◌++◌, ap, arith, length, replicate, sym}
+use Rattle.wtf8.proofs.Common.{◌∙◌, arith}
 use Rattle.wtf8.proofs.lemmas.lanes.Padding.{joined_0, joined_1, joined_2, joined_4, joined_8}
 use Rattle.wtf8.proofs.lanes.padding.padded_vector.Goals as goal
 use Rattle.wtf8.proofs.lanes.padding.padded_vector.Goals.{in-0, in-1, in-2-to-3, in-4-to-7, in_default}
