@@ -15,7 +15,6 @@ use crate::units::blocks::{EncodedLength, FourBytes, ThreeBytes, TwoBytes, widen
 use crate::units::unit_ends::{
     POSITIONS, UnitEnds, end_positions, interleave, pack_words, unit_ends,
 };
-use crate::vec::push_block;
 use std::alloc::{AllocError, Allocator};
 use std::simd::prelude::*;
 
@@ -53,28 +52,8 @@ fn store_units<const N: usize>(units: &mut [u16], at: usize, block: [u16; N])
     Simd::from_array(block).copy_to_slice(&mut units[at..]);
 }
 
-/// Appends the units of an ASCII string of `N` to `2 * N` bytes by its first and its last `N` bytes, which may overlap.
-#[inline(always)]
-fn append_ascii<const N: usize, B: Allocator>(
-    units: &mut Vec<u16, B>,
-    view: Wtf8<'_>,
-) -> Result<(), AllocError>
-    requires lanes { N ≤ u64.BITS }
-    requires all { (N ≤ length view.bytes.now) × (length view.bytes.now ≤ 2 * N) }
-    requires ascii { AreAscii view.bytes.now }
-    ensures { BecomesOrKeeps units.old (units.old.items ++ view_units view.entry) units.new result }
-{
-    let bytes = view.bytes;
-    units.reserve(bytes.len())?;
-    let last = bytes.len() - N;
-    let end = units.len() + last;
-    push_block(units, widen(Simd::<u8, N>::from_slice(bytes)));
-    units.truncate(end);
-    push_block(units, widen(Simd::<u8, N>::from_slice(&bytes[last..])));
-    Ok(())
-}
-
-/// Writes the units that `append_ascii` appends to the front of a slice. Returns their number.
+/// Writes the units of an ASCII string of `N` to `2 * N` bytes by its first and its last `N` bytes, which may overlap.
+/// Returns their number.
 #[inline(always)]
 fn write_ascii<const N: usize>(out: &mut [u16], view: Wtf8<'_>) -> usize
     requires lanes { N ≤ u64.BITS }
@@ -396,16 +375,9 @@ impl<'a> Wtf8<'a> {
         ensures room { vec_len units.old + length (view_units self.now) ≤ vec_capacity units.old → IsOk result }
         ensures capacity { vec_capacity units.old ≤ vec_capacity units.new }
     {
-        match self.len() {
-            1 if is_ascii_overlapping::<1>(self.bytes) => append_ascii::<1, B>(units, *self),
-            2..=3 if is_ascii_overlapping::<2>(self.bytes) => append_ascii::<2, B>(units, *self),
-            4..=7 if is_ascii_overlapping::<4>(self.bytes) => append_ascii::<4, B>(units, *self),
-            8..=15 if is_ascii_overlapping::<8>(self.bytes) => append_ascii::<8, B>(units, *self),
-            16..=31 if is_ascii_overlapping::<16>(self.bytes) => append_ascii::<16, B>(
-                units, *self,
-            ),
-            0..END_BYTES => append_short(units, *self),
-            _ => append_counted(units, *self),
+        if self.len() < END_BYTES {
+            return append_short(units, *self);
         }
+        append_counted(units, *self)
     }
 }
