@@ -5,7 +5,7 @@ ghost use lib.Lanes.{mask_l};
 ghost use Rattle.wtf8.specs.private.Prefixes.{AreAscii};
 ghost use Rattle.wtf8.specs.private.UnitEnds.{picked, words, joined_words};
 ghost use Rattle.wtf8.specs.private.EncodedBytes.{BecomesOrKeeps, BeginsWithUnits, Writes};
-ghost use Rattle.wtf8.specs.private.UnitsOut.{Decodes, DecodesBlock, HasRoom, IsBlock};
+ghost use Rattle.wtf8.specs.private.UnitsOut.{Decodes, DecodesBlock, HasRoom, HasRoomFrom, IsBlock};
 ghost use Rattle.wtf8.specs.View.{view_units};
 
 use crate::lanes::ascii::{is_ascii_block, is_ascii_overlapping};
@@ -25,6 +25,9 @@ const END_BYTES: usize = 4 * POSITIONS;
 
 /// There are no more units than bytes, and stores of a block reach at most `POSITIONS` units further.
 const SCRATCH_UNITS: usize = END_BYTES + POSITIONS;
+
+/// The same for a string of fewer than `POSITIONS` bytes.
+const BLOCK_SCRATCH: usize = 2 * POSITIONS;
 
 /// Where units end in 32 bytes of two-byte code points; below, of three-byte and of four-byte ones.
 const ENDS_OF_TWOS: u64 = 0xAAAA_AAAA;
@@ -125,10 +128,10 @@ fn store_block(units: &mut [u16], at: usize, block: UnitEnds) -> usize
     store_packed(units, after, last, ends / 0x100_0000 % 0x100)
 }
 
-/// Decodes all whole code points of a block where its stores have room: some write eight units from where they begin.
-/// The last `padding` bytes of the block are zeros after the string, whose units are left out.
+/// Decodes all whole code points of a block. Its last `padding` bytes are zeros after the string, whose units are left
+/// out. It needs room for as many units as it has bytes, since each store writes eight.
 #[inline(always)]
-fn decode_block<'a>(
+fn decode_positions<'a>(
     units: &mut [u16],
     left: Undecoded<'a>,
     bytes: u8x32,
@@ -145,50 +148,6 @@ fn decode_block<'a>(
         view: left.view.skip_bytes(width),
         at,
     }
-}
-
-/// Decodes a block to a scratch buffer and copies its units, so that no later unit is overwritten. Not inlined, since only
-/// the ends of slices need it.
-#[inline(never)]
-fn decode_by_scratch<'a>(
-    units: &mut [u16],
-    left: Undecoded<'a>,
-    bytes: u8x32,
-    padding: usize,
-) -> Undecoded<'a>
-    requires room { HasRoom units.old left }
-    requires block { IsBlock left.view.bytes.now bytes padding }
-    ensures decoded { DecodesBlock units.old left.entry padding units.new result }
-    ensures rest { (n : ℕ) → result.at ≤ n → drop n units.new ≡ drop n units.old }
-{
-    let mut scratch = [0; POSITIONS];
-    let start = Undecoded {
-        view: left.view,
-        at: 0,
-    };
-    let rest = decode_block(&mut scratch, start, bytes, padding);
-    units[left.at..left.at + rest.at].copy_from_slice(&scratch[..rest.at]);
-    Undecoded {
-        view: rest.view,
-        at: left.at + rest.at,
-    }
-}
-
-#[inline(always)]
-fn decode_positions<'a>(
-    units: &mut [u16],
-    left: Undecoded<'a>,
-    bytes: u8x32,
-    padding: usize,
-) -> Undecoded<'a>
-    requires room { HasRoom units.old left }
-    requires block { IsBlock left.view.bytes.now bytes padding }
-    ensures { DecodesBlock units.old left.entry padding units.new result }
-{
-    if POSITIONS <= units.len() - left.at {
-        return decode_block(units, left, bytes, padding);
-    }
-    decode_by_scratch(units, left, bytes, padding)
 }
 
 /// Decodes full blocks of code points of one encoded length, as many as follow each other while `least` bytes are left.
@@ -227,7 +186,7 @@ fn decode_full_blocks<'a, const N: usize, const BYTES: usize, K: EncodedLength<N
 /// have no full block, and go by positions too.
 #[inline(always)]
 fn decode_next<'a>(units: &mut [u16], left: Undecoded<'a>, least: usize) -> Undecoded<'a>
-    requires room { HasRoom units.old left }
+    requires room { HasRoomFrom units.old left least }
     requires least { (POSITIONS ≤ least) × (least ≤ length left.view.bytes.now) }
     ensures written { Decodes units.old left.entry units.new result }
     ensures shorter { length result.view.bytes.now < length left.entry.view.bytes.now }
@@ -252,7 +211,7 @@ fn decode_next<'a>(units: &mut [u16], left: Undecoded<'a>, least: usize) -> Unde
 /// Decodes blocks while `least` bytes are left. Not inlined, so that all callers share the one loop.
 #[inline(never)]
 fn decode_blocks<'a>(units: &mut [u16], from: usize, view: Wtf8<'a>, least: usize) -> Undecoded<'a>
-    requires room { from + length (view_units view) ≤ length units.old }
+    requires room { HasRoomFrom units.old (record { view = view; at = from }) least }
     requires least { POSITIONS ≤ least }
     ensures written { Writes units.old from (view_units view.entry) units.new result.at (view_units result.view) }
     ensures few { length result.view.bytes.now < least }
@@ -268,7 +227,7 @@ fn decode_blocks<'a>(units: &mut [u16], from: usize, view: Wtf8<'a>, least: usiz
 /// Decodes the last bytes as a block with zeros after them: one by one, code points take more from the fourth on.
 #[inline(always)]
 fn decode_last<'a>(units: &mut [u16], left: Undecoded<'a>) -> Undecoded<'a>
-    requires room { HasRoom units.old left }
+    requires room { left.at + POSITIONS ≤ length units.old }
     requires few { length left.view.bytes.now < POSITIONS }
     ensures written { Decodes units.old left.entry units.new result }
     ensures all { view_units result.view ≡ [] }
@@ -278,16 +237,17 @@ fn decode_last<'a>(units: &mut [u16], left: Undecoded<'a>) -> Undecoded<'a>
     }
     let len = left.view.len();
     let block = padded(left.view.bytes);
-    if is_ascii_block(block) && POSITIONS <= units.len() - left.at {
+    if is_ascii_block(block) {
         return write_front(units, left, widen(block), len, len);
     }
     decode_positions(units, left, block, POSITIONS - len)
 }
 
-/// May overwrite up to `POSITIONS` later units. Not inlined, so that all callers share it.
+/// Decodes a string from the front of a slice on, which has room for `POSITIONS` units after it. Not inlined, so that all
+/// callers share it.
 #[inline(never)]
-pub(crate) fn decode_all(units: &mut [u16], from: usize, view: Wtf8<'_>) -> usize
-    requires room { from + length (view_units view) ≤ length units.old }
+fn decode_with_room(units: &mut [u16], from: usize, view: Wtf8<'_>) -> usize
+    requires room { from + length (view_units view) + POSITIONS ≤ length units.old }
     ensures units { take result units.new ≡ take from units.old ++ view_units view.entry }
     ensures index { result ≡ from + length (view_units view.entry) }
     ensures later { (n : ℕ) → result + POSITIONS ≤ n → drop n units.new ≡ drop n units.old }
@@ -295,6 +255,22 @@ pub(crate) fn decode_all(units: &mut [u16], from: usize, view: Wtf8<'_>) -> usiz
 {
     let left = decode_blocks(units, from, view, POSITIONS);
     decode_last(units, left).at
+}
+
+/// May overwrite up to `POSITIONS` later units.
+pub(crate) fn decode_all(units: &mut [u16], from: usize, view: Wtf8<'_>) -> usize
+    requires room { from + length (view_units view) ≤ length units.old }
+    ensures units { take result units.new ≡ take from units.old ++ view_units view.entry }
+    ensures index { result ≡ from + length (view_units view.entry) }
+    ensures later { (n : ℕ) → result + POSITIONS ≤ n → drop n units.new ≡ drop n units.old }
+    ensures len { length units.new ≡ length units.old }
+{
+    // There are no more units than bytes.
+    prove!(view.len() <= usize::MAX / 2);
+    if view.len() + POSITIONS <= units.len() - from {
+        return decode_with_room(units, from, view);
+    }
+    write_all(units, from, view)
 }
 
 /// Not inlined, since a caller would pay for the buffer on the stack at each entry.
@@ -306,7 +282,7 @@ fn append_short<B: Allocator>(units: &mut Vec<u16, B>, view: Wtf8<'_>) -> Result
     // There are no more units than bytes.
     prove!(view.len() <= SCRATCH_UNITS);
     let mut scratch = [0; SCRATCH_UNITS];
-    let count = decode_all(&mut scratch, 0, view);
+    let count = decode_with_room(&mut scratch, 0, view);
     units.extend_from_slice(&scratch[..count])
 }
 
@@ -318,31 +294,42 @@ fn append_counted<B: Allocator>(units: &mut Vec<u16, B>, view: Wtf8<'_>) -> Resu
     prove!(view.len() <= usize::MAX / 2);
     let from = units.len();
     units.resize(from + view.unit_len(), 0)?;
-    write_all(&mut units[from..], view);
+    write_all(units, from, view);
     Ok(())
 }
 
-/// Fewer than `POSITIONS` bytes are one block, which takes a smaller buffer. Not inlined, so that `write_units` saves no
-/// registers before it chooses.
+/// Decodes the last bytes to a scratch buffer of `SCRATCH` units, and copies their units.
+#[inline(always)]
+fn write_end<const SCRATCH: usize>(out: &mut [u16], left: Undecoded<'_>) -> usize
+    requires scratch { (length left.view.bytes.now + POSITIONS ≤ SCRATCH) × (SCRATCH < 2 ^ 16) }
+    requires room { HasRoom out.old left }
+    ensures units { take result out.new ≡ take left.entry.at out.old ++ view_units left.entry.view }
+    ensures rest { (n : ℕ) → result ≤ n → drop n out.new ≡ drop n out.old }
+    ensures index { result ≡ left.entry.at + length (view_units left.entry.view) }
+    ensures len { length out.new ≡ length out.old }
+{
+    // There are no more units than bytes.
+    prove!(left.view.len() <= SCRATCH);
+    let mut scratch = [0; SCRATCH];
+    let count = decode_with_room(&mut scratch, 0, left.view);
+    out[left.at..left.at + count].copy_from_slice(&scratch[..count]);
+    left.at + count
+}
+
+/// Not inlined, so that `write_units` saves no registers before it chooses.
 #[inline(never)]
-fn write_all(out: &mut [u16], view: Wtf8<'_>) -> usize
-    requires { length (view_units view) ≤ length out.old }
-    ensures units { take result out.new ≡ view_units view.entry }
-    ensures rest { drop result out.new ≡ drop result out.old }
-    ensures count { result ≡ length (view_units view.entry) }
+fn write_all(out: &mut [u16], from: usize, view: Wtf8<'_>) -> usize
+    requires { from + length (view_units view) ≤ length out.old }
+    ensures units { take result out.new ≡ take from out.old ++ view_units view.entry }
+    ensures rest { (n : ℕ) → result ≤ n → drop n out.new ≡ drop n out.old }
+    ensures index { result ≡ from + length (view_units view.entry) }
     ensures len { length out.new ≡ length out.old }
 {
     if view.len() < POSITIONS {
-        let all = Undecoded { view, at: 0 };
-        return decode_by_scratch(out, all, padded(view.bytes), POSITIONS - view.len()).at;
+        return write_end::<BLOCK_SCRATCH>(out, Undecoded { view, at: from });
     }
-    let left = decode_blocks(out, 0, view, END_BYTES);
-    // There are no more units than bytes.
-    prove!(left.view.len() <= SCRATCH_UNITS);
-    let mut scratch = [0; SCRATCH_UNITS];
-    let count = decode_all(&mut scratch, 0, left.view);
-    out[left.at..left.at + count].copy_from_slice(&scratch[..count]);
-    left.at + count
+    let left = decode_blocks(out, from, view, END_BYTES);
+    write_end::<SCRATCH_UNITS>(out, left)
 }
 
 impl<'a> Wtf8<'a> {
@@ -363,7 +350,7 @@ impl<'a> Wtf8<'a> {
             8..=15 if is_ascii_overlapping::<8>(self.bytes) => write_ascii::<8>(out, *self),
             16..=31 if is_ascii_overlapping::<16>(self.bytes) => write_ascii::<16>(out, *self),
             32..=63 if is_ascii_overlapping::<32>(self.bytes) => write_ascii::<32>(out, *self),
-            _ => write_all(out, *self),
+            _ => write_all(out, 0, *self),
         }
     }
 

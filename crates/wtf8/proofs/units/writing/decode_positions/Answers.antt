@@ -6,7 +6,7 @@ use Rattle.wtf8.proofs.lemmas.codec.Readings.{IsWellFormed-equal_bytes}
 use Rattle.wtf8.proofs.lemmas.units.PackedWords.{leading_zeros-mask_l, whole_len, whole_len-bound}
 use Rattle.wtf8.proofs.lemmas.units.UnitLanes.{length-set_lanes, joined_words-by_position}
 use Rattle.wtf8.proofs.lemmas.units.UnitEnds.{HoldsUnits, holds_units, Writes-equal_left, Writes-front}
-use Rattle.wtf8.proofs.units.writing.decode_block.Goals as goal
+use Rattle.wtf8.proofs.units.writing.decode_positions.Goals as goal
 
 -- the number of the block's whole bytes, by the mask of its ends
 record KnowsWidth (block : List ℕ) (n : ℕ) : Type 0 where
