@@ -1,10 +1,8 @@
 -- Units and zeros after them as the lanes of a block.
 use Rattle.wtf8.proofs.Common.{◌≡◌, ℕ, suc, ◌+◌, ◌-◌, ◌*◌, ◌/◌, ◌%◌, ◌<◌, ◌≤◌, List, [], ◌∷◌, ◌++◌, length, take, drop}
 use Rattle.wtf8.proofs.Common.{replicate, Each1, refl, sym, ap, ◌∙◌, arith, subst, Fits, w8, w16, swz_l, pick_l_whole, zero, rules}
-use Rattle.wtf8.proofs.Common.{cases_lt, inl, inr, length-append, length-drop, length-replicate}
+use Rattle.wtf8.proofs.Common.{length-append, length-drop, length-replicate}
 use Rattle.std.proofs.lemmas.Simd.{SwzOk, Each1-replicate}
-use Rattle.std.specs.Prelude.{⊤}
-use Rattle.std.specs.List.{range_with_len}
 use lib.Lanes.{chunk, pick_l, digits_l, number_l}
 use Rattle.wtf8.proofs.lemmas.lanes.Padding.{of_below, of_length}
 use Rattle.wtf8.specs.declared.from_utf16.kernel.TheConstants.{BYTE_SHIFTS}
