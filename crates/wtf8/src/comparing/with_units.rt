@@ -1,38 +1,40 @@
 // Strings compared with code units that are in no string: the string's units are decoded on the stack, part by part.
 ghost use Rattle.std.specs.Cmp.Lexicographic.{slice_cmp};
 ghost use Rattle.std.specs.Ordering.{MatchOrdering, nat_cmp};
-ghost use Rattle.std.specs.Prelude.{◌≡◌, ◌↔◌, ◌++◌, ◌^◌, ◌<◌, ◌≤◌, length, take, IsTrue};
+ghost use Rattle.std.specs.Prelude.{◌≡◌, ◌↔◌, ◌++◌, ◌+◌, ◌^◌, ◌<◌, ◌≤◌, length, take, IsTrue};
 ghost use Rattle.wtf8.specs.Order.{Before};
 ghost use Rattle.wtf8.specs.View.{view_units};
 
 use crate::strings::view::Wtf8;
+use crate::units::unit_ends::POSITIONS;
 use crate::units::writing::decode_all;
 use std::cmp::Ordering;
 
-/// The most bytes of a part that is decoded at a time, and so the most units.
+/// The units of the buffer to which a part is decoded at a time: at most one for each byte of it, and `POSITIONS` that
+/// stores may overwrite after them.
 const PART: usize = 512;
 
 /// The same for shorter strings: fewer bytes to zero.
-const SHORT_PART: usize = 64;
+const SHORT_PART: usize = 96;
 
-/// Decodes the first code points of a string, at most a byte for each unit of `block`, to the front of that. Returns
+/// Decodes the first code points of a string, at most a byte for each unit of `block` but `POSITIONS`, to the front of it. Returns
 /// the number of their units and the rest of the string.
 #[inline(always)]
 fn decode_part<'a>(view: Wtf8<'a>, block: &mut [u16]) -> (usize, Wtf8<'a>)
     requires nonempty { 0 < length view.bytes.now }
-    requires room { 4 ≤ length block.old }
+    requires room { POSITIONS + 4 ≤ length block.old }
     ensures within { result.0 ≤ length block.new }
     ensures units { take result.0 block.new ++ view_units result.1 ≡ view_units view.entry }
     ensures shorter { length result.1.bytes.now < length view.entry.bytes.now }
 {
-    let position = view.boundary_before(view.len().min(block.len()));
+    let position = view.boundary_before(view.len().min(block.len() - POSITIONS));
     let count = decode_all(block, 0, view.slice_to(position));
     (count, view.slice_from(position))
 }
 
 #[inline(always)]
 fn cmp_by_parts<const N: usize>(view: Wtf8<'_>, units: &[u16]) -> Ordering
-    requires { (4 ≤ N) × (N < 2 ^ 16) }
+    requires { (POSITIONS + 4 ≤ N) × (N < 2 ^ 16) }
     ensures { result ≡ slice_cmp nat_cmp (view_units view.entry) units.now }
 {
     let mut block = [0; N];
@@ -58,7 +60,7 @@ fn cmp_by_parts<const N: usize>(view: Wtf8<'_>, units: &[u16]) -> Ordering
 
 #[inline(always)]
 fn starts_by_parts<const N: usize>(view: Wtf8<'_>, units: &[u16]) -> bool
-    requires { (4 ≤ N) × (N < 2 ^ 16) }
+    requires { (POSITIONS + 4 ≤ N) × (N < 2 ^ 16) }
     ensures { IsTrue result ↔ take (length units.now) (view_units view.entry) ≡ units.now }
 {
     let mut block = [0; N];
@@ -88,7 +90,7 @@ impl<'a> Wtf8<'a> {
         ensures order { let own = view_units self.now in
             MatchOrdering result (Before own units.now) (own ≡ units.now) (Before units.now own) }
     {
-        if self.len() <= SHORT_PART {
+        if self.len() <= SHORT_PART - POSITIONS {
             return cmp_by_parts::<SHORT_PART>(*self, units);
         }
         cmp_by_parts::<PART>(*self, units)
@@ -102,7 +104,7 @@ impl<'a> Wtf8<'a> {
         if self.len() < units.len() {
             return false;
         }
-        if units.len() <= SHORT_PART {
+        if units.len() <= SHORT_PART - POSITIONS {
             return starts_by_parts::<SHORT_PART>(*self, units);
         }
         starts_by_parts::<PART>(*self, units)

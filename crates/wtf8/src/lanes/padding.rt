@@ -55,20 +55,6 @@ fn other_bytes<const N: usize>(bytes: &[u8]) -> u8x16
     without_first(last, 2 * N - bytes.len())
 }
 
-#[inline(always)]
-fn padded_vector(bytes: &[u8]) -> u8x16
-    requires { length bytes.now < VECTOR }
-    ensures { result ≡ bytes.now ++ replicate (16 - length bytes.now) 0 }
-{
-    match bytes.len() {
-        0 => u8x16::splat(0),
-        1 => first_bytes::<1>(bytes),
-        2..=3 => first_bytes::<2>(bytes).shuffle(other_bytes::<2>(bytes), AFTER_2),
-        4..=7 => first_bytes::<4>(bytes).shuffle(other_bytes::<4>(bytes), AFTER_4),
-        _ => first_bytes::<8>(bytes).shuffle(other_bytes::<8>(bytes), AFTER_8),
-    }
-}
-
 /// The bytes, then zeros.
 #[inline(always)]
 pub(crate) fn padded(bytes: &[u8]) -> u8x32
@@ -78,5 +64,12 @@ pub(crate) fn padded(bytes: &[u8]) -> u8x32
     if VECTOR <= bytes.len() {
         return first_bytes::<16>(bytes).shuffle(other_bytes::<16>(bytes), AFTER_16);
     }
-    padded_vector(bytes).shuffle(u8x16::splat(0), AFTER_16)
+    let vector = match bytes.len() {
+        0 => u8x16::splat(0),
+        1 => first_bytes::<1>(bytes),
+        2..=3 => first_bytes::<2>(bytes).shuffle(other_bytes::<2>(bytes), AFTER_2),
+        4..=7 => first_bytes::<4>(bytes).shuffle(other_bytes::<4>(bytes), AFTER_4),
+        _ => first_bytes::<8>(bytes).shuffle(other_bytes::<8>(bytes), AFTER_8),
+    };
+    vector.shuffle(u8x16::splat(0), AFTER_16)
 }

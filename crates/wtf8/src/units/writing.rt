@@ -1,11 +1,11 @@
-// Appends the code units of a view to a vector.
+// Writes the code units of a view to a slice, and appends them to a vector.
 ghost use Rattle.std.specs.Prelude.{◌≡◌, ℕ, List, [], Bool, ◌++◌, ◌+◌, ◌*◌, ◌/◌, ◌%◌, ◌^◌, ◌<◌, ◌≤◌, length, take, drop, IsOk, OnOk, OnErr, vec_len, vec_capacity};
 ghost use lib.Count.{ones};
 ghost use lib.Lanes.{mask_l};
 ghost use Rattle.wtf8.specs.private.Prefixes.{AreAscii};
 ghost use Rattle.wtf8.specs.private.UnitEnds.{picked, words, joined_words};
 ghost use Rattle.wtf8.specs.private.EncodedBytes.{BecomesOrKeeps, BeginsWithUnits, Writes};
-ghost use Rattle.wtf8.specs.private.UnitsOut.{Decodes, HasRoom, IsBlock};
+ghost use Rattle.wtf8.specs.private.UnitsOut.{Decodes, DecodesBlock, HasRoom, HasRoomFrom, IsBlock};
 ghost use Rattle.wtf8.specs.View.{view_units};
 
 use crate::lanes::ascii::{is_ascii_block, is_ascii_overlapping};
@@ -15,7 +15,6 @@ use crate::units::blocks::{EncodedLength, FourBytes, ThreeBytes, TwoBytes, widen
 use crate::units::unit_ends::{
     POSITIONS, UnitEnds, end_positions, interleave, pack_words, unit_ends,
 };
-use crate::vec::push_block;
 use std::alloc::{AllocError, Allocator};
 use std::simd::prelude::*;
 
@@ -26,6 +25,9 @@ const END_BYTES: usize = 4 * POSITIONS;
 
 /// There are no more units than bytes, and stores of a block reach at most `POSITIONS` units further.
 const SCRATCH_UNITS: usize = END_BYTES + POSITIONS;
+
+/// The same for a string of fewer than `POSITIONS` bytes.
+const BLOCK_SCRATCH: usize = 2 * POSITIONS;
 
 /// Where units end in 32 bytes of two-byte code points; below, of three-byte and of four-byte ones.
 const ENDS_OF_TWOS: u64 = 0xAAAA_AAAA;
@@ -53,28 +55,8 @@ fn store_units<const N: usize>(units: &mut [u16], at: usize, block: [u16; N])
     Simd::from_array(block).copy_to_slice(&mut units[at..]);
 }
 
-/// Appends the units of an ASCII string of `N` to `2 * N` bytes by its first and its last `N` bytes, which may overlap.
-#[inline(always)]
-fn append_ascii<const N: usize, B: Allocator>(
-    units: &mut Vec<u16, B>,
-    view: Wtf8<'_>,
-) -> Result<(), AllocError>
-    requires lanes { N ≤ u64.BITS }
-    requires all { (N ≤ length view.bytes.now) × (length view.bytes.now ≤ 2 * N) }
-    requires ascii { AreAscii view.bytes.now }
-    ensures { BecomesOrKeeps units.old (units.old.items ++ view_units view.entry) units.new result }
-{
-    let bytes = view.bytes;
-    units.reserve(bytes.len())?;
-    let last = bytes.len() - N;
-    let end = units.len() + last;
-    push_block(units, widen(Simd::<u8, N>::from_slice(bytes)));
-    units.truncate(end);
-    push_block(units, widen(Simd::<u8, N>::from_slice(&bytes[last..])));
-    Ok(())
-}
-
-/// Writes the units that `append_ascii` appends to the front of a slice. Returns their number.
+/// Writes the units of an ASCII string of `N` to `2 * N` bytes by its first and its last `N` bytes, which may overlap.
+/// Returns their number.
 #[inline(always)]
 fn write_ascii<const N: usize>(out: &mut [u16], view: Wtf8<'_>) -> usize
     requires lanes { N ≤ u64.BITS }
@@ -146,9 +128,10 @@ fn store_block(units: &mut [u16], at: usize, block: UnitEnds) -> usize
     store_packed(units, after, last, ends / 0x100_0000 % 0x100)
 }
 
-/// Decodes all whole code points of a block, which has room for its stores.
+/// Decodes all whole code points of a block. Its last `padding` bytes are zeros after the string, whose units are left
+/// out. It needs room for as many units as it has bytes, since each store writes eight.
 #[inline(always)]
-fn decode_block<'a>(
+fn decode_positions<'a>(
     units: &mut [u16],
     left: Undecoded<'a>,
     bytes: u8x32,
@@ -156,10 +139,7 @@ fn decode_block<'a>(
 ) -> Undecoded<'a>
     requires room { left.at + POSITIONS ≤ length units.old }
     requires block { IsBlock left.view.bytes.now bytes padding }
-    ensures written { Decodes units.old left.entry units.new result }
-    ensures shorter { 0 < length left.entry.view.bytes.now → length result.view.bytes.now < length left.entry.view.bytes.now }
-    ensures within { length left.entry.view.bytes.now ≤ length result.view.bytes.now + POSITIONS }
-    ensures all { 0 < padding → view_units result.view ≡ [] }
+    ensures { DecodesBlock units.old left.entry padding units.new result }
 {
     let block = unit_ends(bytes);
     let at = store_block(units, left.at, block) - padding;
@@ -170,56 +150,8 @@ fn decode_block<'a>(
     }
 }
 
-/// Decodes all whole code points of a block to a scratch buffer, and copies their units. No later unit is overwritten.
-#[inline(never)]
-fn decode_by_scratch<'a>(
-    units: &mut [u16],
-    left: Undecoded<'a>,
-    bytes: u8x32,
-    padding: usize,
-) -> Undecoded<'a>
-    requires room { HasRoom units.old left }
-    requires block { IsBlock left.view.bytes.now bytes padding }
-    ensures written { Decodes units.old left.entry units.new result }
-    ensures rest { (n : ℕ) → result.at ≤ n → drop n units.new ≡ drop n units.old }
-    ensures shorter { 0 < length left.entry.view.bytes.now → length result.view.bytes.now < length left.entry.view.bytes.now }
-    ensures within { length left.entry.view.bytes.now ≤ length result.view.bytes.now + POSITIONS }
-    ensures all { 0 < padding → view_units result.view ≡ [] }
-{
-    let mut scratch = [0; POSITIONS];
-    let start = Undecoded {
-        view: left.view,
-        at: 0,
-    };
-    let rest = decode_block(&mut scratch, start, bytes, padding);
-    units[left.at..left.at + rest.at].copy_from_slice(&scratch[..rest.at]);
-    Undecoded {
-        view: rest.view,
-        at: left.at + rest.at,
-    }
-}
-
-#[inline(always)]
-fn decode_positions<'a>(
-    units: &mut [u16],
-    left: Undecoded<'a>,
-    bytes: u8x32,
-    padding: usize,
-) -> Undecoded<'a>
-    requires room { HasRoom units.old left }
-    requires block { IsBlock left.view.bytes.now bytes padding }
-    ensures written { Decodes units.old left.entry units.new result }
-    ensures shorter { 0 < length left.entry.view.bytes.now → length result.view.bytes.now < length left.entry.view.bytes.now }
-    ensures within { length left.entry.view.bytes.now ≤ length result.view.bytes.now + POSITIONS }
-    ensures all { 0 < padding → view_units result.view ≡ [] }
-{
-    if POSITIONS <= units.len() - left.at {
-        return decode_block(units, left, bytes, padding);
-    }
-    decode_by_scratch(units, left, bytes, padding)
-}
-
 /// Decodes full blocks of code points of one encoded length, as many as follow each other while `least` bytes are left.
+/// With blocks down to the last whole one, 24 CJK units take fewer instructions than 17.
 #[inline(always)]
 fn decode_full_blocks<'a, const N: usize, const BYTES: usize, K: EncodedLength<N, BYTES>>(
     units: &mut [u16],
@@ -255,7 +187,7 @@ fn decode_full_blocks<'a, const N: usize, const BYTES: usize, K: EncodedLength<N
 /// have no full block, and go by positions too.
 #[inline(always)]
 fn decode_next<'a>(units: &mut [u16], left: Undecoded<'a>, least: usize) -> Undecoded<'a>
-    requires room { HasRoom units.old left }
+    requires room { HasRoomFrom units.old left least }
     requires least { (POSITIONS ≤ least) × (least ≤ length left.view.bytes.now) }
     ensures written { Decodes units.old left.entry units.new result }
     ensures shorter { length result.view.bytes.now < length left.entry.view.bytes.now }
@@ -280,7 +212,7 @@ fn decode_next<'a>(units: &mut [u16], left: Undecoded<'a>, least: usize) -> Unde
 /// Decodes blocks while `least` bytes are left. Not inlined, so that all callers share the one loop.
 #[inline(never)]
 fn decode_blocks<'a>(units: &mut [u16], from: usize, view: Wtf8<'a>, least: usize) -> Undecoded<'a>
-    requires room { from + length (view_units view) ≤ length units.old }
+    requires room { HasRoomFrom units.old (record { view = view; at = from }) least }
     requires least { POSITIONS ≤ least }
     ensures written { Writes units.old from (view_units view.entry) units.new result.at (view_units result.view) }
     ensures few { length result.view.bytes.now < least }
@@ -293,10 +225,11 @@ fn decode_blocks<'a>(units: &mut [u16], from: usize, view: Wtf8<'a>, least: usiz
     left
 }
 
-/// Decodes the bytes that are left after the blocks, as a block with zeros after them, whose units are left out.
+/// Decodes the last bytes as a block with zeros after them. One CJK unit takes 1.8 of the instructions of a code point read
+/// alone, four as many as read one by one, ten half.
 #[inline(always)]
 fn decode_last<'a>(units: &mut [u16], left: Undecoded<'a>) -> Undecoded<'a>
-    requires room { HasRoom units.old left }
+    requires room { left.at + POSITIONS ≤ length units.old }
     requires few { length left.view.bytes.now < POSITIONS }
     ensures written { Decodes units.old left.entry units.new result }
     ensures all { view_units result.view ≡ [] }
@@ -306,16 +239,17 @@ fn decode_last<'a>(units: &mut [u16], left: Undecoded<'a>) -> Undecoded<'a>
     }
     let len = left.view.len();
     let block = padded(left.view.bytes);
-    if is_ascii_block(block) && POSITIONS <= units.len() - left.at {
+    if is_ascii_block(block) {
         return write_front(units, left, widen(block), len, len);
     }
     decode_positions(units, left, block, POSITIONS - len)
 }
 
-/// May overwrite up to `POSITIONS` later units. Not inlined, since few callers need the code twice.
+/// Decodes a string from the front of a slice on, which has room for `POSITIONS` units after it. Not inlined, so that all
+/// callers share it.
 #[inline(never)]
-pub(crate) fn decode_all(units: &mut [u16], from: usize, view: Wtf8<'_>) -> usize
-    requires room { from + length (view_units view) ≤ length units.old }
+fn decode_with_room(units: &mut [u16], from: usize, view: Wtf8<'_>) -> usize
+    requires room { from + length (view_units view) + POSITIONS ≤ length units.old }
     ensures units { take result units.new ≡ take from units.old ++ view_units view.entry }
     ensures index { result ≡ from + length (view_units view.entry) }
     ensures later { (n : ℕ) → result + POSITIONS ≤ n → drop n units.new ≡ drop n units.old }
@@ -323,6 +257,22 @@ pub(crate) fn decode_all(units: &mut [u16], from: usize, view: Wtf8<'_>) -> usiz
 {
     let left = decode_blocks(units, from, view, POSITIONS);
     decode_last(units, left).at
+}
+
+/// May overwrite up to `POSITIONS` later units.
+pub(crate) fn decode_all(units: &mut [u16], from: usize, view: Wtf8<'_>) -> usize
+    requires room { from + length (view_units view) ≤ length units.old }
+    ensures units { take result units.new ≡ take from units.old ++ view_units view.entry }
+    ensures index { result ≡ from + length (view_units view.entry) }
+    ensures later { (n : ℕ) → result + POSITIONS ≤ n → drop n units.new ≡ drop n units.old }
+    ensures len { length units.new ≡ length units.old }
+{
+    // There are no more units than bytes.
+    prove!(view.len() <= usize::MAX / 2);
+    if view.len() + POSITIONS <= units.len() - from {
+        return decode_with_room(units, from, view);
+    }
+    write_all(units, from, view)
 }
 
 /// Not inlined, since a caller would pay for the buffer on the stack at each entry.
@@ -334,7 +284,7 @@ fn append_short<B: Allocator>(units: &mut Vec<u16, B>, view: Wtf8<'_>) -> Result
     // There are no more units than bytes.
     prove!(view.len() <= SCRATCH_UNITS);
     let mut scratch = [0; SCRATCH_UNITS];
-    let count = decode_all(&mut scratch, 0, view);
+    let count = decode_with_room(&mut scratch, 0, view);
     units.extend_from_slice(&scratch[..count])
 }
 
@@ -346,30 +296,42 @@ fn append_counted<B: Allocator>(units: &mut Vec<u16, B>, view: Wtf8<'_>) -> Resu
     prove!(view.len() <= usize::MAX / 2);
     let from = units.len();
     units.resize(from + view.unit_len(), 0)?;
-    write_all(&mut units[from..], view);
+    write_all(units, from, view);
     Ok(())
+}
+
+/// Decodes the last bytes to a scratch buffer of `SCRATCH` units, and copies their units.
+#[inline(always)]
+fn write_end<const SCRATCH: usize>(out: &mut [u16], left: Undecoded<'_>) -> usize
+    requires scratch { (length left.view.bytes.now + POSITIONS ≤ SCRATCH) × (SCRATCH < 2 ^ 16) }
+    requires room { HasRoom out.old left }
+    ensures units { take result out.new ≡ take left.entry.at out.old ++ view_units left.entry.view }
+    ensures rest { (n : ℕ) → result ≤ n → drop n out.new ≡ drop n out.old }
+    ensures index { result ≡ left.entry.at + length (view_units left.entry.view) }
+    ensures len { length out.new ≡ length out.old }
+{
+    // There are no more units than bytes.
+    prove!(left.view.len() <= SCRATCH);
+    let mut scratch = [0; SCRATCH];
+    let count = decode_with_room(&mut scratch, 0, left.view);
+    out[left.at..left.at + count].copy_from_slice(&scratch[..count]);
+    left.at + count
 }
 
 /// Not inlined, so that `write_units` saves no registers before it chooses.
 #[inline(never)]
-fn write_all(out: &mut [u16], view: Wtf8<'_>) -> usize
-    requires { length (view_units view) ≤ length out.old }
-    ensures units { take result out.new ≡ view_units view.entry }
-    ensures rest { drop result out.new ≡ drop result out.old }
-    ensures count { result ≡ length (view_units view.entry) }
+fn write_all(out: &mut [u16], from: usize, view: Wtf8<'_>) -> usize
+    requires { from + length (view_units view) ≤ length out.old }
+    ensures units { take result out.new ≡ take from out.old ++ view_units view.entry }
+    ensures rest { (n : ℕ) → result ≤ n → drop n out.new ≡ drop n out.old }
+    ensures index { result ≡ from + length (view_units view.entry) }
     ensures len { length out.new ≡ length out.old }
 {
     if view.len() < POSITIONS {
-        let all = Undecoded { view, at: 0 };
-        return decode_by_scratch(out, all, padded(view.bytes), POSITIONS - view.len()).at;
+        return write_end::<BLOCK_SCRATCH>(out, Undecoded { view, at: from });
     }
-    let left = decode_blocks(out, 0, view, END_BYTES);
-    // There are no more units than bytes.
-    prove!(left.view.len() <= SCRATCH_UNITS);
-    let mut scratch = [0; SCRATCH_UNITS];
-    let count = decode_all(&mut scratch, 0, left.view);
-    out[left.at..left.at + count].copy_from_slice(&scratch[..count]);
-    left.at + count
+    let left = decode_blocks(out, from, view, END_BYTES);
+    write_end::<SCRATCH_UNITS>(out, left)
 }
 
 impl<'a> Wtf8<'a> {
@@ -390,7 +352,7 @@ impl<'a> Wtf8<'a> {
             8..=15 if is_ascii_overlapping::<8>(self.bytes) => write_ascii::<8>(out, *self),
             16..=31 if is_ascii_overlapping::<16>(self.bytes) => write_ascii::<16>(out, *self),
             32..=63 if is_ascii_overlapping::<32>(self.bytes) => write_ascii::<32>(out, *self),
-            _ => write_all(out, *self),
+            _ => write_all(out, 0, *self),
         }
     }
 
@@ -402,16 +364,9 @@ impl<'a> Wtf8<'a> {
         ensures room { vec_len units.old + length (view_units self.now) ≤ vec_capacity units.old → IsOk result }
         ensures capacity { vec_capacity units.old ≤ vec_capacity units.new }
     {
-        match self.len() {
-            1 if is_ascii_overlapping::<1>(self.bytes) => append_ascii::<1, B>(units, *self),
-            2..=3 if is_ascii_overlapping::<2>(self.bytes) => append_ascii::<2, B>(units, *self),
-            4..=7 if is_ascii_overlapping::<4>(self.bytes) => append_ascii::<4, B>(units, *self),
-            8..=15 if is_ascii_overlapping::<8>(self.bytes) => append_ascii::<8, B>(units, *self),
-            16..=31 if is_ascii_overlapping::<16>(self.bytes) => append_ascii::<16, B>(
-                units, *self,
-            ),
-            0..END_BYTES => append_short(units, *self),
-            _ => append_counted(units, *self),
+        if self.len() < END_BYTES {
+            return append_short(units, *self);
         }
+        append_counted(units, *self)
     }
 }

@@ -1,11 +1,10 @@
 -- Units and zeros after them as the lanes of a block.
 use Rattle.wtf8.proofs.Common.{◌≡◌, ℕ, suc, ◌+◌, ◌-◌, ◌*◌, ◌/◌, ◌%◌, ◌<◌, ◌≤◌, List, [], ◌∷◌, ◌++◌, length, take, drop}
 use Rattle.wtf8.proofs.Common.{replicate, Each1, refl, sym, ap, ◌∙◌, arith, subst, Fits, w8, w16, swz_l, pick_l_whole, zero, rules}
-use Rattle.wtf8.proofs.Common.{cases_lt, inl, inr, length-append, length-drop, length-replicate}
+use Rattle.wtf8.proofs.Common.{length-append, length-drop, length-replicate}
 use Rattle.std.proofs.lemmas.Simd.{SwzOk, Each1-replicate}
-use Rattle.std.specs.Prelude.{⊤}
-use Rattle.std.specs.List.{range_with_len}
 use lib.Lanes.{chunk, pick_l, digits_l, number_l}
+use Rattle.wtf8.proofs.lemmas.lanes.Padding.{of_below, of_length}
 use Rattle.wtf8.specs.declared.from_utf16.kernel.TheConstants.{BYTE_SHIFTS}
 
 -- the bytes of units, the low one first
@@ -33,15 +32,6 @@ from_le_bytes (x ∷ u) f =
     let unit : y % 65536 ≡ x = omega (arith, f.0.fits) in
     let rest : y / 65536 ≡ number_l 256 (le_bytes u) = omega (arith, f.0.fits) in
     (λ i. unit i ∷ digits_l 65536 (length u) (rest i)) ∙ ap (λ w. x ∷ w) (from_le_bytes u f.1)
-
--- a fact of each number below `n`
-abbrev Below : (ℕ → Type 0) → ℕ → Type 0
-Below P zero = ⊤
-Below P (suc n) = P n × Below P n
-
-of_below : (P : ℕ → Type 0) (n k : ℕ) → Below P n → k < n → P k
-of_below P zero k h l = absurd (omega arith)
-of_below P (suc n) k h l = elim (cases_lt k n) [ inl a ↦ of_below P n k h.1 a | inr a ↦ let e : n ≡ k = omega arith in subst P e h.0 ]
 
 abbrev indexes : ℕ → List ℕ
 indexes n = chunk 0 16 (take (32 - 2 * n) (drop (2 * n) BYTE_SHIFTS))
@@ -88,10 +78,6 @@ swz_l-drop u n few long f =
     (ap (λ w. digits_l 65536 8 (number_l 256 (swz_l w8 16 w 0 (indexes n)))) (to_le_bytes (eight u) g)
     ∙ ap (λ w. digits_l 65536 8 (number_l 256 w)) (drops u n few).1 ∙ ap (λ k. digits_l 65536 k (number_l 256 (le_bytes v))) (sym m)
     ∙ from_le_bytes v (fits n n (eight u) g))
-
--- a fact of a list of `n` units, from the same of its units named one by one
-of_length : (P : List ℕ → Type 0) (u : List ℕ) (n : ℕ) → P (pick_l 0 u (range_with_len 0 n)) → length u ≡ n → P u
-of_length P u n p l = subst P (pick_l_whole 0 u n l) p
 
 abbrev Halves : List ℕ → Type 0
 Halves u = let n = 16 - length u in

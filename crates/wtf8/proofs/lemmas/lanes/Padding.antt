@@ -2,7 +2,6 @@
 use Rattle.wtf8.proofs.Common.{◌≡◌, ℕ, zero, suc, ◌+◌, ◌-◌, ◌*◌, ◌<◌, ◌≤◌, List, ◌∷◌, [], ◌++◌, length, take, drop, replicate, refl, sym, ap}
 use Rattle.wtf8.proofs.Common.{◌∙◌, arith, subst, w8, swz_l, pick_l_whole, rules, cases_lt, inl, inr, length-append, length-replicate, length-drop}
 use Rattle.wtf8.proofs.Common.{put_chunk_is, length-chunk, chunk, take_all, drop-append-le, drop-drop, append_assoc, append-nil, take-append-drop}
-use Rattle.wtf8.proofs.Common.{length-take-le}
 use Rattle.std.proofs.lemmas.List.{drop-replicate, replicate-append-replicate}
 use Rattle.std.proofs.lemmas.Simd.{SwzOk}
 use Rattle.std.specs.Prelude.{⊤}

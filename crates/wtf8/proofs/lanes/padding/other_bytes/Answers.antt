@@ -1,4 +1,4 @@
-use Rattle.wtf8.proofs.Common.{◌∙◌, ◌-◌, ◌*◌, ◌++◌, ap, arith, drop, length, replicate, take}
+use Rattle.wtf8.proofs.Common.{◌∙◌}
 use Rattle.wtf8.proofs.lemmas.lanes.Padding.{others}
 use Rattle.wtf8.proofs.lanes.padding.other_bytes.Goals as goal
 

@@ -1,4 +1,4 @@
-use Rattle.wtf8.proofs.Common.{◌≡◌, ◌∙◌, ap, arith, length}
+use Rattle.wtf8.proofs.Common.{◌∙◌, ap, arith, length}
 use Rattle.wtf8.proofs.lemmas.codec.Readings.{lists_have_lengths}
 use Rattle.wtf8.proofs.lemmas.units.UnitEnds.{Writes-trans}
 use Rattle.wtf8.proofs.units.writing.decode_blocks.Goals as goal

@@ -22,10 +22,10 @@ write_front-requires c =
     let ascii = ascii_take n c.widen.result (subst AreAscii (sym c.widen.ensures) (c.is_ascii_block.ensures c.if-is_ascii_block.true)) in
     let begins = begins_with_ascii w (take n c.widen.result) n (omega (arith, count)) front ascii in
     let few : n ≤ 32 = omega (arith, count, c.requires.few) in
-    (omega arith, (omega arith, (omega (arith, c.if-units-left-ge-POSITIONS.true, c.requires.room), ((few, omega (arith, count)), begins))))
+    (omega arith, (omega arith, (omega (arith, c.requires.room), ((few, omega (arith, count)), begins))))
 
-pub returns-then-units-left-ge-POSITIONS-clause-all : goal.returns-then-units-left-ge-POSITIONS-clause-all
-returns-then-units-left-ge-POSITIONS-clause-all c =
+pub returns-then-is_ascii_block-clause-all : goal.returns-then-is_ascii_block-clause-all
+returns-then-is_ascii_block-clause-all c =
     let w = c.args.left.view.bytes.now in
     let rest = c.write_front.result.view.well_formed in
     let none = ap length (rest.encoded ∙ c.write_front.ensures.bytes) ∙ length-drop c.len-len.result w in

@@ -1,5 +1,6 @@
 use Rattle.wtf8.proofs.Common.{◌≡◌, ◌∙◌, ◌+◌, ◌≤◌, ap, arith, length, length-append, length-drop, length-take, subst, sym, take, take_all, units}
 use Rattle.wtf8.proofs.Common.{AreAscii}
+use Rattle.wtf8.proofs.lemmas.codec.Readings.{lists_have_lengths}
 use Rattle.wtf8.proofs.lemmas.units.Blocks.{begins_with_ascii}
 use Rattle.wtf8.proofs.units.writing.decode_next.Goals as goal
 
@@ -15,7 +16,7 @@ write_front-requires c =
     let first = begins view.well_formed in
     let room : c.args.left.at + 32 ≤ length c.args.units.now = omega (
       arith,
-      c.requires.room,
+      c.requires.room.0,
       ap length first.1,
       length-append (take 32 c.widen.result) (units first.0.points),
       ap length block,
@@ -32,3 +33,8 @@ pub returns-then-is_ascii_block-clause-kept : goal.returns-then-is_ascii_block-c
 returns-then-is_ascii_block-clause-kept c =
     let w = c.args.left.view.bytes.now in
     omega (arith, ap length c.write_front.ensures.bytes, length-drop 32 w, c.requires.least)
+
+pub decode_positions-requires-clause-room : goal.decode_positions-requires-clause-room
+decode_positions-requires-clause-room c =
+    let form = c.args.left.view.well_formed in
+    omega (arith, c.requires.room.1, c.requires.least, ap length form.encoded, (lists_have_lengths form.points).units_most)

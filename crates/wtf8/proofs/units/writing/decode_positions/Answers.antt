@@ -6,7 +6,7 @@ use Rattle.wtf8.proofs.lemmas.codec.Readings.{IsWellFormed-equal_bytes}
 use Rattle.wtf8.proofs.lemmas.units.PackedWords.{leading_zeros-mask_l, whole_len, whole_len-bound}
 use Rattle.wtf8.proofs.lemmas.units.UnitLanes.{length-set_lanes, joined_words-by_position}
 use Rattle.wtf8.proofs.lemmas.units.UnitEnds.{HoldsUnits, holds_units, Writes-equal_left, Writes-front}
-use Rattle.wtf8.proofs.units.writing.decode_block.Goals as goal
+use Rattle.wtf8.proofs.units.writing.decode_positions.Goals as goal
 
 -- the number of the block's whole bytes, by the mask of its ends
 record KnowsWidth (block : List ℕ) (n : ℕ) : Type 0 where
@@ -65,39 +65,24 @@ skip_bytes-requires-clause-well_formed c =
     let own = holds_units view.bytes.now c.args.bytes c.args.padding c.requires.block view.well_formed in
     IsWellFormed-equal_bytes own.rest (ap (λ n. drop (n - c.args.padding) view.bytes.now) known.same)
 
-pub returns-clause-written : goal.returns-clause-written
-returns-clause-written c =
+pub returns : goal.returns
+returns c =
     let view = c.args.left.view in
     let block = c.unit_ends-block in
+    let padding = c.args.padding in
     let known = knows_width c.args.bytes _ c.fits-bytes.0 block.ensures.ends in
-    let own = holds_units view.bytes.now c.args.bytes c.args.padding c.requires.block view.well_formed in
+    let own = holds_units view.bytes.now c.args.bytes padding c.requires.block view.well_formed in
     let after : view_units c.skip_bytes.result ≡ units own.rest.points =
-    ap units (c.skip_bytes.ensures.points (IsWellFormed-equal_bytes own.rest (ap (λ n. drop (n - c.args.padding) view.bytes.now) known.same))) in
-    let all = all_written view.bytes.now c.args.bytes block.result.low block.result.high c.args.padding view.well_formed own block.ensures.low
+    ap units (c.skip_bytes.ensures.points (IsWellFormed-equal_bytes own.rest (ap (λ n. drop (n - padding) view.bytes.now) known.same))) in
+    let all = all_written view.bytes.now c.args.bytes block.result.low block.result.high padding view.well_formed own block.ensures.low
     block.ensures.high (c.store_block.ensures.written (set_lanes 0 0 c.args.bytes) [] known.set block.ensures.ends) in
-    Writes-equal_left (ap (λ u. own.taken ++ u) after ∙ sym own.whole)
-    (Writes-front c.args.left.at c.store_block.result c.args.padding own.taken (replicate c.args.padding 0) (view_units c.skip_bytes.result)
-    (length-replicate {A = ℕ} c.args.padding 0) (omega (arith, c.requires.room)) all c.store_block.ensures.later)
-
-pub returns-clause-shorter : goal.returns-clause-shorter
-returns-clause-shorter c some =
-    let w = c.args.left.view.bytes.now in
-    let n = 64 - count_leading_zeros 64 c.unit_ends-block.result.ends in
-    let known = knows_width c.args.bytes _ c.fits-bytes.0 c.unit_ends-block.ensures.ends in
-    let own = holds_units w c.args.bytes c.args.padding c.requires.block c.args.left.view.well_formed in
-    omega (arith, known.same, own.some some, own.within, some, ap length c.skip_bytes.ensures.bytes, length-drop (n - c.args.padding) w)
-
-pub returns-clause-within : goal.returns-clause-within
-returns-clause-within c =
-    let w = c.args.left.view.bytes.now in
-    let n = 64 - count_leading_zeros 64 c.unit_ends-block.result.ends in
-    let known = knows_width c.args.bytes _ c.fits-bytes.0 c.unit_ends-block.ensures.ends in
-    omega (arith, known.within, ap length c.skip_bytes.ensures.bytes, length-drop (n - c.args.padding) w)
-
-pub returns-clause-all : goal.returns-clause-all
-returns-clause-all c padded =
-    let view = c.args.left.view in
-    let known = knows_width c.args.bytes _ c.fits-bytes.0 c.unit_ends-block.ensures.ends in
-    let own = holds_units view.bytes.now c.args.bytes c.args.padding c.requires.block view.well_formed in
-    ap units (c.skip_bytes.ensures.points (IsWellFormed-equal_bytes own.rest (ap (λ n. drop (n - c.args.padding) view.bytes.now) known.same)))
-    ∙ own.all padded
+    let n = 64 - count_leading_zeros 64 block.result.ends - padding in
+    let rest = ap length c.skip_bytes.ensures.bytes ∙ length-drop n view.bytes.now in
+    record {
+      written = Writes-equal_left (ap (λ u. own.taken ++ u) after ∙ sym own.whole)
+          (Writes-front c.args.left.at c.store_block.result padding own.taken (replicate padding 0) (view_units c.skip_bytes.result)
+          (length-replicate {A = ℕ} padding 0) (omega (arith, c.requires.room)) all c.store_block.ensures.later);
+      shorter = λ some. omega (arith, known.same, own.some some, own.within, some, rest);
+      within = omega (arith, known.within, rest);
+      all = λ padded. after ∙ own.all padded;
+    }
