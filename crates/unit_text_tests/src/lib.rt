@@ -22,6 +22,8 @@ mod positions;
 #[cfg(test)]
 mod pushing;
 #[cfg(test)]
+mod searching;
+#[cfg(test)]
 mod shared;
 #[cfg(test)]
 mod sinks;
