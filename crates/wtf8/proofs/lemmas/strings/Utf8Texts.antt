@@ -211,21 +211,6 @@ follows_in_ascii w at room all i k m =
     ascii_follows _ _ _ _ (ascii i k (omega (arith, m))) (ascii (suc i) (omega (arith, k)) (omega (arith, m)))
     (ascii (suc (suc i)) (omega (arith, k)) (omega (arith, m))) (ascii (suc (suc (suc i))) (omega (arith, k)) (omega (arith, m)))
 
-ascii_after_zeros : (w : List ℕ) (n : ℕ) → ((k : ℕ) → k < n → get_or w k 0 < 0x80) → (j : ℕ) → j < suc (suc (suc n))
-    → get_or (0 ∷ 0 ∷ 0 ∷ w) j 0 < 0x80
-ascii_after_zeros w n h zero l = omega arith
-ascii_after_zeros w n h (suc zero) l = omega arith
-ascii_after_zeros w n h (suc (suc zero)) l = omega arith
-ascii_after_zeros w n h (suc (suc (suc k))) l = h k (omega (arith, l))
-
--- each byte of an ASCII front may follow
-pub follows_in_ascii_front : (w : List ℕ) (n : ℕ) → n ≤ length w → ((k : ℕ) → k < n → get_or w k 0 < 0x80) → FollowsUpTo w n
-follows_in_ascii_front w n within h = (
-  within,
-  λ i l m. ascii_follows _ _ _ _ (ascii_after_zeros w n h i (omega (arith, m))) (ascii_after_zeros w n h (suc i) (omega (arith, m)))
-      (ascii_after_zeros w n h (suc (suc i)) (omega (arith, m))) (ascii_after_zeros w n h (suc (suc (suc i))) (omega (arith, m))),
-)
-
 -- ASCII bytes are UTF-8
 pub text_of_ascii : (w : List ℕ) → AreAscii w → IsUtf8 w
 text_of_ascii w all =
