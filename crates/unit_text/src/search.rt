@@ -79,8 +79,8 @@ fn first_by_parts<const N: usize>(view: Wtf8<'_>, units: &[u16]) -> Option<usize
     None
 }
 
-/// The first index at which the units of a string begin with `units`, which are not empty. Linear in the length times
-/// the number of `units`, in a text where few parts begin as they do linear in the length.
+/// The first index at which `units`, which are not empty, occur in those of a string. Linear in the length times the
+/// number of `units` at worst, if most parts of the string begin as they do; else linear in the length.
 pub(crate) fn first_index(view: Wtf8<'_>, units: &[u16]) -> Option<usize>
     requires { 0 < length units.now }
     ensures { FindsFirst (view_units view.entry) units.now 0 result }
@@ -134,8 +134,8 @@ fn last_by_parts<const N: usize>(view: Wtf8<'_>, until: UnitMark, units: &[u16])
     None
 }
 
-/// The last index before the mark `end` at which the units of a string go on with `units`, which are not empty. Linear
-/// as `first_index`, from the mark backwards.
+/// The last index before the mark `end` at which `units`, which are not empty, occur in those of a string. As linear as
+/// `first_index`, in the units before the mark.
 pub(crate) fn last_index(view: Wtf8<'_>, end: UnitMark, units: &[u16]) -> Option<usize>
     requires mark { IsMarkOf view end }
     requires some { 0 < length units.now }
