@@ -3,7 +3,8 @@ use Rattle.std.proofs.Common.{◌≡◌, ◌+◌, ◌<◌, ◌≤◌, ℕ, List,
 use Rattle.std.proofs.Math.Nat.{add_assoc}
 use Rattle.std.proofs.Math.Seq.{take-length}
 use Rattle.std.specs.Prelude.{max}
-use Rattle.wtf8_uses.specs.StringPrototype.{IsFirstIndex, IsReplaced, OccursAt}
+use Rattle.unit_text.specs.Search.{IsFirstIndex, OccursAt}
+use Rattle.wtf8_uses.specs.StringPrototype.{IsReplaced}
 
 -- what the text becomes from `begin` on, after `whole`, is what it becomes
 abbrev pub GoesOn : (u s other : List ℕ) → ℕ → ℕ → List ℕ → Type 0

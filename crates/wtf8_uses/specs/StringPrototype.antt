@@ -6,6 +6,7 @@ use Rattle.wtf8.specs.Concatenation.{is_pair}
 use Rattle.wtf8.specs.Form.{Reads}
 use Rattle.wtf8.specs.Surrogates.{lossy_points}
 use Rattle.wtf8.specs.Unicode.{pair, units}
+use Rattle.unit_text.specs.Search.{OccursAt, IsFirstIndex}
 
 -- The code point of a unit and the next one, if any: that of their pair, or else the first (ECMAScript, "CodePointAt").
 abbrev pub point_with : ℕ → Option ℕ → ℕ
@@ -15,23 +16,6 @@ point_with l (Some t) = if is_pair l t then pair l t else l
 -- The code point at unit index `k`, or `None` if there is no unit (ECMAScript, "CodePointAt").
 abbrev pub point_at : List ℕ → ℕ → Option ℕ
 point_at u k = option_map (λ l. point_with l (slice_get u (k + 1))) (slice_get u k)
-
--- The list `s` occurs in `u` at index `k` (ECMAScript, "StringIndexOf").
-pub record OccursAt (u s : List ℕ) (k : ℕ) : Type 0 where
-  pub within : k + length s ≤ length u
-  pub there : take (length s) (drop k u) ≡ s
-
--- `k` is the first index at or after `position` at which `s` occurs in `u` (ECMAScript, "StringIndexOf").
-pub record IsFirstIndex (u s : List ℕ) (position k : ℕ) : Type 0 where
-  pub after : position ≤ k
-  pub occurs : OccursAt u s k
-  pub no_earlier : (j : ℕ) → position ≤ j → j < k → ¬ (OccursAt u s j)
-
--- `k` is the last index at or before `position` at which `s` occurs in `u` (ECMAScript, "StringLastIndexOf").
-pub record IsLastIndex (u s : List ℕ) (position k : ℕ) : Type 0 where
-  pub before : k ≤ position
-  pub occurs : OccursAt u s k
-  pub no_later : (j : ℕ) → k < j → j ≤ position → ¬ (OccursAt u s j)
 
 -- `v` is `u` from index `begin` on, with `other` for each occurrence of `s` that is found from index `from` on, one after
 -- the other (ECMAScript, "String.prototype.replaceAll").

@@ -1,7 +1,8 @@
 //! Searches for one text or unit in a text.
 ghost use Rattle.std.specs.List.{join_with_byte, slice_split};
 ghost use Rattle.std.specs.Prelude.{All, map, ◌==◌, ◌≢◌, ◌≡◌, ◌+◌, ◌≤◌, ◌++◌, ℕ, length, take, drop, min, max, IfSome, IfNone, IfOk, OnOk};
-ghost use Rattle.wtf8_uses.specs.StringPrototype.{IsFirstIndex, IsLastIndex, IsReplaced, OccursAt};
+ghost use Rattle.unit_text.specs.Search.{IsFirstIndex, IsLastIndex, OccursAt};
+ghost use Rattle.wtf8_uses.specs.StringPrototype.{IsReplaced};
 
 use super::comparing::{occurs_next, units_from};
 use std::alloc::{AllocError, Allocator};

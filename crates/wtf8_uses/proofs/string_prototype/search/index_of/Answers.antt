@@ -1,7 +1,7 @@
 use Rattle.std.proofs.Common.{length, min, sym, ◌∙◌, rules}
 use Rattle.std.proofs.lemmas.Bool.{false≢true}
 use Rattle.wtf8.specs.Units.{unread_units}
-use Rattle.wtf8_uses.specs.StringPrototype.{OccursAt}
+use Rattle.unit_text.specs.Search.{OccursAt}
 use Rattle.wtf8_uses.proofs.IndexLemmas.{next_index, none_below-suc}
 use Rattle.wtf8_uses.proofs.string_prototype.search.index_of.Goals as goal
 

@@ -1,6 +1,6 @@
 use Rattle.std.proofs.Common.{◌≡◌, ℕ, ◌<◌, ◌≤◌, length, drop, min}
 use Rattle.wtf8.specs.Units.{unread_units}
-use Rattle.wtf8_uses.specs.StringPrototype.{OccursAt}
+use Rattle.unit_text.specs.Search.{OccursAt}
 use Rattle.wtf8_uses.proofs.string_prototype.search.index_of.Given as goal
 
 -- the units from `index` on are unread, and the search text does not occur before `index`

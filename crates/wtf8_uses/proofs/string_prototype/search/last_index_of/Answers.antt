@@ -1,7 +1,7 @@
 use Rattle.std.proofs.Common.{sym, ◌∙◌, arith}
 use Rattle.std.proofs.lemmas.Bool.{false≢true}
 use Rattle.wtf8.specs.Units.{unread_units}
-use Rattle.wtf8_uses.specs.StringPrototype.{OccursAt}
+use Rattle.unit_text.specs.Search.{OccursAt}
 use Rattle.wtf8_uses.proofs.IndexLemmas.{IsLastBelow-here, IsLastBelow-absent, next_index}
 use Rattle.wtf8_uses.proofs.string_prototype.search.last_index_of.Goals as goal
 use Rattle.wtf8_uses.proofs.string_prototype.search.last_index_of.Goals.{then-occurs_next, else-occurs_next}

@@ -1,6 +1,6 @@
 use Rattle.std.proofs.Common.{◌≡◌, drop}
 use Rattle.wtf8.specs.Units.{unread_units}
-use Rattle.wtf8_uses.specs.StringPrototype.{OccursAt}
+use Rattle.unit_text.specs.Search.{OccursAt}
 use Rattle.wtf8_uses.proofs.IndexLemmas.{IsLastBelow}
 use Rattle.wtf8_uses.proofs.string_prototype.search.last_index_of.Given as goal
 
