@@ -8,7 +8,7 @@ ghost use Rattle.wtf8.specs.private.EncodedBytes.{BecomesOrKeeps, BeginsWithUnit
 ghost use Rattle.wtf8.specs.private.UnitsOut.{Decodes, DecodesBlock, HasRoom, HasRoomFrom, IsBlock};
 ghost use Rattle.wtf8.specs.View.{view_units};
 
-use crate::lanes::ascii::{is_ascii_block, is_ascii_overlapping};
+use crate::lanes::ascii::{ascii_run_len, is_ascii_block, is_ascii_overlapping};
 use crate::lanes::padding::padded;
 use crate::strings::view::Wtf8;
 use crate::units::blocks::{EncodedLength, FourBytes, ThreeBytes, TwoBytes, widen};
@@ -35,6 +35,10 @@ const ENDS_OF_TWOS: u64 = 0xAAAA_AAAA;
 const ENDS_OF_THREES: u64 = 0x2492_4924;
 
 const ENDS_OF_FOURS: u64 = 0xCCCC_CCCC;
+
+/// From this number of ASCII bytes at the front of a block on they are decoded apart, and the block after them begins with
+/// the next code point. Else emoji in words take up to 1.8 of the time.
+const LEAST_ASCII_FRONT: usize = 12;
 
 /// The part of a view that is not decoded yet, and the index at which its first unit will be written.
 #[derive(Clone, Copy)]
@@ -177,7 +181,7 @@ fn decode_full_blocks<'a, const N: usize, const BYTES: usize, K: EncodedLength<N
 
 /// Decodes the front of a string, which its first 32 bytes choose the way for:
 ///
-/// - 32 ASCII bytes: widened at once, in 0.78 of the time that blocks of 16 take;
+/// - 32 ASCII bytes, or `LEAST_ASCII_FRONT` or more: widened at once;
 /// - two-, three- or four-byte code points alone: full blocks of them, and the 32 bytes after these by positions. All by
 ///   positions take 1.7 to 1.9, four-byte ones 3.5 of the instructions. To choose again after the full blocks takes
 ///   Japanese 1.08;
@@ -194,8 +198,12 @@ fn decode_next<'a>(units: &mut [u16], left: Undecoded<'a>, least: usize) -> Unde
     ensures kept { least ≤ length result.view.bytes.now + POSITIONS }
 {
     let block = u8x32::from_slice(left.view.bytes);
-    if is_ascii_block(block) {
+    let count = ascii_run_len(block);
+    if count == POSITIONS {
         return write_front(units, left, widen(block), POSITIONS, POSITIONS);
+    }
+    if LEAST_ASCII_FRONT <= count {
+        return write_front(units, left, widen(block), count, count);
     }
     let rest = match end_positions(block) {
         ENDS_OF_TWOS => decode_full_blocks::<16, 32, TwoBytes>(units, left, least),
