@@ -105,25 +105,42 @@ static void array_race(void) {
     ask_beside(write_array);
 }
 
-/* A string is asked after the other of two structs freed it. */
-static void assigned_and_freed(void) {
+/* What is done with a string that is no longer one. */
+static void ask(wtf8_string *string) { must(wtf8_unit_len(string) < SIZE_MAX, "the length"); }
+static void push(wtf8_string *string) { must(wtf8_push_unit(string, 'b') == WTF8_OK, "a unit pushed"); }
+
+/* A string is used after the other of two structs freed it. */
+static void assigned_and_freed(void (*use)(wtf8_string *)) {
     wtf8_string other = shared;
     wtf8_free(&other);
-    must(wtf8_unit_len(&shared) == UNITS, "the length");
+    use(&shared);
 }
 
-/* A string is changed after the other of two structs grew. */
-static void assigned_and_grown(void) {
+static void freed_then_asked(void) { assigned_and_freed(ask); }
+static void freed_then_pushed(void) { assigned_and_freed(push); }
+static void freed_then_freed(void) { assigned_and_freed(wtf8_free); }
+
+/* The same after the other of two structs grew. */
+static void assigned_and_grown(void (*use)(wtf8_string *)) {
     wtf8_string other = shared;
     for (int i = 0; i < 99; i++) must(wtf8_push_units(&other, units, UNITS) == WTF8_OK, "units pushed");
-    must(wtf8_push_unit(&shared, 'b') == WTF8_OK, "a unit pushed");
+    use(&shared);
 }
 
-/* A string that was not made empty is asked. */
-static void not_made(void) {
+static void grown_then_asked(void) { assigned_and_grown(ask); }
+static void grown_then_pushed(void) { assigned_and_grown(push); }
+static void grown_then_freed(void) { assigned_and_grown(wtf8_free); }
+
+/* A string that was not made empty is used. */
+static void not_made(void (*use)(wtf8_string *)) {
     wtf8_string *volatile string = malloc(sizeof *string);
-    must(string != NULL && wtf8_unit_len(string) == 0, "the length");
+    must(string != NULL, "memory");
+    use(string);
 }
+
+static void not_made_asked(void) { not_made(ask); }
+static void not_made_pushed(void) { not_made(push); }
+static void not_made_freed(void) { not_made(wtf8_free); }
 
 /* The units of an array are read before they are written. */
 static void unwritten(void) {
@@ -142,9 +159,15 @@ static const struct {
               {"short_number", short_number},
               {"race", race},
               {"array_race", array_race},
-              {"assigned_and_freed", assigned_and_freed},
-              {"assigned_and_grown", assigned_and_grown},
-              {"not_made", not_made},
+              {"freed_then_asked", freed_then_asked},
+              {"freed_then_pushed", freed_then_pushed},
+              {"freed_then_freed", freed_then_freed},
+              {"grown_then_asked", grown_then_asked},
+              {"grown_then_pushed", grown_then_pushed},
+              {"grown_then_freed", grown_then_freed},
+              {"not_made_asked", not_made_asked},
+              {"not_made_pushed", not_made_pushed},
+              {"not_made_freed", not_made_freed},
               {"unwritten", unwritten}};
 
 int main(int count, char **words) {
