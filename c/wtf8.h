@@ -309,10 +309,11 @@ bool wtf8_starts_with(const wtf8_string *string, size_t index, const wtf8_string
 WTF8_READS(3, 4)
 bool wtf8_starts_with_units(const wtf8_string *string, size_t index, const uint16_t *units, size_t n);
 
-/* Writes the first index at or after `from` at which the units of `other` occur, also within a pair, to `*index`. If `other` has
- * no units they do at `from`, unless that is after the end. END leaves `*index`. Linear in the distance to the index times
- * the length of `other` at worst; in the distance alone if units seldom go on as those of `other` begin. Codes: OK, END (they
- * occur at no such index). Since 0.2.0. */
+/* Writes the first index at or after `from`, found by the marks, at which the units of `other` occur, also within a pair, to
+ * `*index`. If `other` has no units they do at `from`, unless that is after the end. END leaves `*index`. Linear in the
+ * distance to the index times the length of `other` at worst, in the distance alone if few parts begin as `other` does. Each
+ * index at which only the first 64 bytes of `other` occur is found by the marks again. Codes: OK, END (they occur at no such
+ * index). Since 0.2.0. */
 WTF8_CODE WTF8_WRITES(4)
 wtf8_result wtf8_find(const wtf8_string *string, size_t from, const wtf8_string *other, size_t *index);
 
