@@ -1,5 +1,6 @@
-"""Packs what c/dist laid out as other tools install it: a wheel for pip, and packages of Debian's. The same files give the
-same bytes. Needs no network; the packages of Debian's need dpkg-deb."""
+"""Packs what c/dist laid out as other tools install it: a wheel for pip, and with --deb packages of Debian's. The same files
+give the same bytes. Needs no network; the packages of Debian's need dpkg-deb. Arguments: what was laid out, the folder to
+write to, the version, the time of its commit, and --deb."""
 import base64
 import hashlib
 import os
@@ -31,9 +32,9 @@ def wheel(root, version, folder, packed):
     info = f"wtf8-{version}.dist-info"
     metadata = [
         "Metadata-Version: 2.1", "Name: wtf8", f"Version: {version}", f"Summary: {SUMMARY}",
-        f"License: {(root / 'LICENSE').read_text().splitlines()[0]}", "Requires-Python: >=3.7", "Operating System :: POSIX :: Linux",
+        f"License: {(root / 'LICENSE').read_text().splitlines()[0]}", "Requires-Python: >=3.7",
+        "Classifier: Operating System :: POSIX :: Linux",
     ]
-    metadata[-1] = "Classifier: " + metadata[-1]
     files = {
         "wtf8/__init__.py": (root / "lib/wtf8.py").read_bytes(),
         "wtf8/py.typed": b"",
@@ -119,3 +120,11 @@ def debs(root, version, folder, packed):
             **{f"usr/include/{file.name}": file for file in (root / "include").iterdir()},
             **{f"{doc}/libwtf8-dev/examples/{file.name}": file for file in (root / "examples").iterdir()},
         })
+
+
+def main(root, folder, version, packed, is_deb=""):
+    for pack in [wheel, debs] if is_deb else [wheel]:
+        pack(pathlib.Path(root), version, pathlib.Path(folder), int(packed))
+
+
+main(*sys.argv[1:])
