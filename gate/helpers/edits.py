@@ -85,6 +85,17 @@ def code_of(text):
     return re.sub(r"[ \t]+$", "", without, flags=re.M)
 
 
+def content_of(file):
+    """Returns what a file holds; of a source, specification or proof the lines without comments, so that files with the same
+    code are equal."""
+    content = file.read_bytes()
+    if file.suffix not in (".rt", ".antt"):
+        return content
+    text = content.decode()
+    lines = code_of(text).split("\n") if file.suffix == ".rt" else [line for line in text.split("\n") if not line.lstrip().startswith("--")]
+    return "\n".join(line for line in lines if line.strip()).encode()
+
+
 def tokens_of(line):
     """Returns the texts, words and signs of a line without its comment, so that lines of the same code are equal.
 

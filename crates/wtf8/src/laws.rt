@@ -1,4 +1,4 @@
-// Laws of the encoding: functions that do nothing, whose contracts are theorems. `CALLING.md` says how they are used.
+// Laws of the encoding: functions that do nothing, whose contracts are theorems. `PROVING.md` says how they are used.
 #![tactic(auto, using(crate::proofs::lemmas::laws::ViewLaws::laws))]
 
 ghost use Rattle.std.specs.Cmp.Lexicographic.{slice_cmp};
