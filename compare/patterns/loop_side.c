@@ -3,6 +3,7 @@
 #include "side.h"
 
 #include <stdlib.h>
+#include <string.h>
 
 static bool is_lead(uint32_t unit) {
     return (unit & 0xFC00) == 0xD800;
@@ -65,7 +66,33 @@ static uint16_t *decode(const unsigned char *bytes, size_t n, uint16_t *out) {
     return out;
 }
 
+/* The number of bytes of the code point at the front of a text, or 0 if there is none. */
+static size_t code_point_len(const uint8_t *text, size_t n) {
+    uint8_t lead = text[0];
+    size_t len = lead < 0x80 ? 1 : lead < 0xE0 ? 2 : lead < 0xF0 ? 3 : 4;
+    if ((0x80 <= lead && lead < 0xC2) || 0xF4 < lead || n < len) return 0;
+    for (size_t i = 1; i < len; i++)
+        if ((text[i] & 0xC0) != 0x80) return 0;
+    if ((lead == 0xE0 && text[1] < 0xA0) || (lead == 0xED && 0x9F < text[1])) return 0;
+    if ((lead == 0xF0 && text[1] < 0x90) || (lead == 0xF4 && 0x8F < text[1])) return 0;
+    return len;
+}
+
 bool side_can_run(void) {
+    return true;
+}
+
+bool side_text(const uint8_t *text, size_t n) {
+    for (size_t i = 0; i < n;) {
+        size_t len = code_point_len(text + i, n - i);
+        if (len == 0) return false;
+        i += len;
+    }
+    void *bytes = malloc(n);
+    if (bytes == NULL) return false;
+    memcpy(bytes, text, n);
+    use(bytes);
+    free(bytes);
     return true;
 }
 

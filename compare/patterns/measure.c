@@ -1,4 +1,4 @@
-/* Times the ways in and out of several sides (side.h), by turns in one process. The arguments are the files of the sides;
+/* Times the ways in, out and of texts of several sides (side.h), by turns in one process. The arguments are the files of the sides;
  * a `+` between them begins another group. The sides of a group take turns. A line of the input asks for one text:
  *
  *     ROUNDS LENGTH PATTERN     a periodic one of at least 4,096 units (c/test/patterns.h)
@@ -6,8 +6,8 @@
  *
  * It is cut into pieces of LENGTH units, or of LEAST-MOST units, which end after a space if they can, at most 128 of them,
  * which a turn converts one after another. The answer is a
- * line with two numbers for each side, in and out: the least nanoseconds a unit of all rounds, or `-` if the side cannot
- * have the text. The status is 1, with a line, if two sides disagree. */
+ * line with three numbers for each side, in, out and of the text in UTF-8: the least nanoseconds a unit of all rounds, or `-`
+ * if the side cannot have the text, or this is no text. The status is 1, with a line, if two sides disagree. */
 #include "../../c/test/patterns.h"
 #include "side.h"
 
@@ -16,14 +16,17 @@
 #include <stdlib.h>
 #include <time.h>
 
-enum { SIDES = 64, PIECES = 128, LEAST_UNITS = 4096, IN = 0, OUT = 1 };
+enum { SIDES = 64, PIECES = 128, LEAST_UNITS = 4096, IN = 0, OUT = 1, TEXT = 2, WAYS = 3 };
 
 /* A turn takes about this long, so that the clock's own cost does not count. */
 static const double TURN_NS = 4000;
 
+/* More than any turn takes: a way that was not measured. */
+static const double NEVER = 1e30;
+
 /* The bytes by which the arrays move from round to round within a page. Stores slow down loads from the same offset of
  * another page, so a time would else depend on where the heap happens to put a string. */
-enum { PAGE = 4096, UNITS_STEP = 720, OUT_STEP = 1200 };
+enum { PAGE = 4096, UNITS_STEP = 720, OUT_STEP = 1200, TEXT_STEP = 1680 };
 
 struct side {
     const char *path;
@@ -34,8 +37,9 @@ struct side {
     void (*drop)(void *);
     size_t (*byte_len)(const void *);
     size_t (*out)(const void *, uint16_t *, size_t);
+    bool (*text)(const uint8_t *, size_t);
     void *strings[PIECES]; /* of the pieces, for the way out */
-    double least[2];       /* a unit, by way */
+    double least[WAYS];    /* a unit, by way */
     bool has_text;
 };
 
@@ -45,6 +49,8 @@ struct text {
     uint16_t *units, *out;
     size_t n; /* of all pieces */
     size_t pieces, begin[PIECES + 1];
+    uint8_t *utf8; /* of the pieces, or NULL if one has a lone surrogate */
+    size_t utf8_begin[PIECES + 1];
 };
 
 static struct side sides[SIDES];
@@ -74,6 +80,7 @@ static void load(const char *path, int group) {
     *(void **)&side->drop = symbol(object, path, "side_free");
     *(void **)&side->byte_len = symbol(object, path, "side_byte_len");
     *(void **)&side->out = symbol(object, path, "side_out");
+    *(void **)&side->text = symbol(object, path, "side_text");
     if (!side->can_run()) fail("the processor cannot run", path);
 }
 
@@ -109,6 +116,57 @@ static size_t piece_len(const struct text *text, size_t piece) {
     return text->begin[piece + 1] - text->begin[piece];
 }
 
+/* An array of units that begins at a page, with a page more. */
+static uint16_t *new_array(size_t n) {
+    uint16_t *array = aligned_alloc(PAGE, (2 * n + 2 * PAGE - 1) / PAGE * PAGE);
+    if (array == NULL) fail("no memory", "");
+    memset(array, 0, 2 * n + PAGE - 2);
+    return array;
+}
+
+/* Writes the UTF-8 of a unit, or of a pair, and returns its length; 0 if the unit is a lone surrogate. */
+static size_t write_utf8(uint8_t *out, const uint16_t *units, size_t n) {
+    uint32_t point = units[0];
+    if (point < 0x80) {
+        out[0] = (uint8_t)point;
+        return 1;
+    }
+    if (point < 0x800) {
+        out[0] = (uint8_t)(0xC0 | point >> 6);
+        out[1] = (uint8_t)(0x80 | (point & 0x3F));
+        return 2;
+    }
+    bool is_pair = (point & 0xFC00) == 0xD800 && 1 < n && (units[1] & 0xFC00) == 0xDC00;
+    if (!is_pair && (point & 0xF800) == 0xD800) return 0;
+    if (is_pair) point = 0x10000 + ((point & 0x3FF) << 10 | (units[1] & 0x3FF));
+    size_t len = is_pair ? 4 : 3;
+    out[0] = (uint8_t)(is_pair ? 0xF0 | point >> 18 : 0xE0 | point >> 12);
+    for (size_t i = 1; i < len; i++) out[i] = (uint8_t)(0x80 | (point >> 6 * (len - 1 - i) & 0x3F));
+    return len;
+}
+
+/* Makes the UTF-8 of the pieces. */
+static void add_utf8(struct text *text) {
+    size_t len = 0;
+    text->utf8 = (uint8_t *)new_array(2 * text->n);
+    for (size_t piece = 0; piece < text->pieces; piece++) {
+        text->utf8_begin[piece] = len;
+        for (size_t i = text->begin[piece], end = text->begin[piece + 1], more; i < end; i += more == 4 ? 2 : 1, len += more) {
+            more = write_utf8(text->utf8 + len, text->units + i, end - i);
+            if (more == 0) {
+                free(text->utf8);
+                text->utf8 = NULL;
+                return;
+            }
+        }
+    }
+    text->utf8_begin[text->pieces] = len;
+}
+
+static size_t utf8_len(const struct text *text, size_t piece) {
+    return text->utf8_begin[piece + 1] - text->utf8_begin[piece];
+}
+
 static void drop_strings(struct side *side, size_t n) {
     for (size_t i = 0; i < n; i++) side->drop(side->strings[i]);
 }
@@ -136,6 +194,7 @@ static void check(struct side *side, const struct text *text, size_t *byte_lens)
         if (side->out(side->strings[i], text->out, n) != n || memcmp(text->out, units, n * sizeof *units) != 0) fail(side->path, text->name);
         if (byte_lens[i] == 0) byte_lens[i] = byte_len;
         if (byte_lens[i] != byte_len) fail(side->path, text->name);
+        if (text->utf8 != NULL && utf8_len(text, i) != byte_len) fail(side->path, text->name);
     }
     drop_strings(side, text->pieces);
 }
@@ -146,6 +205,7 @@ static size_t convert(const struct side *side, const struct text *text, int way)
     for (size_t i = 0; i < text->pieces; i++) {
         size_t n = piece_len(text, i);
         if (way == IN) failed += !side->in(text->units + text->begin[i], n);
+        else if (way == TEXT) failed += !side->text(text->utf8 + text->utf8_begin[i], utf8_len(text, i));
         else failed += side->out(side->strings[i], text->out, n) != n;
     }
     return failed;
@@ -175,47 +235,43 @@ static void take_turn(struct side *side, const struct text *text, int way) {
     if (way == OUT) drop_strings(side, text->pieces);
 }
 
-/* The text with its arrays at the places of a round. */
-static struct text moved(const struct text *text, uint16_t *arrays[2], size_t round) {
+/* The text with its arrays where they are in a round. */
+static struct text moved(const struct text *text, uint16_t *arrays[WAYS], size_t round) {
     struct text other = *text;
     other.units = arrays[IN] + round * UNITS_STEP % PAGE / 2;
     other.out = arrays[OUT] + round * OUT_STEP % PAGE / 2;
     memcpy(other.units, text->units, text->n * sizeof *text->units);
+    if (text->utf8 == NULL) return other;
+    other.utf8 = (uint8_t *)arrays[TEXT] + round * TEXT_STEP % PAGE;
+    memcpy(other.utf8, text->utf8, text->utf8_begin[text->pieces]);
     return other;
 }
 
 static void print_least(void) {
-    for (size_t i = 0; i < side_count; i++) {
-        const char *after = i + 1 < side_count ? " " : "\n";
-        if (sides[i].has_text) printf("%.5f %.5f%s", sides[i].least[IN], sides[i].least[OUT], after);
-        else printf("- -%s", after);
-    }
+    for (size_t i = 0; i < side_count; i++)
+        for (int way = IN; way <= TEXT; way++) {
+            const char *after = i + 1 < side_count || way < TEXT ? " " : "\n";
+            if (sides[i].least[way] < NEVER) printf("%.5f%s", sides[i].least[way], after);
+            else printf("-%s", after);
+        }
     fflush(stdout);
 }
 
-static void measure(const struct text *text, uint16_t *arrays[2], size_t rounds) {
+static void measure(const struct text *text, uint16_t *arrays[WAYS], size_t rounds) {
     size_t byte_lens[PIECES] = {0};
     struct text first = moved(text, arrays, 0);
     for (size_t i = 0; i < side_count; i++) {
         check(&sides[i], &first, byte_lens);
-        sides[i].least[IN] = sides[i].least[OUT] = 1e30;
+        for (int way = IN; way <= TEXT; way++) sides[i].least[way] = NEVER;
     }
     for (int group = 0; group <= sides[side_count - 1].group; group++)
         for (size_t round = 0; round < rounds; round++) {
             struct text at_round = moved(text, arrays, round);
-            for (int way = IN; way <= OUT; way++)
+            for (int way = IN; way <= (text->utf8 == NULL ? OUT : TEXT); way++)
                 for (size_t i = 0; i < side_count; i++)
                     if (sides[i].group == group && sides[i].has_text) take_turn(&sides[i], &at_round, way);
         }
     print_least();
-}
-
-/* An array of units that begins at a page, with a page more. */
-static uint16_t *new_array(size_t n) {
-    uint16_t *array = aligned_alloc(PAGE, (2 * n + 2 * PAGE - 1) / PAGE * PAGE);
-    if (array == NULL) fail("no memory", "");
-    memset(array, 0, 2 * n + PAGE - 2);
-    return array;
 }
 
 /* Reads a text: a pattern of at least `most` units, or units. */
@@ -232,6 +288,7 @@ static void read_text(const char *word, size_t least, size_t most, struct text *
         text->units[i] = (uint16_t)strtoul(hex, NULL, 16);
     }
     cut(text, least, most);
+    add_utf8(text);
 }
 
 int main(int count, char **words) {
@@ -251,10 +308,10 @@ int main(int count, char **words) {
         word[strcspn(word, "\n")] = 0;
         if (rounds == 0 || least == 0 || most < least || *word == 0) fail("no request", line);
         read_text(word, least, most, &text);
-        uint16_t *arrays[2] = {new_array(text.n), new_array(text.n)};
+        uint16_t *arrays[WAYS] = {new_array(text.n), new_array(text.n), new_array(2 * text.n)};
         measure(&text, arrays, rounds);
-        free(arrays[IN]);
-        free(arrays[OUT]);
+        for (int way = IN; way <= TEXT; way++) free(arrays[way]);
+        free(text.utf8);
         free(text.units);
     }
     free(line);

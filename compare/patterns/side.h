@@ -17,6 +17,9 @@ SIDE bool side_can_run(void);
 /* The way in: makes a string of units, and frees it. Returns whether they were converted. */
 SIDE bool side_in(const uint16_t *units, size_t n);
 
+/* The way of texts: makes a string of a text in UTF-8, and frees it. Returns whether it is one. */
+SIDE bool side_text(const uint8_t *text, size_t n);
+
 /* A string of units for the way out, or NULL if the side cannot have it. */
 SIDE void *side_make(const uint16_t *units, size_t n);
 SIDE void side_free(void *string);

@@ -1,11 +1,12 @@
 // simdutf, by the implementation that IMPLEMENTATION names. On the way in it finds the length, allocates, and checks the
-// units while it converts them; on the way out it takes the bytes for valid.
+// units while it converts them; on the way out it takes the bytes for valid; a text is validated and copied.
 
 #include "bytes.h"
 #include "side.h"
 #include "simdutf.h"
 
 #include <cstdlib>
+#include <cstring>
 
 namespace {
 
@@ -24,6 +25,15 @@ bool side_in(const uint16_t *units, size_t n) {
     use(bytes);
     std::free(bytes);
     return written != 0;
+}
+
+bool side_text(const uint8_t *text, size_t n) {
+    if (!chosen->validate_utf8(reinterpret_cast<const char *>(text), n)) return false;
+    void *bytes = std::malloc(n);
+    std::memcpy(bytes, text, n);
+    use(bytes);
+    std::free(bytes);
+    return true;
 }
 
 void *side_make(const uint16_t *units, size_t n) {

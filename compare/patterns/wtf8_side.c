@@ -1,4 +1,4 @@
-/* The proved library: a new string by wtf8_set_units, and wtf8_copy_units. */
+/* The proved library: a new string by wtf8_set_units or wtf8_set_utf8, and wtf8_copy_units. */
 #include "side.h"
 #include "wtf8.h"
 
@@ -11,6 +11,13 @@ bool side_can_run(void) {
 bool side_in(const uint16_t *units, size_t n) {
     wtf8_string string = WTF8_EMPTY;
     wtf8_result code = wtf8_set_units(&string, units, n);
+    wtf8_free(&string);
+    return code == WTF8_OK;
+}
+
+bool side_text(const uint8_t *text, size_t n) {
+    wtf8_string string = WTF8_EMPTY;
+    wtf8_result code = wtf8_set_utf8(&string, text, n, NULL);
     wtf8_free(&string);
     return code == WTF8_OK;
 }
