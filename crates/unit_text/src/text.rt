@@ -1,5 +1,5 @@
 // Texts that are indexed by code units.
-ghost use Rattle.std.specs.Prelude.{◌≡◌, ◌↔◌, ◌-◌, ◌^◌, ◌<◌, ◌≤◌, ℕ, List, [], ◌∷◌, ◌++◌, length, take, drop, slice_get, None, IsNone, IsTrue, IfOk, IsOk, OnOk, OnErr};
+ghost use Rattle.std.specs.Prelude.{◌≡◌, ◌↔◌, ◌-◌, ◌^◌, ◌<◌, ◌≤◌, ℕ, List, [], ◌∷◌, ◌++◌, length, take, drop, slice_get, None, IfNone, IfSome, IsNone, IsTrue, IfOk, IsOk, OnOk, OnErr};
 ghost use Rattle.std.specs.Cmp.Lexicographic.{slice_cmp};
 ghost use Rattle.std.specs.Str.{chars};
 ghost use Rattle.std.specs.Ordering.{MatchOrdering, is_ge, is_gt, is_le, is_lt, nat_cmp};
@@ -11,6 +11,7 @@ ghost use Rattle.wtf8.specs.Units.{unread_units};
 ghost use Rattle.wtf8.specs.View.{view_points, view_units};
 ghost use Rattle.unit_text.specs.Positions.{AreUnitsBefore};
 ghost use Rattle.unit_text.specs.Reading.{reading};
+ghost use Rattle.unit_text.specs.Search.{IsFirstIndex, IsLastIndex, OccursAt};
 
 use crate::indexed::IndexedBuf;
 use crate::slices;
@@ -228,6 +229,24 @@ impl<A: Allocator> UnitText<A> {
         ensures { IsTrue result ↔ (take (length other.now) (drop position self.now) ≡ other.now) }
     {
         self.buf.starts_with_at(position, &other.buf)
+    }
+
+    /// The first index at or after `from` at which the code units of `other` occur, also inside a surrogate pair, or
+    /// `None` if there is none. An empty `other` is found at `from`, but past the end nothing is. Does not allocate.
+    pub fn find<B: Allocator>(&self, from: usize, other: &UnitText<B>) -> Option<usize>
+        ensures some { IfSome result (λ k. IsFirstIndex self.now other.now from k) }
+        ensures none { IfNone result ((k : ℕ) → from ≤ k → ¬ (OccursAt self.now other.now k)) }
+    {
+        self.buf.find(from, &other.buf)
+    }
+
+    /// The last index at or before `from` at which the code units of `other` occur, as `find` finds them. An empty
+    /// `other` is found at `from`, or at the end if that is before.
+    pub fn rfind<B: Allocator>(&self, from: usize, other: &UnitText<B>) -> Option<usize>
+        ensures some { IfSome result (λ k. IsLastIndex self.now other.now from k) }
+        ensures none { IfNone result ((k : ℕ) → k ≤ from → ¬ (OccursAt self.now other.now k)) }
+    {
+        self.buf.rfind(from, &other.buf)
     }
 
     /// Compares by code units, as ECMAScript compares strings: the first units that differ decide, and a prefix comes

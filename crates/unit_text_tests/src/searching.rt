@@ -1,7 +1,7 @@
 // Where code units and strings occur in buffers, short and long, by `find`, `rfind` and `divides_pair`.
 use crate::shared::{KINDS, buf_of, units_of};
 use std::alloc::{Allocator, Global};
-use unit_text::IndexedBuf;
+use unit_text::{IndexedBuf, UnitText};
 
 /// "ab", two surrogate pairs, "a", a lone trail and a lone lead surrogate, "é", U+3042 and "a".
 static UNITS: [u16; 12] = [
@@ -296,11 +296,19 @@ fn is_row_right(alloc: Global, row: &Row) -> bool {
     is_found(&buf, &other, row)
 }
 
+/// Whether the row holds of the text of `UNITS`.
+fn is_row_right_of_text(alloc: Global, row: &Row) -> bool {
+    let text = UnitText::from_wtf8(buf_of(alloc, &UNITS).into_buf());
+    let other = UnitText::from_wtf8(buf_of(alloc, row.units).into_buf());
+    text.find(row.index, &other) == row.first && text.rfind(row.index, &other) == row.last
+}
+
 #[test]
 fn units_and_strings_are_found(rt: HostRuntime) {
     let mut number = 0usize;
     for row in &ROWS {
         assert!(rt; is_row_right(rt.alloc(), row), "row {number}");
+        assert!(rt; is_row_right_of_text(rt.alloc(), row), "row {number} of a text");
         number = number.wrapping_add(1);
     }
 }

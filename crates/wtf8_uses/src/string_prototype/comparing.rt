@@ -1,11 +1,9 @@
 //! Comparisons of two texts.
 ghost use Rattle.std.specs.Prelude.{◌≡◌, ◌↔◌, ◌++◌, List, ℕ, length, take, drop, IsTrue};
 ghost use Rattle.wtf8.specs.Order.{Before};
-ghost use Rattle.wtf8.specs.Units.{unread_units};
 
 use std::alloc::Allocator;
 use unit_text::UnitText;
-use wtf8::IllFormedUtf16CodeUnits;
 
 /// `<`: whether a text is less than another, compared by units.
 pub fn is_less<A: Allocator>(text: &UnitText<A>, other: &UnitText<A>) -> bool
@@ -39,33 +37,4 @@ pub fn ends_with<A: Allocator, B: Allocator>(
         Some(begin) => starts_with(text, search, begin),
         None => false,
     }
-}
-
-/// An iterator over the units from index `begin` on.
-pub(super) fn units_from<A: Allocator>(
-    text: &UnitText<A>,
-    begin: usize,
-) -> IllFormedUtf16CodeUnits<'_>
-    ensures { unread_units result ≡ drop begin text.now }
-{
-    let mut units = text.as_wtf8().to_ill_formed_utf16();
-    for _ in 0..begin {
-        units.next();
-    }
-    units
-}
-
-/// Whether the next units of the iterator are the units of `search`.
-pub(super) fn occurs_next<B: Allocator>(
-    units: &IllFormedUtf16CodeUnits<'_>,
-    search: &UnitText<B>,
-) -> bool
-    ensures { IsTrue result ↔ (take (length search.now) (unread_units units.now) ≡ search.now) }
-{
-    let searched = search.as_wtf8().to_ill_formed_utf16();
-    let Ok(units) = units.clone() else {
-        return false;
-    };
-    let found = units.take(search.unit_len());
-    found.cmp(searched).is_eq()
 }

@@ -4,13 +4,11 @@ ghost use Rattle.std.specs.Prelude.{All, map, ◌==◌, ◌≢◌, ◌≡◌, �
 ghost use Rattle.unit_text.specs.Search.{IsFirstIndex, IsLastIndex, OccursAt};
 ghost use Rattle.wtf8_uses.specs.StringPrototype.{IsReplaced};
 
-use super::comparing::{occurs_next, units_from};
 use std::alloc::{AllocError, Allocator};
 use unit_text::UnitText;
 
 /// `indexOf`: the first index at or after `position` at which the units of `search` occur. `None`, for the -1 of the
-/// language, if there is none. A position past the end is the end, where the empty text occurs. Goes through the text
-/// once, and compares at each index until the first mismatch.
+/// language, if there is none. A position past the end is the end, where the empty text occurs.
 pub fn index_of<A: Allocator, B: Allocator>(
     text: &UnitText<A>,
     search: &UnitText<B>,
@@ -19,20 +17,11 @@ pub fn index_of<A: Allocator, B: Allocator>(
     ensures some { IfSome result (λ k. IsFirstIndex text.now search.now (min position (length text.now)) k) }
     ensures none { IfNone result ((k : ℕ) → min position (length text.now) ≤ k → ¬ (OccursAt text.now search.now k)) }
 {
-    let last = text.unit_len().checked_sub(search.unit_len())?;
-    let begin = position.min(text.unit_len());
-    let mut units = units_from(text, begin);
-    for index in begin..=last {
-        if occurs_next(&units, search) {
-            return Some(index);
-        }
-        units.next();
-    }
-    None
+    text.find(position.min(text.unit_len()), search)
 }
 
 /// `lastIndexOf`: the last index at or before `position` at which the units of `search` occur. `None`, for the -1 of
-/// the language, if there is none. Goes through the text once, from its front.
+/// the language, if there is none.
 pub fn last_index_of<A: Allocator, B: Allocator>(
     text: &UnitText<A>,
     search: &UnitText<B>,
@@ -41,16 +30,7 @@ pub fn last_index_of<A: Allocator, B: Allocator>(
     ensures some { IfSome result (λ k. IsLastIndex text.now search.now position k) }
     ensures none { IfNone result ((k : ℕ) → k ≤ position → ¬ (OccursAt text.now search.now k)) }
 {
-    let last = text.unit_len().checked_sub(search.unit_len())?;
-    let mut units = units_from(text, 0);
-    let mut found = None;
-    for index in 0..=last.min(position) {
-        if occurs_next(&units, search) {
-            found = Some(index);
-        }
-        units.next();
-    }
-    found
+    text.rfind(position, search)
 }
 
 /// `replace` with a text as pattern: replaces the first occurrence of `search` by `other`, in which `$` has no special
