@@ -35,7 +35,7 @@ pub extern "C" fn compare_exports_run(alloc: Global, script: &[u8], out: &mut [u
     ensures long { pos (length out.old) <ℤ result → out.new ≡ out.old }
 
     // A transcript of n bytes leaves the bytes after the first n unchanged.
-    ensures behind { (n : ℕ) → result ≡ pos n → drop n out.new ≡ drop n out.old }
+    ensures rest { (n : ℕ) → result ≡ pos n → drop n out.new ≡ drop n out.old }
 {
     match run_script(alloc, script) {
         Ok(Some(transcript)) => write_front(transcript.as_str().as_bytes(), out),

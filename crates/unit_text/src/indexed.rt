@@ -264,8 +264,8 @@ impl<A: Allocator> IndexedBuf<A> {
         slices::has_units(self.part(begin, other.count), other.as_wtf8())
     }
 
-    /// Whether the code units from index `begin` on begin with these. No units are found everywhere, also past the end. Does
-    /// not allocate.
+    /// Whether the code units from index `begin` on begin with these. An empty list is found everywhere, also past the end.
+    /// Does not allocate.
     #[tactic(auto, using(crate::proofs::UnitLemmas::drop_unit))]
     pub fn starts_with_units_at(&self, begin: usize, units: &[u16]) -> bool
         ensures { IsTrue result ↔ (take (length units.now) (drop begin self.now.units) ≡ units.now) }

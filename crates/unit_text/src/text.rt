@@ -95,7 +95,7 @@ impl<A: Allocator> UnitText<A> {
     /// Keeps marks of the text, so that `unit_at` and `slice_units` need not count from the front; from then on each
     /// call that appends adds marks of what it appends. `alloc` allocates the marks, and a clone of it a box for their
     /// vector, at once. If memory for a mark is refused, it and the marks after it are missing, and units there are
-    /// found more slowly, until a later `push` or `concat` can add them. A short text or an ASCII text needs none. If
+    /// found more slowly, until a later append can add them. A short text or an ASCII text needs none. If
     /// memory for the box or the clone is refused, no marks are kept, and none added later, until `mark_units` is called
     /// again.
     pub fn mark_units(&mut self, alloc: A)
@@ -123,7 +123,7 @@ impl<A: Allocator> UnitText<A> {
 
     /// The byte position in the view of the code point boundary before the code unit at index `i`, or of the end if `i`
     /// is the length, which it must not exceed. If `i` splits a surrogate pair, that is the position of the pair.
-    /// Counts the units from the nearest mark that is kept, or from the start or the end.
+    /// Counts the units from the last mark that is kept, or from the start, or from the end if that is near.
     pub fn position_at(&self, i: usize) -> usize
         requires { i ≤ length self.now }
         ensures whole { ¬ (DividesPair self.now i) → IsFront self.now result (take i self.now) }
@@ -142,8 +142,7 @@ impl<A: Allocator> UnitText<A> {
     }
 
     /// Shortens the text to `n` code units, which must be at most its length. If that splits a surrogate pair, its lead
-    /// stays as a lone surrogate. Does not allocate. Counts the units from the nearest mark that is kept, or from the
-    /// start or the end.
+    /// stays as a lone surrogate. Does not allocate. Counts the units as `position_at` does.
     pub fn truncate_units(&mut self, n: usize)
         requires { n ≤ length self.old }
         ensures { self.new ≡ take n self.old }

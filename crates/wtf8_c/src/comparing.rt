@@ -55,7 +55,7 @@ pub extern "C" fn wtf8_starts_with(
     string.buffer().starts_with_at(index, other.buffer())
 }
 
-/// Whether the units of the string from `index` on begin with these. No units are found at each index.
+/// Whether the units of the string from `index` on begin with these. An empty list is found at each index.
 #[unsafe(no_mangle)]
 pub extern "C" fn wtf8_starts_with_units(
     string: &mut Wtf8String,

@@ -8,6 +8,9 @@ use unit_text::IndexedBuf;
 /// The number of bytes that are made units at a time, on the stack.
 const CHUNK: usize = 128;
 
+/// The same for shorter texts: fewer units to zero.
+const SHORT_CHUNK: usize = 32;
+
 /// Appends the code points of bytes. If memory is refused, the string is unchanged.
 pub(crate) fn push_bytes(buf: &mut IndexedBuf<Global>, bytes: &[u8]) -> Result<(), AllocError>
     ensures ok { OnOk result (AppendsUnits buf.old bytes.now buf.new) }
@@ -15,6 +18,9 @@ pub(crate) fn push_bytes(buf: &mut IndexedBuf<Global>, bytes: &[u8]) -> Result<(
     ensures room { HasRoomFor buf.old bytes.now → IsOk result }
     ensures capacity { buf.old.capacity ≤ buf.new.capacity }
 {
+    if bytes.len() <= SHORT_CHUNK {
+        return push_chunk::<SHORT_CHUNK>(buf, bytes);
+    }
     let old_len = buf.unit_len();
     // One request for all; if it is refused, so is a push that needs more than there is.
     let _is_reserved = buf
@@ -23,7 +29,7 @@ pub(crate) fn push_bytes(buf: &mut IndexedBuf<Global>, bytes: &[u8]) -> Result<(
     let mut at = 0;
     while at < bytes.len() {
         let n = CHUNK.min(bytes.len() - at);
-        if let Err(refused) = push_chunk(buf, &bytes[at..at + n]) {
+        if let Err(refused) = push_chunk::<CHUNK>(buf, &bytes[at..at + n]) {
             buf.truncate_units(old_len);
             return Err(refused);
         }
@@ -43,22 +49,27 @@ fn high_count(bytes: &[u8]) -> usize {
     high
 }
 
-/// Appends the code points of at most `CHUNK` bytes.
-fn push_chunk(buf: &mut IndexedBuf<Global>, bytes: &[u8]) -> Result<(), AllocError>
-    requires { length bytes.now ≤ CHUNK }
+/// Appends the code points of at most `N` bytes.
+#[inline(always)]
+fn push_chunk<const N: usize>(
+    buf: &mut IndexedBuf<Global>,
+    bytes: &[u8],
+) -> Result<(), AllocError>
+    requires { length bytes.now ≤ N }
     ensures ok { OnOk result (AppendsUnits buf.old bytes.now buf.new) }
     ensures kept { OnErr result (KeepsContents buf.old buf.new) }
     ensures room { HasRoomFor buf.old bytes.now → IsOk result }
     ensures capacity { buf.old.capacity ≤ buf.new.capacity }
 {
-    let mut units = [0; CHUNK];
+    let mut units = [0; N];
     widen(bytes, &mut units);
     buf.push_units(&units[..bytes.len()])
 }
 
 /// Writes bytes to the front of an array of units.
-fn widen(bytes: &[u8], units: &mut [u16; CHUNK])
-    requires { length bytes.now ≤ CHUNK }
+#[inline(always)]
+fn widen(bytes: &[u8], units: &mut [u16])
+    requires { length bytes.now ≤ length units.old }
     ensures { take (length bytes.now) units.new ≡ bytes.now }
 {
     for at in 0..bytes.len() {

@@ -4,14 +4,13 @@ ghost use Rattle.std.specs.Str.{chars, IsUtf8};
 ghost use Rattle.std.specs.Str.Lossy.{utf8_valid_len};
 ghost use Rattle.wtf8.specs.Appending.{FitWithin, KeepsContents};
 ghost use Rattle.wtf8.specs.Unicode.{units};
-ghost use Rattle.wtf8.specs.View.{view_units};
 ghost use Rattle.wtf8_c.specs.Kept.{IsKept};
 
 use crate::codes::{NO_MEMORY, NOT_UTF8, OK, code_of};
 use crate::handle::{Wtf8String, empty};
 use std::alloc::{AllocError, Global};
 use unit_text::IndexedBuf;
-use wtf8::{Wtf8, encoded_len, from_utf8};
+use wtf8::{Wtf8Buf, encoded_len, from_utf8};
 
 /// The most units for which a string that is set again gets the capacity for any units of that number, of which ASCII
 /// takes a third.
@@ -94,10 +93,7 @@ pub extern "C" fn wtf8_set_utf8(
     ensures lies { string.new.at ≡ string.old.at }
 {
     match from_utf8(text) {
-        Ok(text) => {
-            let view = Wtf8::from_str(text);
-            code_of(set_counted(alloc, string.buffer(), view, view.unit_len()))
-        }
+        Ok(text) => code_of(set_text(alloc, string.buffer(), text)),
         Err(error) => {
             *valid = error.valid_up_to();
             NOT_UTF8
@@ -105,13 +101,24 @@ pub extern "C" fn wtf8_set_utf8(
     }
 }
 
+/// Replaces the units of a buffer by those of a text, in its capacity if they fit, else in a block of the text's length.
+fn set_text(alloc: Global, buf: &mut IndexedBuf<Global>, text: &str) -> Result<(), AllocError>
+    ensures ok { OnOk result (buf.new.units ≡ units (chars text.now)) }
+    ensures kept { OnErr result (buf.new ≡ buf.old) }
+    ensures room { length text.now ≤ buf.old.capacity → IsOk result }
+    ensures capacity { buf.old.capacity ≤ buf.new.capacity }
+{
+    if text.len() <= buf.capacity() {
+        buf.clear();
+        return buf.push_str(text);
+    }
+    *buf = IndexedBuf::from_buf(Wtf8Buf::from_str(alloc, text)?);
+    Ok(())
+}
+
 /// Replaces the string by a copy of another one.
 #[unsafe(no_mangle)]
-pub extern "C" fn wtf8_set_string(
-    alloc: Global,
-    string: &mut Wtf8String,
-    other: &mut Wtf8String,
-) -> i32
+pub extern "C" fn wtf8_set_string(string: &mut Wtf8String, other: &mut Wtf8String) -> i32
     ensures code { (result ≡ OK) ⊎ (result ≡ NO_MEMORY) }
     ensures ok { result ≡ OK → string.new.buf.units ≡ other.old.buf.units }
     ensures kept { result ≡ NO_MEMORY → IsKept string.old string.new }
@@ -121,29 +128,22 @@ pub extern "C" fn wtf8_set_string(
     ensures lies { string.new.at ≡ string.old.at }
 {
     let from = other.buffer();
-    code_of(set_counted(alloc, string.buffer(), from.as_wtf8(), from.unit_len()))
+    code_of(set_copy(string.buffer(), from))
 }
 
-/// Replaces the units of a buffer by the `count` units of a view, in its capacity if they fit.
-fn set_counted(
-    alloc: Global,
-    buf: &mut IndexedBuf<Global>,
-    view: Wtf8<'_>,
-    count: usize,
-) -> Result<(), AllocError>
-    requires { count ≡ length (view_units view) }
-    ensures ok { OnOk result (buf.new.units ≡ view_units view.entry) }
+/// Replaces the units of a buffer by those of another, in its capacity if they fit, else in a block of their length.
+fn set_copy(buf: &mut IndexedBuf<Global>, from: &IndexedBuf<Global>) -> Result<(), AllocError>
+    ensures ok { OnOk result (buf.new.units ≡ from.now.units) }
     ensures kept { OnErr result (buf.new ≡ buf.old) }
-    ensures room { length view.entry.bytes.now ≤ buf.old.capacity → IsOk result }
+    ensures room { length from.now.bytes ≤ buf.old.capacity → IsOk result }
     ensures capacity { buf.old.capacity ≤ buf.new.capacity }
 {
+    let view = from.as_wtf8();
     if view.len() <= buf.capacity() {
         buf.clear();
-        return buf.push_counted(view, count);
+        return buf.push_counted(view, from.unit_len());
     }
-    let mut made = IndexedBuf::new(alloc);
-    made.push_counted(view, count)?;
-    *buf = made;
+    *buf = from.clone()?;
     Ok(())
 }
 

@@ -76,7 +76,7 @@ abbrev pub packed_units : ℕ → List ℕ → List ℕ
 packed_units before [] = []
 packed_units before (n ∷ u) = packed_unit before n ++ packed_units n u
 
--- The three bytes of each of the units after `before`, and behind them 0x80 if it adds three bytes, else 0.
+-- The three bytes of each of the units after `before`, and after them 0x80 if it adds three bytes, else 0.
 abbrev pub byte_lanes : ℕ → List ℕ → List ℕ
 byte_lanes before [] = []
 byte_lanes before (n ∷ u) = first_byte n ∷ second_byte before n ∷ last_byte n ∷ (three_byte_bit n * 0x80) ∷ byte_lanes n u

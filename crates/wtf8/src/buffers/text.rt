@@ -21,7 +21,7 @@ pub enum TextError {
 impl<A: Allocator> Wtf8Buf<A> {
     ghost use Rattle.wtf8.specs.Utf8.{Tells};
 
-    /// Copies bytes, which must be UTF-8. No bytes do not allocate. Linear in their number.
+    /// Copies bytes, which must be UTF-8. An empty slice does not allocate. Linear in their number.
     pub fn from_utf8(alloc: A, text: &[u8]) -> Result<Wtf8Buf<A>, TextError>
         ensures utf8 { IsOk result → IsUtf8 text.now }
         ensures units { IfOk result (λ b. b.units ≡ units (chars text.now)) }

@@ -124,7 +124,7 @@ pub fn encode_front(units: &[u16], out: &mut [u8]) -> EncodedFront
     // With the form of the units that are left, these bytes are the form of all.
     ensures rest { (w : List ℕ) → IsForm w (drop result.units units.now) → IsForm (take result.bytes out.new ++ w) units.now }
 
-    // It encodes a unit, if there is one, and all if there is room.
+    // It encodes a unit, if there is one, and stops at the end, or where fewer than 52 bytes are left.
     ensures some { 0 < length units.now → 0 < result.units }
     ensures stops { (result.units ≡ length units.now) ⊎ (length out.new < result.bytes + 52) }
     ensures len { length out.new ≡ length out.old }

@@ -181,7 +181,7 @@ packed_units-read w kept {bytes} {f} {u} {at} {known} {more} k x within fits tak
     (ap (λ v. w ++ v) (e ∙ ap (λ t. kept ++ packed_units 0 t) tags) ∙ sym (append_assoc w kept (packed_units 0 (tagged_units 0 own after))))
     (subst (λ v. IsKnownForm (packed_units 0 (tagged_units 0 own after)) v more) same form)
 
--- Units with zeros behind them: each zero adds a zero byte, and a lead before them is in no pair.
+-- Units with zeros after them: each zero adds a zero byte, and a lead before them is in no pair.
 
 tagged_units-zeros : (b m a : ℕ) → tagged_units b (replicate m 0) a ≡ replicate m 0
 tagged_units-zeros b zero a = refl
@@ -219,7 +219,7 @@ taken_whole u {block} k few is (inr t) =
     ∙ get_or-replicate (16 - length u) (15 - length u) 0 0 (omega arith) in
     absurd (omega (arith, zero_at, t.1.0))
 
--- fewer than sixteen units, encoded as a block with zeros behind them, have the form of its bytes without the zeros
+-- fewer than sixteen units, encoded as a block with zeros after them, have the form of its bytes without the zeros
 pub last_block-form : (w kept u : List ℕ) {block : List ℕ} {more : Bool} (k end : ℕ) → length u < 16 → ((i : ℕ) → Fits w16 (get_or u i 0))
     → block ≡ u ++ replicate (16 - length u) 0
     → ((k ≡ 16) × ¬ (IsLead (get_or block 15 0))) ⊎ ((k ≡ 15) × IsLead (get_or block 15 0)) → (IsTrue more → Each1 IsUnit (tagged_block block))

@@ -5,5 +5,5 @@ use Rattle.wtf8_c.proofs.latin1.widen.Given as goal
 abbrev pub invariant-loop-at : goal.invariant-loop-at
 invariant-loop-at l = record {
   written : take l.at l.units ≡ take l.at l.bytes;
-  size : length l.units ≡ 128;
+  size : length l.units ≡ length l.fn.units;
 }

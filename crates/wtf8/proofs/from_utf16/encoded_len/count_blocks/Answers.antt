@@ -39,10 +39,10 @@ loop-at-preserved g c =
     length-zip2 more_bytes block next (long ∙ sym (length-chunk (at + 1) n u (omega (arith, within)))) ∙ long in
     let same : take n (drop at all) ≡ zip2 more_bytes block next =
     each_more-block at n u (omega (arith, within)) ∙ ap (λ v. zip2 more_bytes block (take n v)) (drop-drop 1 at u) in
-    let behind : from + (at - from) ≡ at = omega (arith, i.order) in
+    let sum : from + (at - from) ≡ at = omega (arith, i.order) in
     let count : at + n - from ≡ (at - from) + n = omega (arith, i.order) in
     let rest : take n (drop (at - from) (drop from all)) ≡ take n (drop at all) =
-    ap (take n) (drop-drop (at - from) from all ∙ ap (λ k. drop k all) behind) in
+    ap (take n) (drop-drop (at - from) from all ∙ ap (λ k. drop k all) sum) in
     rw c.more_bytes_of_each-lanes.ensures (record {
       order = omega (arith, i.order);
       within = omega (arith, c.loop-at-test.true);
