@@ -1,5 +1,5 @@
 // Texts in Latin-1, each byte of which is the code point of its value.
-ghost use Rattle.std.specs.Prelude.{◌≡◌, ◌≤◌, length, take, IsOk, OnOk, OnErr};
+ghost use Rattle.std.specs.Prelude.{◌≡◌, ◌≤◌, ◌<◌, ◌^◌, length, take, IsOk, OnOk, OnErr};
 ghost use Rattle.wtf8.specs.Appending.{AppendsUnits, KeepsContents, HasRoomFor};
 
 use std::alloc::{AllocError, Global};
@@ -55,7 +55,8 @@ fn push_chunk<const N: usize>(
     buf: &mut IndexedBuf<Global>,
     bytes: &[u8],
 ) -> Result<(), AllocError>
-    requires { length bytes.now ≤ N }
+    requires part { N < 2 ^ 16 }
+    requires within { length bytes.now ≤ N }
     ensures ok { OnOk result (AppendsUnits buf.old bytes.now buf.new) }
     ensures kept { OnErr result (KeepsContents buf.old buf.new) }
     ensures room { HasRoomFor buf.old bytes.now → IsOk result }

@@ -43,7 +43,7 @@ more_units old now all a n e =
 
 pub returns-in-Err-clause-kept : goal.returns-in-Err-clause-kept
 returns-in-Err-clause-kept c =
-    taken_back c.args.buf.now c.push_chunk.new.buf c.truncate_units.new.self (take c.loop-at.at c.args.bytes.now) c.unit_len-old_len.result
+    taken_back c.args.buf.now c.push_chunk-in-loop-at.new.buf c.truncate_units.new.self (take c.loop-at.at c.args.bytes.now) c.unit_len-old_len.result
     (c.in-Err.ensures.kept.units ∙ c.loop-at.invariant.units) c.loop-at.invariant.old_len c.truncate_units.ensures.units
 
 pub returns-in-Err-clause-room : goal.returns-in-Err-clause-room
@@ -56,6 +56,6 @@ loop-at-preserved c = record {
   within = omega (arith, c.min-n.ensures, c.loop-at.invariant.within);
   units = c.in_default.ensures.ok ∙ more_units c.args.buf.now.units c.loop-at.buf.units c.args.bytes.now c.loop-at.at c.min-n.result
       c.loop-at.invariant.units;
-  capacity = omega (arith, c.loop-at.invariant.capacity, c.push_chunk.ensures.capacity);
+  capacity = omega (arith, c.loop-at.invariant.capacity, c.push_chunk-in-loop-at.ensures.capacity);
   old_len = c.loop-at.invariant.old_len;
 }
