@@ -1,10 +1,13 @@
 -- The text of bytes with U+FFFD for each maximal part that is not UTF-8.
 use Rattle.wtf8.proofs.Common.{◌≡◌, ℕ, zero, suc, ◌+◌, ◌<◌, ◌≤◌, List, [], ◌++◌, length, take, drop, Option, None, Some, unwrap_or, IsUtf8}
 use Rattle.wtf8.proofs.Common.{inl, inr, ◌∷◌, cases_Bool, cases_lt, take_all, on_ok_weaker, Result, Ok, Err, OnOk, OnErr, length-append, refl, sym, ap, ◌∙◌, subst, arith, append_assoc, append-nil, common_steps, nat_tests, length-drop, drop-drop, drop_all, take_at}
+use Rattle.wtf8.proofs.Common.{chars, form_of, units, IsForm, IsFront}
 use lib.Utf8.{encode}
 use Rattle.std.proofs.lemmas.Bool.{cond-true, cond-false}
 use Rattle.std.proofs.lemmas.Str.{utf8_lossy-IsUtf8, utf8_lossy_step, utf8_lossy_empty, utf8_valid_len-IsValidUpTo, IsUtf8-append, IsUtf8-from_is_utf8}
 use Rattle.std.specs.Str.{IsValidUpTo, is_utf8}
+use Rattle.wtf8.proofs.lemmas.codec.Readings.{form-append}
+use Rattle.wtf8.proofs.lemmas.strings.ExtendedForms.{scalar_back_unpaired, scalar_text, well_formed_text}
 use Rattle.std.specs.Str.Lossy.{utf8_lossy, utf8_valid_len, utf8_error_len, utf8_invalid_len, after_first_chunk, replacement_bytes, valid_len_up_to}
 
 -- wrong bytes have a length, which is at most that of the bytes
@@ -128,3 +131,14 @@ module _ {T E : Type 0} {old now text rest : List ℕ} (new part : List ℕ) (ca
           ap (take (length old)) (is ∙ ap (λ w. w ++ part) r.appended ∙ append_assoc old r.more part)
           ∙ take_at old (r.more ++ part) (length old) refl
       kept_by (Err _) _ is = ap (take (length old)) is ∙ parts_kept r
+
+-- a text that is appended begins at a boundary
+pub text_apart : {w u : List ℕ} (f : IsForm w u) (t : List ℕ) → IsUtf8 t → IsFront (u ++ units (chars t)) (length w) u
+text_apart f t text =
+    let whole = form-append f (form_of (well_formed_text t text)) (scalar_back_unpaired (scalar_text text)) in
+    record {
+      front = f.points;
+      back = chars t;
+      splits = record { reads = whole.reads; front_len = ap length f.encoded };
+      same_units = f.reads.same_units;
+    }
