@@ -1,5 +1,5 @@
 -- Bytes that are no text, and the text that is made of them.
-use Rattle.std.specs.Prelude.{◌≡◌, ℕ, List, drop}
+use Rattle.std.specs.Prelude.{◌≡◌, ℕ, ◌<◌, ◌≤◌, List, length, drop, None}
 use Rattle.std.specs.Str.{chars, IsUtf8}
 use Rattle.std.specs.Str.Lossy.{utf8_lossy, utf8_valid_len, utf8_error_len}
 use Rattle.wtf8.specs.Utf8Error.{valid_up_to, error_len}
@@ -16,3 +16,13 @@ Tells w (Refused e) = IsUtf8 w
 -- `String::from_utf8_lossy` gives them (Unicode 3.9, "U+FFFD Substitution of Maximal Subparts").
 abbrev pub lossy_chars : List ℕ → List ℕ
 lossy_chars w = chars (utf8_lossy w)
+
+-- Bytes that begin a code point and end before it is whole (Unicode 3.9, "U+FFFD Substitution of Maximal Subparts").
+abbrev pub IsUnfinished : List ℕ → Type 0
+IsUnfinished w = (0 < length w) × (utf8_valid_len w ≡ 0) × (utf8_error_len w ≡ None)
+
+-- The first `n` bytes of `w` are all but the unfinished code point at its end, if there is one.
+pub record LeavesUnfinished (w : List ℕ) (n : ℕ) : Type 0 where
+  pub within : n ≤ length w
+  pub rest : n < length w → IsUnfinished (drop n w)
+  pub only : (k : ℕ) → IsUnfinished (drop k w) → k ≡ n

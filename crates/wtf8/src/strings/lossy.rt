@@ -1,10 +1,11 @@
 // Lossy text: U+FFFD in place of each surrogate, and of each part of bytes that is not UTF-8.
-ghost use Rattle.std.specs.Prelude.{◌≡◌, ◌∷◌, ◌++◌, ◌+◌, ◌≤◌, [], length, take, drop, OnOk, IsOk, vec_capacity};
+ghost use Rattle.std.specs.Prelude.{◌≡◌, ◌∷◌, ◌++◌, ◌+◌, ◌≤◌, [], length, take, drop, OnOk, IsOk, vec_capacity, IsTrue, ◌↔◌};
 ghost use Rattle.std.specs.Str.{chars};
-ghost use Rattle.std.specs.Str.Lossy.{utf8_lossy, utf8_valid_len, replacement_bytes, after_first_chunk};
+ghost use Rattle.std.specs.Str.Lossy.{utf8_lossy, replacement_bytes};
 ghost use Rattle.wtf8.specs.Form.{IsWellFormed, bytes as bytes_of};
 ghost use Rattle.wtf8.specs.Surrogates.{lossy_points};
 ghost use Rattle.wtf8.specs.Unicode.{units};
+ghost use Rattle.wtf8.specs.Utf8.{IsUnfinished, LeavesUnfinished};
 ghost use Rattle.wtf8.specs.private.EncodedBytes.{ExtendsForm, BecomesOrKeeps};
 
 use crate::lanes::search::next_surrogate;
@@ -15,6 +16,9 @@ use std::alloc::{AllocError, Allocator};
 
 /// The encoding of U+FFFD, the replacement character: three bytes, like the encoding of each surrogate.
 const REPLACEMENT: [u8; 3] = [0xEF, 0xBF, 0xBD];
+
+/// The most bytes of an unfinished code point.
+const MOST_UNFINISHED: usize = 3;
 
 fn write_replacement(bytes: &mut [u8], at: usize)
     requires { at + 3 ≤ length bytes.old }
@@ -86,4 +90,33 @@ pub(crate) fn push_lossy<A: Allocator>(
         bytes.truncate(len);
     }
     appended
+}
+
+fn is_unfinished(text: &[u8]) -> bool
+    ensures { IsTrue result ↔ IsUnfinished text.now }
+{
+    match from_utf8(text) {
+        Ok(_) => false,
+        Err(error) => error.valid_up_to() == 0 && error.error_len().is_none(),
+    }
+}
+
+/// The number of bytes before the code point that is unfinished at the end, if one is. It can only begin at the last of
+/// the lead bytes.
+pub(crate) fn finished_len(text: &[u8]) -> usize
+    ensures all { LeavesUnfinished text.now result }
+    ensures few { length text.now ≤ result + MOST_UNFINISHED }
+{
+    let first = text.len().saturating_sub(MOST_UNFINISHED);
+    let mut at = text.len();
+    while first < at {
+        at -= 1;
+        if 0xC0 <= text[at] {
+            if is_unfinished(&text[at..]) {
+                return at;
+            }
+            return text.len();
+        }
+    }
+    text.len()
 }

@@ -2,6 +2,8 @@
 use Rattle.wtf8.proofs.Common.{◌≡◌, ℕ, zero, suc, ◌+◌, ◌<◌, ◌≤◌, List, [], ◌++◌, length, take, drop, Option, None, Some, unwrap_or, IsUtf8}
 use Rattle.wtf8.proofs.Common.{inl, inr, ◌∷◌, cases_Bool, cases_lt, take_all, on_ok_weaker, Result, Ok, Err, OnOk, OnErr, length-append, refl, sym, ap, ◌∙◌, subst, arith, append_assoc, append-nil, common_steps, nat_tests, length-drop, drop-drop, drop_all, take_at}
 use Rattle.wtf8.proofs.Common.{chars, form_of, units, IsForm, IsFront}
+use Rattle.wtf8.proofs.Common.{◌-◌, get_or-drop, slice_index}
+use Rattle.wtf8.specs.Utf8.{IsUnfinished, LeavesUnfinished}
 use lib.Utf8.{encode}
 use Rattle.std.proofs.lemmas.Bool.{cond-true, cond-false}
 use Rattle.std.proofs.lemmas.Str.{utf8_lossy-IsUtf8, utf8_lossy_step, utf8_lossy_empty, utf8_valid_len-IsValidUpTo, IsUtf8-append, IsUtf8-from_is_utf8}
@@ -142,3 +144,84 @@ text_apart f t text =
       splits = record { reads = whole.reads; front_len = ap length f.encoded };
       same_units = f.reads.same_units;
     }
+
+-- An unfinished code point at the end.
+
+-- it has at most three bytes, of which only the first is no continuation byte
+pub record Unfinished (w : List ℕ) : Type 0 where
+  pub few : length w ≤ 3
+  pub first : 0xC0 ≤ slice_index w 0
+  pub second : 1 < length w → slice_index w 1 < 0xC0
+  pub third : 2 < length w → slice_index w 2 < 0xC0
+
+error_none_few : (w : List ℕ) → 0 < length w → utf8_error_len w ≡ None → length w ≤ 3
+unfolding utf8_error_len
+error_none_few w some e = grind (arith, common_steps, nat_tests)
+
+error_none_first : (w : List ℕ) → 0 < length w → utf8_error_len w ≡ None → 0xC0 ≤ slice_index w 0
+unfolding utf8_error_len
+error_none_first w some e = grind (arith, common_steps, nat_tests)
+
+error_none_second : (w : List ℕ) → 1 < length w → utf8_error_len w ≡ None → slice_index w 1 < 0xC0
+unfolding utf8_error_len
+error_none_second w some e = grind (arith, common_steps, nat_tests)
+
+error_none_third : (w : List ℕ) → 2 < length w → utf8_error_len w ≡ None → slice_index w 2 < 0xC0
+unfolding utf8_error_len
+error_none_third w some e = grind (arith, common_steps, nat_tests)
+
+pub unfinished : {w : List ℕ} → IsUnfinished w → Unfinished w
+unfinished {w} u = record {
+  few = error_none_few w u.0 u.2;
+  first = error_none_first w u.0 u.2;
+  second = λ l. error_none_second w l u.2;
+  third = λ l. error_none_third w l u.2;
+}
+
+-- the number of bytes before it is one alone
+pub same_finished : (w : List ℕ) (n m : ℕ) → LeavesUnfinished w n → LeavesUnfinished w m → n ≡ m
+same_finished w n m x y = elim (cases_lt n (length w)) [
+  | inl l ↦ y.only n (x.rest l)
+  | inr l ↦ elim (cases_lt m (length w)) [
+    | inl k ↦ sym (x.only m (y.rest k))
+    | inr k ↦ omega (arith, l, k, x.within, y.within)
+  ]
+]
+
+index_after : (w : List ℕ) (k j at : ℕ) → k + j ≡ at → slice_index (drop k w) j ≡ slice_index w at
+index_after w k j at e = get_or-drop k w j 0 ∙ ap (slice_index w) e
+
+-- it begins at the last byte that is no continuation byte
+pub begins_last : (w : List ℕ) (at k : ℕ) → 0xC0 ≤ slice_index w at → at < length w
+    → ((j : ℕ) → at < j → j < length w → slice_index w j < 0xC0) → IsUnfinished (drop k w) → k ≡ at
+begins_last w at k lead within later u =
+    let is = unfinished u in
+    let long = length-drop k w in
+    elim (cases_lt k at) [
+      | inl before ↦ elim (cases_lt (k + 1) at) [
+        | inl far ↦
+            let third : slice_index (drop k w) 2 ≡ slice_index w at = index_after w k 2 at (omega (arith, far, is.few, long, within)) in
+            absurd (omega (arith, third, lead, is.third (omega (arith, far, long, within))))
+        | inr near ↦
+            let second : slice_index (drop k w) 1 ≡ slice_index w at = index_after w k 1 at (omega (arith, before, near)) in
+            absurd (omega (arith, second, lead, is.second (omega (arith, before, long, within))))
+      ]
+      | inr after ↦ elim (cases_lt at k) [
+        | inl past ↦
+            let first = index_after w k 0 k (omega arith) in
+            absurd (omega (arith, first, is.first, later k past (omega (arith, u.0, long))))
+        | inr last ↦ omega (arith, after, last)
+      ]
+    ]
+
+-- there is none if the last bytes are continuation bytes
+pub none_begins : (w : List ℕ) (from k : ℕ) → from ≤ length w - 3
+    → ((j : ℕ) → from ≤ j → j < length w → slice_index w j < 0xC0) → ¬ (IsUnfinished (drop k w))
+none_begins w from k few later u =
+    let is = unfinished u in
+    let long = length-drop k w in
+    omega (arith, index_after w k 0 k (omega arith), is.first, later k (omega (arith, is.few, long, few, u.0)) (omega (arith, u.0, long)))
+
+-- all bytes are before it if there is none
+pub none_left_out : (w : List ℕ) → ((k : ℕ) → ¬ (IsUnfinished (drop k w))) → LeavesUnfinished w (length w)
+none_left_out w none = record { within = omega arith; rest = λ l. absurd (omega (arith, l)); only = λ k u. absurd (none k u) }
