@@ -178,16 +178,6 @@ unfinished {w} u = record {
   third = λ l. error_none_third w l u.2;
 }
 
--- the number of bytes before it is one alone
-pub same_finished : (w : List ℕ) (n m : ℕ) → LeavesUnfinished w n → LeavesUnfinished w m → n ≡ m
-same_finished w n m x y = elim (cases_lt n (length w)) [
-  | inl l ↦ y.only n (x.rest l)
-  | inr l ↦ elim (cases_lt m (length w)) [
-    | inl k ↦ sym (x.only m (y.rest k))
-    | inr k ↦ omega (arith, l, k, x.within, y.within)
-  ]
-]
-
 index_after : (w : List ℕ) (k j at : ℕ) → k + j ≡ at → slice_index (drop k w) j ≡ slice_index w at
 index_after w k j at e = get_or-drop k w j 0 ∙ ap (slice_index w) e
 

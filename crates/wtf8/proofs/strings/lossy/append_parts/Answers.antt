@@ -1,4 +1,4 @@
-use Rattle.wtf8.proofs.Common.{[], ◌≡◌, ◌+◌, ◌≤◌, ◌++◌, length, take, drop, ap, sym, refl, ◌∙◌, arith, false≢true, take_rest, length-drop, Some, None}
+use Rattle.wtf8.proofs.Common.{[], ◌≡◌, ◌++◌, length, take, drop, ap, sym, refl, ◌∙◌, arith, false≢true, take_rest, length-drop, Some, None}
 use Rattle.std.specs.Str.Lossy.{replacement_bytes, utf8_lossy, utf8_error_len}
 use Rattle.wtf8.proofs.lemmas.strings.LossyTexts.{begins_after, error_within, last_part, part_within, parts_begin, parts_next, text_whole}
 use Rattle.wtf8.proofs.lemmas.strings.LossyTexts.{text_after, text_after_wrong, text_at_end}

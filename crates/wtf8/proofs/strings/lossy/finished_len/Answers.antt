@@ -1,4 +1,4 @@
-use Rattle.wtf8.proofs.Common.{ℕ, ◌-◌, ◌≤◌, ◌<◌, arith, drop, length, false≢true, slice_index, subst, sym, take_rest, ◌∙◌}
+use Rattle.wtf8.proofs.Common.{ℕ, ◌-◌, arith, drop, false≢true, subst, sym, take_rest, ◌∙◌}
 use Rattle.wtf8.proofs.lemmas.strings.LossyTexts.{begins_last, none_begins, none_left_out}
 use Rattle.wtf8.specs.Utf8.{IsUnfinished}
 use Rattle.wtf8.proofs.strings.lossy.finished_len.Goals as goal

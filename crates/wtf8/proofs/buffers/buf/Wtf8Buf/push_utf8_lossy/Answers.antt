@@ -1,4 +1,4 @@
-use Rattle.wtf8.proofs.Common.{◌++◌, ap, arith, length, on_ok_weaker, refl, subst, sym, units, chars, ExtendsFormOrKeeps, IsFront, UnitString, rules}
+use Rattle.wtf8.proofs.Common.{arith, length, on_ok_weaker, refl, subst, sym, units, chars, ExtendsFormOrKeeps, IsFront, rules}
 use Rattle.std.specs.Str.Lossy.{utf8_lossy}
 use Rattle.wtf8.proofs.lemmas.strings.ExtendedForms.{units_appended, kept_contents, room_found, utf8_prefix_after_append, scalar_text}
 use Rattle.wtf8.proofs.lemmas.strings.ExtendedForms.{well_formed_text}
