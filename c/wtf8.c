@@ -88,6 +88,8 @@ DECLARE(wtf8_result, push_units, handle *, const uint16_t *, size_t)
 DECLARE(wtf8_result, push_latin1, handle *, const uint8_t *, size_t)
 DECLARE(wtf8_result, push_utf8, handle *, const uint8_t *, size_t, size_t *)
 DECLARE(wtf8_result, push_utf8_part, handle *, const uint8_t *, size_t, size_t *, size_t *)
+DECLARE(wtf8_result, push_utf8_lossy, handle *, const uint8_t *, size_t)
+DECLARE(wtf8_result, push_utf8_lossy_part, handle *, const uint8_t *, size_t, size_t *)
 DECLARE(wtf8_result, push_string, handle *, handle *)
 DECLARE(wtf8_result, push_slice, handle *, handle *, size_t, size_t)
 DECLARE(size_t, unit_len, handle *)
@@ -251,6 +253,10 @@ DEFINE_CHANGE(push_latin1, (wtf8_string *string, const uint8_t *text, size_t n),
               (&changed, n ? text : (const uint8_t *)nothing, n))
 DEFINE_CHANGE(push_utf8_part, (wtf8_string *string, const uint8_t *text, size_t n, size_t *used, size_t *bad),
               (string, text, n, used, bad), (&changed, n ? text : (const uint8_t *)nothing, n, used, bad))
+DEFINE_CHANGE(push_utf8_lossy, (wtf8_string *string, const uint8_t *text, size_t n), (string, text, n),
+              (&changed, n ? text : (const uint8_t *)nothing, n))
+DEFINE_CHANGE(push_utf8_lossy_part, (wtf8_string *string, const uint8_t *text, size_t n, size_t *used),
+              (string, text, n, used), (&changed, n ? text : (const uint8_t *)nothing, n, used))
 DEFINE_CHANGE(truncate_bytes, (wtf8_string *string, size_t position), (string, position), (&changed, position))
 DEFINE_CHANGE(truncate_units, (wtf8_string *string, size_t n), (string, n), (&changed, n))
 DEFINE_CHANGE(pop, (wtf8_string *string, uint32_t *code_point), (string, code_point), (&changed, code_point))

@@ -215,6 +215,18 @@ wtf8_result wtf8_push_utf8(wtf8_string *string, const uint8_t *text, size_t n, s
 WTF8_CODE WTF8_CHANGES(1) WTF8_READS(2, 3) WTF8_WRITES(4) WTF8_WRITES(5)
 wtf8_result wtf8_push_utf8_part(wtf8_string *string, const uint8_t *text, size_t n, size_t *used, size_t *bad);
 
+/* `n` bytes read as UTF-8, with U+FFFD for each maximal part that is not, as decoders of browsers and Python's
+ * errors="replace" do: one for each byte that begins no code point, one for the bytes of a code point that is cut short.
+ * Never refused if that fits. Codes: OK, NO_MEMORY. Since 0.2.0. */
+WTF8_CODE WTF8_CHANGES(1) WTF8_READS(2, 3)
+wtf8_result wtf8_push_utf8_lossy(wtf8_string *string, const uint8_t *text, size_t n);
+
+/* The same of a part of a stream: a code point that is unfinished at its end, of at most 3 bytes, is left out. The number of
+ * bytes before it is written to `*used`: the others go before the next part, and after the last one to
+ * wtf8_push_utf8_lossy. Codes: OK, NO_MEMORY. Since 0.2.0. */
+WTF8_CODE WTF8_CHANGES(1) WTF8_READS(2, 3) WTF8_WRITES(4)
+wtf8_result wtf8_push_utf8_lossy_part(wtf8_string *string, const uint8_t *text, size_t n, size_t *used);
+
 /* Another string. Never refused if it fits, unless both are one string. Codes: OK, NO_MEMORY. */
 WTF8_CODE WTF8_CHANGES(1)
 wtf8_result wtf8_push_string(wtf8_string *string, const wtf8_string *other);

@@ -159,6 +159,13 @@ public:
         check(wtf8_push_utf8_part(get(), raw(text.data()), text.size(), &used, &bad));
         return used;
     }
+    string &append_lossy(text_in text) { return done(wtf8_push_utf8_lossy(get(), raw(text.data()), text.size())); }
+    /* All but a code point that is unfinished at the end. Returns the number of bytes before it. */
+    size_t append_lossy_part(text_in text) {
+        size_t used = 0;
+        check(wtf8_push_utf8_lossy_part(get(), raw(text.data()), text.size(), &used));
+        return used;
+    }
     string &append(const string &other) { return done(wtf8_push_string(get(), other.get())); }
     string &append(const string &other, size_t begin, size_t end) {
         return done(wtf8_push_slice(get(), other.get(), begin, end));

@@ -173,6 +173,11 @@ WTF8_TELLS_AFTER(push_utf8_part, (wtf8_string *string, const uint8_t *text, size
                      wtf8_wrote(used, sizeof *used);
                      wtf8_wrote(bad, sizeof *bad);
                  })
+WTF8_TELLS_CODE(push_utf8_lossy, (wtf8_string *string, const uint8_t *text, size_t n), (string, text, n),
+           wtf8_changes(string); wtf8_reads(text, n))
+WTF8_TELLS_AFTER(push_utf8_lossy_part, (wtf8_string *string, const uint8_t *text, size_t n, size_t *used),
+                 (string, text, n, used), wtf8_changes(string); wtf8_reads(text, n);
+                 wtf8_may_write(used, sizeof *used), if (code == WTF8_OK) wtf8_wrote(used, sizeof *used))
 WTF8_TELLS_CODE(push_string, (wtf8_string *string, const wtf8_string *other), (string, other),
            wtf8_changes(string); wtf8_asks(other))
 WTF8_TELLS_CODE(push_slice, (wtf8_string *string, const wtf8_string *other, size_t begin, size_t end),
@@ -300,6 +305,8 @@ WTF8_TELLS_AFTER(copy_lossy, (const wtf8_string *string, uint8_t *out, size_t si
 #define wtf8_push_latin1 wtf8_told_push_latin1
 #define wtf8_push_utf8 wtf8_told_push_utf8
 #define wtf8_push_utf8_part wtf8_told_push_utf8_part
+#define wtf8_push_utf8_lossy wtf8_told_push_utf8_lossy
+#define wtf8_push_utf8_lossy_part wtf8_told_push_utf8_lossy_part
 #define wtf8_push_string wtf8_told_push_string
 #define wtf8_push_slice wtf8_told_push_slice
 #define wtf8_unit_len wtf8_told_unit_len

@@ -306,6 +306,10 @@ static void test_failures() {
     size_t bad = 77;
     must(s.append_utf8_part("z\xE4\xB8z", bad) == 1 && bad == 2 && s.units() == mixed + u"z", "append_utf8_part");
     s.truncate_units(mixed.size());
+    must(s.append_lossy_part("z\xE4\xB8z\xF0\x9F") == 4 && s.units() == mixed + u"z\uFFFDz", "append_lossy_part");
+    s.truncate_units(mixed.size());
+    must(s.append_lossy("z\xE4\xB8z\xF0\x9F").units() == mixed + u"z\uFFFDz\uFFFD", "append_lossy");
+    s.truncate_units(mixed.size());
     must(fails([&] { s.assign_utf8("\xC3\xA9\xED\xA0\x80"); }, WTF8_NOT_UTF8, 2) && s.units() == mixed, "NOT_UTF8");
     must(fails([] { (void)string::from_utf8("\xC3"); }, WTF8_NOT_UTF8, 0), "NOT_UTF8");
     must(fails([&] { (void)s.utf8(); }, WTF8_HAS_SURROGATE) && s.units() == mixed, "HAS_SURROGATE");
@@ -440,6 +444,8 @@ static void test_refusals() {
         [](string &s) { s.append_utf8("y"); },
         [](string &s) { s.append_latin1("\xE9"); },
         [](string &s) { size_t bad; s.append_utf8_part("y\xFF", bad); },
+        [](string &s) { s.append_lossy("y\xFF"); },
+        [](string &s) { s.append_lossy_part("y\xFF"); },
         [](string &s) { s.append(s); },
         [&](string &s) { s.append(other); },
         [&](string &s) { s.append(other, 1, 102); },

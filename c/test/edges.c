@@ -141,6 +141,97 @@ static void no_utf8_after_wide_letters(void) {
     wtf8_free(&string);
 }
 
+/* Bytes, their text as CPython's bytes.decode("utf-8", "replace") gives it, and the number of bytes before those that its
+ * incremental decoder keeps for the next part, for which the text ends with U+FFFD. */
+static const struct {
+    const char *bytes;
+    size_t len;
+    const char *text;
+    size_t text_len, used;
+} replaced[] = {
+    {TEXT(""), TEXT(""), 0},
+    {TEXT("abc"), TEXT("abc"), 3},
+    {TEXT("\377"), TEXT("\357\277\275"), 1},
+    {TEXT("\303"), TEXT("\357\277\275"), 0},
+    {TEXT("\344\270\255\360\237\222a"), TEXT("\344\270\255\357\277\275a"), 7},
+    {TEXT("a\355\240\200b"), TEXT("a\357\277\275\357\277\275\357\277\275b"), 5},
+    {TEXT("\360\200\200\200"), TEXT("\357\277\275\357\277\275\357\277\275\357\277\275"), 4},
+    {TEXT("\303\303\251\200"), TEXT("\357\277\275\303\251\357\277\275"), 4},
+    {TEXT("\364\220\200\350\214"), TEXT("\357\277\275\357\277\275\357\277\275\357\277\275"), 3},
+    {TEXT("\360\237\222\360\237\222\251\360\237"), TEXT("\357\277\275\360\237\222\251\357\277\275"), 7},
+    {TEXT("\350\214\266\350\214\266\350\214\350\214\266\360\237\222"), TEXT("\350\214\266\350\214\266\357\277\275\350\214\266\357\277\275"), 11},
+    {TEXT("\200\277\300\257\340\200\257\365\376"), TEXT("\357\277\275\357\277\275\357\277\275\357\277\275\357\277\275\357\277\275\357\277\275\357\277\275\357\277\275"), 9},
+    {TEXT("\342\202\342\202\254X\340\240"), TEXT("\357\277\275\342\202\254X\357\277\275"), 6},
+    {TEXT("\355\237"), TEXT("\357\277\275"), 0},
+    {TEXT("\364\217\277"), TEXT("\357\277\275"), 0},
+    {TEXT("\364\220"), TEXT("\357\277\275\357\277\275"), 2},
+    {TEXT("\302\302"), TEXT("\357\277\275\357\277\275"), 1},
+    {TEXT("\340\237\277"), TEXT("\357\277\275\357\277\275\357\277\275"), 3},
+    {TEXT("\370\210\200\200\200"), TEXT("\357\277\275\357\277\275\357\277\275\357\277\275\357\277\275"), 5}
+};
+
+/* The bytes after `front` letters, with just room for their text and every request refused, then without a byte of it. */
+static void replaced_after(size_t front) {
+    enum { LONGEST = 128 };
+    for (size_t i = 0; i < sizeof replaced / sizeof replaced[0]; i++) {
+        uint8_t bytes[LONGEST], text[LONGEST];
+        size_t len = front + replaced[i].len, text_len = front + replaced[i].text_len, used = 77;
+        size_t part_len = text_len - (replaced[i].used < replaced[i].len ? 3 : 0);
+        memcpy(bytes, letters, front);
+        memcpy(bytes + front, replaced[i].bytes, replaced[i].len);
+        memcpy(text, letters, front);
+        memcpy(text + front, replaced[i].text, replaced[i].text_len);
+        uint8_t *array = array_of(bytes, len);
+        for (int is_part = 0; is_part < 2; is_part++) {
+            for (size_t lacking = 0; lacking < 2; lacking++) {
+                wtf8_string string = WTF8_EMPTY;
+                size_t all = is_part ? part_len : text_len;
+                must(wtf8_reserve_bytes(&string, all) == WTF8_OK, "room for replaced bytes");
+                size_t before = wtf8_capacity(&string) - all + (all > 0 ? lacking : 0);
+                must(wtf8_push_utf8(&string, letters, before, NULL) == WTF8_OK, "letters before replaced bytes");
+                long requested = requests;
+                used = 77;
+                refuse_after = 0;
+                wtf8_result code = is_part ? wtf8_push_utf8_lossy_part(&string, len ? array : NULL, len, &used)
+                                           : wtf8_push_utf8_lossy(&string, len ? array : NULL, len);
+                refuse_after = -1;
+                if (all > 0 && lacking) {
+                    must(code == WTF8_NO_MEMORY && used == 77, "replaced bytes that lack a byte");
+                    must(wtf8_equal_utf8(&string, letters, before), "the letters before them");
+                } else {
+                    must(code == WTF8_OK && requests == requested, "replaced bytes that fit");
+                    must(!is_part || used == front + replaced[i].used, "the bytes before an unfinished code point");
+                    must(wtf8_byte_len(&string) == before + all, "the length of replaced bytes");
+                    must(wtf8_truncate_bytes(&string, before) == WTF8_OK && wtf8_equal_utf8(&string, letters, before),
+                         "the letters before replaced bytes");
+                }
+                wtf8_clear(&string);
+                code = is_part ? wtf8_push_utf8_lossy_part(&string, len ? array : NULL, len, &used)
+                               : wtf8_push_utf8_lossy(&string, len ? array : NULL, len);
+                must(code == WTF8_OK && wtf8_equal_utf8(&string, text, all), "the text of replaced bytes");
+                wtf8_free(&string);
+            }
+        }
+        must_begin(array, len, bytes, len, "the replaced bytes themselves");
+    }
+}
+
+/* Replaced bytes are cut anywhere: what a part left is before the next one. */
+static void replaced_in_parts(void) {
+    for (size_t i = 0; i < sizeof replaced / sizeof replaced[0]; i++) {
+        for (size_t cut = 0; cut <= replaced[i].len; cut++) {
+            wtf8_string string = WTF8_EMPTY;
+            const uint8_t *bytes = (const uint8_t *)replaced[i].bytes;
+            size_t used = 77;
+            must(wtf8_push_utf8_lossy_part(&string, bytes, cut, &used) == WTF8_OK && used <= cut && cut <= used + 3,
+                 "the first part");
+            must(wtf8_push_utf8_lossy(&string, bytes + used, replaced[i].len - used) == WTF8_OK, "the second part");
+            must(wtf8_equal_utf8(&string, (const uint8_t *)replaced[i].text, replaced[i].text_len), "both parts");
+            wtf8_free(&string);
+        }
+    }
+}
+
 /* As CPython 3.11 hashes the seeds' 16 bytes, the string's and FE, by SipHash-1-3, if its key is 0:
  * PYTHONHASHSEED=0 python3 -c 'print("%016X" % (hash(bytes(16) + b"\xED\xA0\xBD\xFE") % 2**64))' for the seeds 0. */
 static const struct {
@@ -1555,6 +1646,8 @@ int main(void) {
     memset(letters, 'a', LETTERS);
     code_points();
     for (size_t front = 0; front <= 70; front++) utf8_after(front);
+    for (size_t front = 0; front <= 70; front++) replaced_after(front);
+    replaced_in_parts();
     no_utf8_after_wide_letters();
     sip_vectors();
     hash();

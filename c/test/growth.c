@@ -91,6 +91,8 @@ int main(int argc, char **argv) {
     COUNT_OK(push_latin1, wtf8_push_latin1(&s, (const uint8_t *)"abcdefghijkl", FEW));
     COUNT_OK(push_utf8, wtf8_push_utf8(&s, text, FEW, NULL));
     COUNT_OK(push_utf8_part, wtf8_push_utf8_part(&s, text, FEW, &len, &position));
+    COUNT_OK(push_utf8_lossy, wtf8_push_utf8_lossy(&s, text, FEW));
+    COUNT_OK(push_utf8_lossy_part, wtf8_push_utf8_lossy_part(&s, text, FEW, &len));
     COUNT_OK(push_string, wtf8_push_string(&s, &part));
     COUNT_OK(push_slice, wtf8_push_slice(&part, &same, index, index + FEW));
     COUNT_OK(reserve_bytes, wtf8_reserve_bytes(&s, 99));

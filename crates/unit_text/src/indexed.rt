@@ -10,6 +10,7 @@ ghost use Rattle.wtf8.specs.UnitMark.{IsMark};
 ghost use Rattle.wtf8.specs.UnitPosition.{units_of_slice, DividesPair};
 ghost use Rattle.wtf8.specs.UnitString.{UnitString, unit_string_code};
 ghost use Rattle.wtf8.specs.Units.{unread_units};
+ghost use Rattle.wtf8.specs.Utf8.{LeavesUnfinished, lossy_chars};
 ghost use Rattle.wtf8.specs.View.{view_points, view_units};
 ghost use Rattle.unit_text.specs.Positions.{AreUnitsBefore};
 
@@ -421,6 +422,45 @@ impl<A: Allocator> IndexedBuf<A> {
         let more = Wtf8::from_str(other).unit_len();
         marks::count_more(&self.text, &mut self.count, &mut self.marks, more);
         Ok(())
+    }
+
+    /// Appends bytes read as UTF-8, with U+FFFD for each maximal part that is not, as `String::from_utf8_lossy` of the
+    /// standard library does, and counts the units. If memory is refused, the string is unchanged.
+    pub fn push_utf8_lossy(&mut self, text: &[u8]) -> Result<(), AllocError>
+        ensures ok { OnOk result (AppendsUnits self.old (units (lossy_chars text.now)) self.new) }
+        ensures kept { OnErr result (KeepsContents self.old self.new) }
+
+        // A push whose bytes fit is never refused, nor are no bytes, and the capacity never shrinks.
+        ensures room { HasRoomFor self.old (units (lossy_chars text.now)) → IsOk result }
+        ensures empty { text.now ≡ [] → IsOk result }
+        ensures capacity { self.old.capacity ≤ self.new.capacity }
+    {
+        let begin = self.text.len();
+        self.text.push_utf8_lossy(text)?;
+        let more = self.text.as_wtf8().slice_from(begin).unit_len();
+        marks::count_more(&self.text, &mut self.count, &mut self.marks, more);
+        Ok(())
+    }
+
+    /// Appends bytes as `push_utf8_lossy` does, but leaves out a code point that is unfinished at their end, at most three
+    /// bytes: these go before the bytes that come next, so that a text may be cut anywhere. Returns how many are before
+    /// them. If memory is refused, the string is unchanged.
+    pub fn push_utf8_lossy_part(&mut self, text: &[u8]) -> Result<usize, AllocError>
+        ensures used { IfOk result (LeavesUnfinished text.now) }
+        ensures few { IfOk result (λ used. length text.now ≤ used + 3) }
+        ensures ok { IfOk result (λ used. AppendsUnits self.old (units (lossy_chars (take used text.now))) self.new) }
+        ensures kept { OnErr result (KeepsContents self.old self.new) }
+
+        // A push whose bytes fit is never refused, nor are no bytes, and the capacity never shrinks.
+        ensures room { (used : ℕ) → LeavesUnfinished text.now used → HasRoomFor self.old (units (lossy_chars (take used text.now))) → IsOk result }
+        ensures empty { text.now ≡ [] → IsOk result }
+        ensures capacity { self.old.capacity ≤ self.new.capacity }
+    {
+        let begin = self.text.len();
+        let used = self.text.push_utf8_lossy_part(text)?;
+        let more = self.text.as_wtf8().slice_from(begin).unit_len();
+        marks::count_more(&self.text, &mut self.count, &mut self.marks, more);
+        Ok(used)
     }
 
     /// Appends code units, paired or not. If memory is refused, the string is unchanged.

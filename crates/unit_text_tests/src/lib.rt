@@ -12,6 +12,8 @@ mod indexed_memory;
 #[cfg(test)]
 mod lengths;
 #[cfg(test)]
+mod lossy;
+#[cfg(test)]
 mod mark_requests;
 #[cfg(test)]
 mod marks;

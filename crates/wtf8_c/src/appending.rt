@@ -1,9 +1,10 @@
 // Calls that append.
-ghost use Rattle.std.specs.Prelude.{◌≡◌, ◌∷◌, [], ◌≤◌, ◌⊎◌, ◌↔◌, length};
+ghost use Rattle.std.specs.Prelude.{◌≡◌, ◌+◌, ◌∷◌, [], ◌≤◌, ◌⊎◌, ◌↔◌, ℕ, length, take};
 ghost use Rattle.std.specs.Str.{chars, IsUtf8};
 ghost use Rattle.std.specs.Str.Lossy.{utf8_valid_len};
 ghost use Rattle.wtf8.specs.Appending.{AppendsUnits, KeepsContents, HasRoomFor};
 ghost use Rattle.wtf8.specs.Unicode.{IsCodePoint, units, units_of};
+ghost use Rattle.wtf8.specs.Utf8.{LeavesUnfinished, lossy_chars};
 ghost use Rattle.wtf8_c.specs.Utf8Front.{utf8_front, bad_len};
 ghost use Rattle.wtf8_c.specs.Kept.{IsKept};
 
@@ -120,6 +121,44 @@ pub extern "C" fn wtf8_push_utf8_part(
     }
     *used = front.len();
     *bad = after;
+    OK
+}
+
+/// Appends bytes read as UTF-8, with U+FFFD for each maximal part that is not.
+#[unsafe(no_mangle)]
+pub extern "C" fn wtf8_push_utf8_lossy(string: &mut Wtf8String, text: &[u8]) -> i32
+    ensures code { (result ≡ OK) ⊎ (result ≡ NO_MEMORY) }
+    ensures ok { result ≡ OK → AppendsUnits string.old.buf (units (lossy_chars text.now)) string.new.buf }
+    ensures kept { result ≡ NO_MEMORY → KeepsContents string.old.buf string.new.buf }
+    ensures room { HasRoomFor string.old.buf (units (lossy_chars text.now)) → result ≡ OK }
+    ensures capacity { string.old.buf.capacity ≤ string.new.buf.capacity }
+    ensures lies { string.new.at ≡ string.old.at }
+{
+    code_of(string.buffer().push_utf8_lossy(text))
+}
+
+/// Appends bytes as `wtf8_push_utf8_lossy` does, but leaves out a code point that is unfinished at their end. The number of
+/// bytes before it is written to `used`.
+#[unsafe(no_mangle)]
+pub extern "C" fn wtf8_push_utf8_lossy_part(
+    string: &mut Wtf8String,
+    text: &[u8],
+    used: &mut usize,
+) -> i32
+    ensures code { (result ≡ OK) ⊎ (result ≡ NO_MEMORY) }
+    ensures used { result ≡ OK → LeavesUnfinished text.now used.new }
+    ensures few { result ≡ OK → length text.now ≤ used.new + 3 }
+    ensures ok { result ≡ OK → AppendsUnits string.old.buf (units (lossy_chars (take used.new text.now))) string.new.buf }
+    ensures kept { result ≡ NO_MEMORY → KeepsContents string.old.buf string.new.buf }
+    ensures room { (n : ℕ) → LeavesUnfinished text.now n → HasRoomFor string.old.buf (units (lossy_chars (take n text.now))) → result ≡ OK }
+    ensures capacity { string.old.buf.capacity ≤ string.new.buf.capacity }
+    ensures lies { string.new.at ≡ string.old.at }
+    ensures used_kept { result ≡ NO_MEMORY → used.new ≡ used.old }
+{
+    let Ok(n) = string.buffer().push_utf8_lossy_part(text) else {
+        return NO_MEMORY;
+    };
+    *used = n;
     OK
 }
 

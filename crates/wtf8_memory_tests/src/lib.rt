@@ -10,6 +10,8 @@ mod lengths;
 #[cfg(test)]
 mod lists;
 #[cfg(test)]
+mod lossy;
+#[cfg(test)]
 mod making;
 #[cfg(test)]
 mod no_requests;

@@ -25,6 +25,8 @@ mod hints;
 #[cfg(test)]
 mod long_texts;
 #[cfg(test)]
+mod lossy_bytes;
+#[cfg(test)]
 mod marks;
 #[cfg(test)]
 mod ordering;

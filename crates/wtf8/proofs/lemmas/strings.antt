@@ -1,5 +1,6 @@
 pub mod Concatenation
 pub mod ExtendedForms
+pub mod LossyTexts
 pub mod PositionLaws
 pub mod Positions
 pub mod PushedUnits

@@ -16,6 +16,7 @@ ghost use Rattle.std.specs.Option.{option_to_list};
 ghost use Rattle.wtf8.specs.UnitMark.{IsMark, RoundsDownTo};
 ghost use Rattle.wtf8.specs.UnitPosition.{units_of_slice, TruncatesUnits};
 ghost use Rattle.wtf8.specs.UnitString.{UnitString, unit_string_code};
+ghost use Rattle.wtf8.specs.Utf8.{LeavesUnfinished, lossy_chars};
 ghost use Rattle.wtf8.specs.View.{view_points, view_units};
 
 use crate::codec::code_point::CodePoint;
@@ -23,7 +24,7 @@ use crate::codec::encoding;
 use crate::from_utf16::transcode;
 use crate::lanes::search;
 use crate::strings::appending;
-use crate::strings::lossy::replace_surrogates;
+use crate::strings::lossy::{self, replace_surrogates};
 use crate::strings::utf8_prefix::Utf8Prefix;
 use crate::strings::view::Wtf8;
 use crate::units::counts::UnitCursor;
@@ -282,6 +283,42 @@ impl<A: Allocator> Wtf8Buf<A> {
         ensures nothing { other.now ≡ [] → KeepsContents self.old self.new }
     {
         appending::push_str(&mut self.bytes, other)
+    }
+
+    /// Appends bytes read as UTF-8, with U+FFFD for each maximal part that is not, as `String::from_utf8_lossy` of the
+    /// standard library does. If memory is refused, the string is unchanged. Amortized linear in their number.
+    pub fn push_utf8_lossy(&mut self, text: &[u8]) -> Result<(), AllocError>
+        ensures ok { OnOk result (AppendsUnits self.old (units (lossy_chars text.now)) self.new) }
+        ensures kept { OnErr result (KeepsContents self.old self.new) }
+
+        ensures room { HasRoomFor self.old (units (lossy_chars text.now)) → IsOk result }
+        ensures empty { text.now ≡ [] → IsOk result }
+        ensures capacity { self.old.capacity ≤ self.new.capacity }
+
+        // What is appended begins at a boundary.
+        ensures front { OnOk result (IsFront self.new.units (length self.old.bytes) self.old.units) }
+    {
+        lossy::push_lossy(&mut self.bytes, text)
+    }
+
+    /// Appends bytes as `push_utf8_lossy` does, but leaves out a code point that is unfinished at their end, at most three
+    /// bytes: these go before the bytes that come next, so that a text may be cut anywhere. Returns how many are before
+    /// them. If memory is refused, the string is unchanged.
+    pub fn push_utf8_lossy_part(&mut self, text: &[u8]) -> Result<usize, AllocError>
+        ensures used { IfOk result (LeavesUnfinished text.now) }
+        ensures few { IfOk result (λ used. length text.now ≤ used + 3) }
+        ensures ok { IfOk result (λ used. AppendsUnits self.old (units (lossy_chars (take used text.now))) self.new) }
+        ensures kept { OnErr result (KeepsContents self.old self.new) }
+
+        ensures room { (used : ℕ) → LeavesUnfinished text.now used → HasRoomFor self.old (units (lossy_chars (take used text.now))) → IsOk result }
+        ensures empty { text.now ≡ [] → IsOk result }
+        ensures capacity { self.old.capacity ≤ self.new.capacity }
+
+        ensures front { OnOk result (IsFront self.new.units (length self.old.bytes) self.old.units) }
+    {
+        let used = lossy::finished_len(text);
+        self.push_utf8_lossy(&text[..used])?;
+        Ok(used)
     }
 
     /// Appends another string. A trail surrogate at its front completes a lead surrogate at the end: the two become one

@@ -109,7 +109,10 @@ pub(crate) fn push<A: Allocator>(
     }
 }
 
-fn append_bytes<A: Allocator>(bytes: &mut Vec<u8, A>, other: &[u8]) -> Result<(), AllocError>
+pub(crate) fn append_bytes<A: Allocator>(
+    bytes: &mut Vec<u8, A>,
+    other: &[u8],
+) -> Result<(), AllocError>
     ensures { BecomesOrKeeps bytes.old (bytes.old.items ++ other.now) bytes.new result }
 {
     bytes.extend_from_slice(other)

@@ -1,12 +1,24 @@
-// Lossy text: U+FFFD in place of each surrogate.
-ghost use Rattle.std.specs.Prelude.{◌≡◌, ◌∷◌, ◌++◌, ◌+◌, ◌≤◌, length, take, drop};
+// Lossy text: U+FFFD in place of each surrogate, and of each part of bytes that is not UTF-8.
+ghost use Rattle.std.specs.Prelude.{◌≡◌, ◌∷◌, ◌++◌, ◌+◌, ◌≤◌, [], length, take, drop, OnOk, IsOk, vec_capacity, IsTrue, ◌↔◌};
+ghost use Rattle.std.specs.Str.{chars};
+ghost use Rattle.std.specs.Str.Lossy.{utf8_lossy, replacement_bytes};
 ghost use Rattle.wtf8.specs.Form.{IsWellFormed, bytes as bytes_of};
 ghost use Rattle.wtf8.specs.Surrogates.{lossy_points};
+ghost use Rattle.wtf8.specs.Unicode.{units};
+ghost use Rattle.wtf8.specs.Utf8.{IsUnfinished, LeavesUnfinished};
+ghost use Rattle.wtf8.specs.private.EncodedBytes.{ExtendsForm, BecomesOrKeeps};
 
 use crate::lanes::search::next_surrogate;
+use crate::lanes::utf8::from_utf8;
+use crate::strings::appending::append_bytes;
+use crate::vec::push_block;
+use std::alloc::{AllocError, Allocator};
 
 /// The encoding of U+FFFD, the replacement character: three bytes, like the encoding of each surrogate.
 const REPLACEMENT: [u8; 3] = [0xEF, 0xBF, 0xBD];
+
+/// The most bytes of an unfinished code point.
+const MOST_UNFINISHED: usize = 3;
 
 fn write_replacement(bytes: &mut [u8], at: usize)
     requires { at + 3 ≤ length bytes.old }
@@ -24,4 +36,87 @@ pub(crate) fn replace_surrogates(bytes: &mut [u8])
         write_replacement(bytes, found);
         from = found + 3;
     }
+}
+
+/// Appends the text, then U+FFFD.
+#[inline(always)]
+fn append_with_replacement<A: Allocator>(
+    bytes: &mut Vec<u8, A>,
+    text: &[u8],
+) -> Result<(), AllocError>
+    ensures { BecomesOrKeeps bytes.old (bytes.old.items ++ (text.now ++ replacement_bytes)) bytes.new result }
+{
+    bytes.reserve(text.len() + REPLACEMENT.len())?;
+    bytes.extend_from_slice(text)?;
+    push_block(bytes, REPLACEMENT);
+    Ok(())
+}
+
+/// Appends bytes read as UTF-8, with U+FFFD for each maximal part that is not. If memory is refused, some parts may have
+/// been appended.
+fn append_parts<A: Allocator>(bytes: &mut Vec<u8, A>, text: &[u8]) -> Result<(), AllocError>
+    ensures ok { OnOk result (bytes.new.items ≡ bytes.old.items ++ utf8_lossy text.now) }
+    ensures begins { take (length bytes.old.items) bytes.new.items ≡ bytes.old.items }
+    ensures room { length (bytes.old.items ++ utf8_lossy text.now) ≤ vec_capacity bytes.old → IsOk result }
+    ensures capacity { vec_capacity bytes.old ≤ vec_capacity bytes.new }
+{
+    let mut rest = text;
+    'parts: loop {
+        let Err(error) = from_utf8(rest) else {
+            return append_bytes(bytes, rest);
+        };
+        let (valid, after) = rest.split_at(error.valid_up_to());
+        append_with_replacement(bytes, valid)?;
+        rest = match error.error_len() {
+            Some(wrong) => &after[wrong..],
+            None => &[],
+        };
+    }
+}
+
+/// Appends bytes read as UTF-8, with U+FFFD for each maximal part that is not.
+pub(crate) fn push_lossy<A: Allocator>(
+    bytes: &mut Vec<u8, A>,
+    text: &[u8],
+) -> Result<(), AllocError>
+    requires { IsWellFormed bytes.old.items }
+    ensures units { ExtendsForm bytes.old.items (bytes.old.items ++ utf8_lossy text.now) (units (chars (utf8_lossy text.now))) }
+    ensures bytes { BecomesOrKeeps bytes.old (bytes.old.items ++ utf8_lossy text.now) bytes.new result }
+    ensures empty { text.now ≡ [] → IsOk result }
+{
+    let len = bytes.len();
+    let appended = append_parts(bytes, text);
+    if appended.is_err() {
+        bytes.truncate(len);
+    }
+    appended
+}
+
+fn is_unfinished(text: &[u8]) -> bool
+    ensures { IsTrue result ↔ IsUnfinished text.now }
+{
+    match from_utf8(text) {
+        Ok(_) => false,
+        Err(error) => error.valid_up_to() == 0 && error.error_len().is_none(),
+    }
+}
+
+/// The number of bytes before the code point that is unfinished at the end, if one is. It can only begin at the last of
+/// the lead bytes.
+pub(crate) fn finished_len(text: &[u8]) -> usize
+    ensures all { LeavesUnfinished text.now result }
+    ensures few { length text.now ≤ result + MOST_UNFINISHED }
+{
+    let first = text.len().saturating_sub(MOST_UNFINISHED);
+    let mut at = text.len();
+    while first < at {
+        at -= 1;
+        if 0xC0 <= text[at] {
+            if is_unfinished(&text[at..]) {
+                return at;
+            }
+            return text.len();
+        }
+    }
+    text.len()
 }

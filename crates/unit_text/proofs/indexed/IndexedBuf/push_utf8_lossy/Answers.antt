@@ -1,0 +1,7 @@
+use Rattle.wtf8.specs.Unicode.{units}
+use Rattle.wtf8.specs.Utf8.{lossy_chars}
+use Rattle.unit_text.proofs.indexed.IndexedBuf.push_utf8_lossy.Goals as goal
+
+pub count_more-requires-clause-marks : goal.count_more-requires-clause-marks
+count_more-requires-clause-marks g c =
+    (c.self.inside.text, units (lossy_chars c.args.text.now), (c.in_ok-push_utf8_lossy.ensures.ok, c.self.invariant.1))

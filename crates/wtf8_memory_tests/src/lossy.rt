@@ -1,0 +1,79 @@
+// Bytes read as UTF-8, with U+FFFD for each part that is not, appended with each request for memory refused in turn.
+use crate::shared::{FULL, full};
+use refusing::{Lent, REFUSALS, Refusal, Refusing};
+use std::alloc::{AllocError, Allocator, Global};
+use wtf8::Wtf8Buf;
+use wtf8_tests::wrong::{Failed, Wrong, expect, expect_bytes};
+
+/// Wrong bytes after "ab" and after "cd", and an unfinished code point, which a part leaves out.
+static BYTES: &[u8] = b"ab\xFFcd\xE2\x80efghij\xF0\x9F";
+
+/// The number of bytes before it.
+const USED: usize = 13;
+
+/// The requests of the appended parts: to 9 bytes, twice that, and twice that again.
+const REQUESTS: u64 = 3;
+
+/// "a" and D83D, then the text that CPython's incremental decoder with "replace" makes of the bytes.
+const PART: &str = "61 ED A0 BD 61 62 EF BF BD 63 64 EF BF BD 65 66 67 68 69 6A";
+
+/// The same with U+FFFD at the end.
+const WHOLE: &str = "61 ED A0 BD 61 62 EF BF BD 63 64 EF BF BD 65 66 67 68 69 6A EF BF BD";
+
+/// The number of bytes that the call used.
+fn pushed<A: Allocator>(text: &mut Wtf8Buf<A>, is_part: bool) -> Result<usize, AllocError> {
+    if is_part {
+        return text.push_utf8_lossy_part(BYTES);
+    }
+    text.push_utf8_lossy(BYTES)?;
+    Ok(BYTES.len())
+}
+
+/// Refuses a request after `granted`. Fails unless the call is refused with it, and leaves the string as it was.
+fn expect_refused(
+    alloc: Global,
+    heap: Lent<'_>,
+    is_part: bool,
+    granted: u64,
+    refusal: Refusal,
+) -> Result<(), Failed> {
+    let mut text = full(heap)?;
+    heap.refuse_after(granted, refusal);
+    let is_refused = pushed(&mut text, is_part).is_err();
+    expect(is_refused, Wrong::Outcome)?;
+    expect(heap.requests() == granted.wrapping_add(1), Wrong::Requests)?;
+    expect_bytes(alloc, text.as_wtf8(), FULL)
+}
+
+/// Grants all requests that the call makes.
+fn expect_granted(
+    alloc: Global,
+    heap: Lent<'_>,
+    is_part: bool,
+    (used, dump): (usize, &str),
+) -> Result<(), Failed> {
+    let mut text = full(heap)?;
+    heap.grant(REQUESTS);
+    expect(pushed(&mut text, is_part) == Ok(used), Wrong::Outcome)?;
+    expect(heap.requests() == REQUESTS, Wrong::Requests)?;
+    expect_bytes(alloc, text.as_wtf8(), dump)
+}
+
+fn expect_each_refused(alloc: Global, heap: Lent<'_>, is_part: bool) -> Result<(), Failed> {
+    for refusal in REFUSALS {
+        for granted in 0..REQUESTS {
+            expect_refused(alloc, heap, is_part, granted, refusal)?;
+        }
+    }
+    Ok(())
+}
+
+#[test]
+fn bytes_with_replacement_are_appended_or_refused_whole(rt: HostRuntime) -> Result<(), Failed> {
+    let alloc = rt.alloc();
+    let heap = Refusing::new(alloc, 0);
+    expect_each_refused(alloc, &heap, false)?;
+    expect_each_refused(alloc, &heap, true)?;
+    expect_granted(alloc, &heap, false, (BYTES.len(), WHOLE))?;
+    expect_granted(alloc, &heap, true, (USED, PART))
+}
