@@ -1,9 +1,13 @@
 -- Bytes with others in their middle: the gap, and the form that is written there.
 use Rattle.wtf8.proofs.Common.{◌≡◌, ℕ, ◌+◌, ◌-◌, ◌≤◌, ◌∙◌, List, [], ◌++◌, length, take, drop, arith, ap, sym, subst, refl, append_assoc, append-nil}
 use Rattle.wtf8.proofs.Common.{take_at, drop_at, drop-drop, drop_all, length-take-le, length-append, IsForm, All, IsUnit, All-drop, take-append-drop}
-use Rattle.wtf8.proofs.lemmas.codec.Readings.{same_form}
-use Rattle.wtf8.proofs.lemmas.strings.Concatenation.{one_form}
-use Rattle.wtf8.specs.private.Cuts.{WritesForm}
+use Rattle.wtf8.proofs.Common.{◌*◌, units, bytes, form_of, IsWellFormed, MeetsAsPair}
+use Rattle.wtf8.specs.Editing.{spliced}
+use Rattle.wtf8.specs.private.Cuts.{WritesForm, CutsBefore, CutsAfter}
+use Rattle.wtf8.proofs.lemmas.codec.Readings.{form_append-unpaired, lists_have_lengths, same_form}
+use Rattle.wtf8.proofs.lemmas.strings.Concatenation.{one_form, units_read}
+use Rattle.wtf8.proofs.lemmas.strings.ExtendedForms.{all_back, beginning_of_form}
+use Rattle.wtf8.proofs.lemmas.strings.Positions.{cut_by}
 
 -- Writing the form of a list of units, part by part.
 
@@ -69,3 +73,112 @@ written {old} {now} {at} {to} {read} {v} m all w f =
     let same : m.front ≡ w = sym (append-nil m.front) ∙ same_form (m.front ++ []) w v (m.rest [] none) f in
     m.items ∙ (ap (λ k. take at old ++ (m.front ++ drop k old)) (m.end ∙ ap (λ x. at + length x) same)
     ∙ ap (λ x. take at old ++ (x ++ drop (at + length w) old)) same)
+
+-- Three lists written into a gap, one after the other.
+
+-- at the index after `p`, `x` is written over the first of the bytes after it
+written_after : (p r x s : List ℕ) (at : ℕ) → s ≡ p ++ r → length p ≡ at
+    → take at s ++ (x ++ drop (at + length x) s) ≡ (p ++ x) ++ drop (length x) r
+written_after p r x s at e n =
+    let kept : take at s ≡ p = ap (take at) e ∙ take_at p r at n in
+    let last : drop (at + length x) s ≡ drop (length x) r =
+    sym (drop-drop (length x) at s) ∙ ap (drop (length x)) (ap (drop at) e ∙ drop_at p r at n) in
+    ap (λ k. k ++ (x ++ drop (at + length x) s)) kept ∙ (ap (λ l. p ++ (x ++ l)) last ∙ sym (append_assoc p x (drop (length x) r)))
+
+pub three_written : (old g x y z : List ℕ) {s1 s2 s3 : List ℕ} (begin end at2 at3 n : ℕ) → begin ≤ length old
+    → take begin g ≡ take begin old → drop (begin + n) g ≡ drop end old
+    → at2 ≡ begin + length x → at3 ≡ at2 + length y → begin + n ≡ at3 + length z
+    → s1 ≡ take begin g ++ (x ++ drop (begin + length x) g)
+    → s2 ≡ take at2 s1 ++ (y ++ drop (at2 + length y) s1)
+    → s3 ≡ take at3 s2 ++ (z ++ drop (at3 + length z) s2)
+    → s3 ≡ take begin old ++ ((x ++ (y ++ z)) ++ drop end old)
+three_written old g x y z {s1} {s2} {s3} begin end at2 at3 n within front back e2 e3 all h1 h2 h3 =
+    let k = take begin old in
+    let size : length k ≡ begin = length-take-le begin old within in
+    let r = drop begin g in
+    let whole : g ≡ k ++ r = sym (take-append-drop begin g) ∙ ap (λ f. f ++ r) front in
+    let one : s1 ≡ (k ++ x) ++ drop (length x) r = h1 ∙ written_after k r x g begin whole size in
+    let two : s2 ≡ ((k ++ x) ++ y) ++ drop (length y) (drop (length x) r) =
+    h2 ∙ written_after (k ++ x) (drop (length x) r) y s1 at2 one (omega (arith, length-append k x, size, e2)) in
+    let three : s3 ≡ (((k ++ x) ++ y) ++ z) ++ drop (length z) (drop (length y) (drop (length x) r)) =
+    h3 ∙ written_after ((k ++ x) ++ y) (drop (length y) (drop (length x) r)) z s2 at3 two
+    (omega (arith, length-append k x, length-append (k ++ x) y, size, e2, e3)) in
+    let rest : drop (length z) (drop (length y) (drop (length x) r)) ≡ drop end old =
+    ap (λ l. drop (length z) (drop (length y) l)) (drop-drop (length x) begin g)
+    ∙ (ap (drop (length z)) (drop-drop (length y) (begin + length x) g)
+    ∙ (drop-drop (length z) ((begin + length x) + length y) g
+    ∙ (ap (λ i. drop i g) (omega (arith, e2, e3, all)) ∙ back))) in
+    let d = drop end old in
+    three ∙ (ap (λ l. (((k ++ x) ++ y) ++ z) ++ l) rest
+    ∙ (append_assoc ((k ++ x) ++ y) z d ∙ (append_assoc (k ++ x) y (z ++ d) ∙ (append_assoc k x (y ++ (z ++ d))
+    ∙ ap (λ l. k ++ l) (sym (append_assoc x (y ++ z) d ∙ ap (λ l. x ++ l) (append_assoc y z d)))))))
+
+-- The length of a form, and forms of three lists, one after the other.
+
+pub encoded_bound : {v : List ℕ} {n : ℕ} → All IsUnit v → ((w : List ℕ) → IsForm w v → n ≡ length w) → n ≤ 3 * length v
+encoded_bound {v} {n} u is =
+    let f = one_form v u in
+    omega (
+      arith,
+      is f.one f.has,
+      ap length f.has.encoded,
+      ap length f.has.reads.same_units,
+      (lists_have_lengths f.has.points).units_most,
+    )
+
+-- the form of a whole that is divided where no pair is
+pub record ThreeForms (m a b c : List ℕ) : Type 0 where
+  pub first : List ℕ
+  pub second : List ℕ
+  pub third : List ℕ
+  pub first_form : IsForm first a
+  pub second_form : IsForm second b
+  pub third_form : IsForm third c
+  pub joined : first ++ (second ++ third) ≡ m
+
+pub three_forms : {m u : List ℕ} (a b c : List ℕ) → IsForm m u → a ++ (b ++ c) ≡ u → ¬ (MeetsAsPair a (b ++ c)) → ¬ (MeetsAsPair b c)
+    → ThreeForms m a b c
+three_forms {m} {u} a b c f e n k =
+    let whole : IsForm m (a ++ (b ++ c)) = subst (IsForm m) (sym e) f in
+    let all = units_read whole.points (a ++ (b ++ c)) whole.reads in
+    let x = beginning_of_form a (b ++ c) m whole in
+    let later = all_back a (b ++ c) all in
+    let rest = one_form (b ++ c) later in
+    let y = beginning_of_form b c rest.one rest.has in
+    let z = one_form c (all_back b c later) in
+    record {
+      first = x.whole;
+      second = y.whole;
+      third = z.one;
+      first_form = x.form;
+      second_form = y.form;
+      third_form = z.has;
+      joined = same_form (x.whole ++ (y.whole ++ z.one)) m (a ++ (b ++ c))
+          (form_append-unpaired x.whole (y.whole ++ z.one) a (b ++ c) x.form (form_append-unpaired y.whole z.one b c y.form z.has k) n)
+          whole;
+    }
+
+-- The form of the new units between two cuts.
+
+pub edited : {c w u m : List ℕ} {begin end p q : ℕ} {head tail : List ℕ} (h : IsWellFormed w) → h.points ≡ c → units c ≡ u
+    → CutsBefore c begin p head → CutsAfter c end q tail → (v : List ℕ) → IsForm m (head ++ (v ++ tail))
+    → IsForm (take p w ++ (m ++ drop q w)) (spliced u begin end v)
+edited {c} {w} {u} {m} {begin} {end} {p} {q} {head} {tail} h e same l r v f =
+    let left : IsForm (take p w) (units l.front) = form_of (cut_by h l.front l.back p (e ∙ l.joined) l.front_len).before in
+    let right : IsForm (drop q w) (units r.back) =
+    let cut = (cut_by h r.front r.back q (e ∙ r.joined) r.front_len) in
+    record { points = r.back; reads = record { clean = cut.after.clean; same_units = refl }; encoded = cut.after.encoded } in
+    let middle = head ++ (v ++ tail) in
+    let back : IsForm (m ++ drop q w) (middle ++ units r.back) =
+    form_append-unpaired m (drop q w) middle (units r.back) f right
+    (λ x. r.apart (head ++ v) (subst (λ z. MeetsAsPair z (units r.back)) (sym (append_assoc head v tail)) x)) in
+    let all : IsForm (take p w ++ (m ++ drop q w)) (units l.front ++ (middle ++ units r.back)) =
+    form_append-unpaired (take p w) (m ++ drop q w) (units l.front) (middle ++ units r.back) left back
+    (λ x. l.apart ((v ++ tail) ++ units r.back)
+    (subst (MeetsAsPair (units l.front)) (append_assoc head (v ++ tail) (units r.back)) x)) in
+    let joined : units l.front ++ (middle ++ units r.back) ≡ spliced u begin end v =
+    ap (λ z. units l.front ++ z) (append_assoc head (v ++ tail) (units r.back))
+    ∙ (sym (append_assoc (units l.front) head ((v ++ tail) ++ units r.back))
+    ∙ (ap (λ z. z ++ ((v ++ tail) ++ units r.back)) (l.kept ∙ ap (take begin) same)
+    ∙ ap (λ z. take begin u ++ z) (append_assoc v tail (units r.back) ∙ ap (λ z. v ++ z) (r.kept ∙ ap (drop end) same)))) in
+    subst (IsForm (take p w ++ (m ++ drop q w))) joined all
