@@ -2,11 +2,16 @@
 use Rattle.wtf8.proofs.Common.{◌≡◌, ℕ, ◌+◌, ◌-◌, ◌≤◌, ◌∙◌, List, [], ◌++◌, length, take, drop, arith, ap, sym, subst, refl, append_assoc, append-nil}
 use Rattle.wtf8.proofs.Common.{take_at, drop_at, drop-drop, drop_all, length-take-le, length-append, IsForm, All, IsUnit, All-drop, take-append-drop}
 use Rattle.wtf8.proofs.Common.{◌*◌, units, bytes, form_of, IsWellFormed, MeetsAsPair}
+use Rattle.wtf8.proofs.Common.{Option, Some, None, IfSome, option_to_list, All-nil, All-cons, Result, Ok, Err, OnOk, OnErr, IsOk, UnitString}
+use Rattle.wtf8.proofs.Common.{KeepsContents, FitWithin, AreScalarTo, vec_capacity, on_ok_weaker, on_err_weaker, well_formed_of, bytes-injective}
+use Rattle.std.specs.declared.vec.Vec.{Vec}
 use Rattle.wtf8.specs.Editing.{spliced}
+use Rattle.wtf8.specs.private.EncodedBytes.{BecomesOrKeeps}
+use Rattle.wtf8.proofs.lemmas.codec.Encoding.{bytes-append}
 use Rattle.wtf8.specs.private.Cuts.{WritesForm, CutsBefore, CutsAfter}
-use Rattle.wtf8.proofs.lemmas.codec.Readings.{form_append-unpaired, lists_have_lengths, same_form}
+use Rattle.wtf8.proofs.lemmas.codec.Readings.{form_append-unpaired, lists_have_lengths, same_form, units_from_form, IsWellFormed-equal_bytes}
 use Rattle.wtf8.proofs.lemmas.strings.Concatenation.{one_form, units_read}
-use Rattle.wtf8.proofs.lemmas.strings.ExtendedForms.{all_back, beginning_of_form}
+use Rattle.wtf8.proofs.lemmas.strings.ExtendedForms.{all_back, beginning_of_form, scalar_to-append, scalar_to-front}
 use Rattle.wtf8.proofs.lemmas.strings.Positions.{cut_by}
 
 -- Writing the form of a list of units, part by part.
@@ -182,3 +187,48 @@ edited {c} {w} {u} {m} {begin} {end} {p} {q} {head} {tail} h e same l r v f =
     ∙ (ap (λ z. z ++ ((v ++ tail) ++ units r.back)) (l.kept ∙ ap (take begin) same)
     ∙ ap (λ z. take begin u ++ z) (append_assoc v tail (units r.back) ∙ ap (λ z. v ++ z) (r.kept ∙ ap (drop end) same)))) in
     subst (IsForm (take p w ++ (m ++ drop q w))) joined all
+
+-- A string after its middle was replaced, or memory was refused.
+
+-- a surrogate that is kept beside the new units is a unit
+pub unit_of_surrogate : (o : Option ℕ) → IfSome o (λ p. p ≤ 0xFFFF) → All IsUnit (option_to_list o)
+unit_of_surrogate None h = All-nil IsUnit
+unit_of_surrogate (Some p) h = All-cons IsUnit p [] h (All-nil IsUnit)
+
+pub some_weaker : {P Q : ℕ → Type 0} (o : Option ℕ) → ((p : ℕ) → P p → Q p) → IfSome o P → IfSome o Q
+some_weaker None f h = tt
+some_weaker (Some p) f h = f p h
+
+module _ {T E Z : Type 0} {b n : Vec ℕ Z} {r : Result T E} {whole u : List ℕ} (f : IsForm whole u) (g : BecomesOrKeeps b whole n r) where
+  pub units_replaced : (k : IsWellFormed n.items) → OnOk r (units k.points ≡ u)
+  units_replaced k = on_ok_weaker r (λ h. units_from_form n.items (units k.points) u (form_of k) (rw h f)) g.ok
+
+  pub unchanged : (was old new : UnitString) → was ≡ old → was.bytes ≡ b.items → new.bytes ≡ n.items → OnErr r (KeepsContents old new)
+  unchanged was old new s e c = on_err_weaker r (λ h.
+      let same = c ∙ (h ∙ (sym e ∙ ap (λ (t : UnitString). t.bytes) s)) in
+      let form = subst (λ w. IsForm w old.units) (sym same) old.form in
+      record { units = units_from_form new.bytes new.units old.units new.form form; bytes = same }) g.err
+
+  pub room_for_form : (capacity : ℕ) → capacity ≡ vec_capacity b → FitWithin u 0 capacity → IsOk r
+  room_for_form capacity e fit = g.room (omega (arith, fit.within, ap length (same_form whole fit.whole u f fit.form), e))
+
+  -- no surrogate begins before byte `k` if none does in the bytes that stay at the front
+  pub utf8_prefix_after_edit : (h : IsWellFormed b.items) (front back rest : List ℕ) (j k : ℕ) → h.points ≡ front ++ back
+      → AreScalarTo j h.points → k ≤ j → k ≤ length (bytes front) → whole ≡ bytes front ++ bytes rest
+      → (x : IsWellFormed n.items) × (AreScalarTo k x.points × Unit {0})
+  utf8_prefix_after_edit h front back rest j k e s l m same = by r g.ok g.err
+    where
+      now : IsWellFormed whole
+      now = well_formed_of f
+
+      joined : now.points ≡ front ++ rest
+      joined = bytes-injective now.points (front ++ rest) (now.encoded ∙ (same ∙ sym (bytes-append front rest)))
+
+      scalar : AreScalarTo k now.points
+      scalar = subst (AreScalarTo k) (sym joined) (scalar_to-append k front rest
+          (scalar_to-front j k front back (subst (AreScalarTo j) e s) l) (λ x. absurd (omega (arith, x, m))))
+
+      by : (r : Result T E) → OnOk r (n.items ≡ whole) → OnErr r (n.items ≡ b.items)
+          → (x : IsWellFormed n.items) × (AreScalarTo k x.points × Unit {0})
+      by (Ok _) ok err = (IsWellFormed-equal_bytes now ok, (scalar, tt))
+      by (Err _) ok err = (IsWellFormed-equal_bytes h err, ((λ p q z d o. s p q z d (omega (arith, l, o))), tt))

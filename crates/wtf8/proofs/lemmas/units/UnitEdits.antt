@@ -1,6 +1,6 @@
 -- Cuts at a number of units, where other units may be put.
 use Rattle.wtf8.proofs.Common.{◌≡◌, ℕ, ◌+◌, ◌-◌, ◌≤◌, ◌∙◌, List, [], ◌∷◌, ◌++◌, length, take, drop, arith, ap, sym, subst, append_assoc, append-nil}
-use Rattle.wtf8.proofs.Common.{length-append, bytes, encoding, units, IsClean, IsLead, IsTrail, form_of, IsWellFormed, inl, inr, bytes-injective}
+use Rattle.wtf8.proofs.Common.{length-append, bytes, encoding, units, IsClean, IsLead, IsTrail, form_of, IsWellFormed, inl, inr, IsForm, cases_lt, DividesPair}
 use Rattle.wtf8.specs.UnitMark.{IsMark, RoundsDownTo}
 use Rattle.wtf8.specs.private.Cuts.{CutsBefore, CutsAfter}
 use Rattle.wtf8.proofs.lemmas.codec.Encoding.{bytes-pushed, length-surrogate}
@@ -8,7 +8,7 @@ use Rattle.wtf8.proofs.lemmas.codec.Readings.{clean-back, lead_of, trail_of, uni
 use Rattle.wtf8.proofs.lemmas.codec.Readings.{unpaired-after_no_lead, unpaired-before_no_trail}
 use Rattle.wtf8.proofs.lemmas.strings.Concatenation.{lead_last, trail_begins}
 use Rattle.wtf8.proofs.lemmas.units.UnitCuts.{Divided, IsCodePoint-divided, Undivided, undivided_from_cut}
-use Rattle.wtf8.proofs.lemmas.units.UnitMarks.{cut_of, divided_at_mark}
+use Rattle.wtf8.proofs.lemmas.units.UnitMarks.{cut_of, divided_at_mark, mark_divides_none, marks_in_order}
 
 -- What a mark says of the cut after `n` units.
 
@@ -117,3 +117,25 @@ cuts_after_none {c} x clean none = record {
       let first = trail_begins x.back m.rest m.trail (clean-back x.front x.back (subst IsClean x.joined clean)) m.is_trail m.begins in
       none m.trail first.0 m.is_trail first.1;
 }
+
+-- the positions of the cuts are in the order of the numbers of units
+pub rounded_in_order : {w u : List ℕ} {k l m n begin end : ℕ} → IsForm w u → IsMark w u k m → IsMark w u l n → RoundsDownTo u begin m
+    → RoundsDownTo u end n → begin ≤ end → k ≤ l
+rounded_in_order {w} {u} {k} {l} {m} {n} {begin} {end} f x y first last h = (marks_in_order w u k l m n f x y).1 fewer
+  where
+    below : m ≤ begin
+    below = elim first [ inl e ↦ omega (arith, e) | inr e ↦ omega (arith, e.0) ]
+
+    fewer : m ≤ n
+    fewer = elim last [
+      | inl e ↦ omega (arith, e, h, below)
+      | inr e ↦ elim first [
+          | inl d ↦ elim (cases_lt begin end) [
+              | inl less ↦ omega (arith, less, e.0, below)
+              | inr same ↦
+                  let at : m ≡ end = omega (arith, d, same, h) in
+                  absurd (mark_divides_none w u k m f x (subst (DividesPair u) (sym at) e.1))
+            ]
+          | inr d ↦ omega (arith, d.0, e.0, h)
+        ]
+    ]
