@@ -28,9 +28,12 @@ mod long_texts;
 mod marks;
 #[cfg(test)]
 mod ordering;
+#[cfg(test)]
+mod replaced_units;
 pub mod sinks;
 #[cfg(test)]
 mod unit_cuts;
+pub mod unit_edits;
 pub mod unit_lists;
 #[cfg(test)]
 mod utf8_bytes;
