@@ -124,6 +124,9 @@ DECLARE(wtf8_result, truncate_bytes, handle *, size_t)
 DECLARE(wtf8_result, truncate_units, handle *, size_t)
 DECLARE(wtf8_result, pop, handle *, uint32_t *)
 DECLARE(wtf8_result, slice_units, handle *, handle *, size_t, size_t)
+DECLARE(wtf8_result, insert_units, handle *, size_t, const uint16_t *, size_t)
+DECLARE(wtf8_result, remove_units, handle *, size_t, size_t)
+DECLARE(wtf8_result, replace_units, handle *, size_t, size_t, const uint16_t *, size_t)
 DECLARE(wtf8_result, copy_code_points, handle *, size_t *, uint32_t *, size_t, size_t *)
 DECLARE(wtf8_result, copy_units, handle *, uint16_t *, size_t, size_t *)
 DECLARE(wtf8_result, copy_slice, handle *, size_t, size_t, uint16_t *, size_t, size_t *)
@@ -260,6 +263,11 @@ DEFINE_CHANGE(push_utf8_lossy_part, (wtf8_string *string, const uint8_t *text, s
 DEFINE_CHANGE(truncate_bytes, (wtf8_string *string, size_t position), (string, position), (&changed, position))
 DEFINE_CHANGE(truncate_units, (wtf8_string *string, size_t n), (string, n), (&changed, n))
 DEFINE_CHANGE(pop, (wtf8_string *string, uint32_t *code_point), (string, code_point), (&changed, code_point))
+DEFINE_CHANGE(insert_units, (wtf8_string *string, size_t index, const uint16_t *units, size_t n), (string, index, units, n),
+              (&changed, index, n ? units : nothing, n))
+DEFINE_CHANGE(remove_units, (wtf8_string *string, size_t begin, size_t end), (string, begin, end), (&changed, begin, end))
+DEFINE_CHANGE(replace_units, (wtf8_string *string, size_t begin, size_t end, const uint16_t *units, size_t n),
+              (string, begin, end, units, n), (&changed, begin, end, n ? units : nothing, n))
 
 /* The first units of a string, which get just the bytes that they take. */
 static __attribute__((noinline)) wtf8_result first_set_units(wtf8_string *string, const uint16_t *units, size_t n) {

@@ -187,6 +187,15 @@ public:
     void truncate_units(size_t n) { check(wtf8_truncate_units(get(), n)); }
     void truncate_bytes(size_t position) { check(wtf8_truncate_bytes(get(), position)); }
 
+    /* Editing: units at any index, also inside a pair. */
+    string &insert(size_t index, units_in units) {
+        return done(wtf8_insert_units(get(), index, raw(units.data()), units.size()));
+    }
+    string &erase(size_t begin, size_t end) { return done(wtf8_remove_units(get(), begin, end)); }
+    string &replace(size_t begin, size_t end, units_in units) {
+        return done(wtf8_replace_units(get(), begin, end, raw(units.data()), units.size()));
+    }
+
     /* Code points. If there is none, each returns false and leaves its arguments as they are. */
     bool pop(char32_t &value) { return found(wtf8_pop(get(), raw(&value))); }
     WTF8_NODISCARD bool next(size_t &position, char32_t &value) const {

@@ -50,8 +50,9 @@ RESULTS = [
         """
         set_units set_utf8 set_string reserve_bytes mark push_unit push_code_point push_units push_latin1 push_utf8
         push_utf8_part push_utf8_lossy push_utf8_lossy_part push_string push_slice position_at unit_at next_surrogate
-        next_code_point previous_code_point truncate_bytes truncate_units pop slice_units copy_code_points copy_units
-        copy_slice copy_utf8 copy_lossy compare_units compare_code_points compare_with_units find find_units rfind rfind_units
+        next_code_point previous_code_point truncate_bytes truncate_units pop slice_units insert_units remove_units
+        replace_units copy_code_points copy_units copy_slice copy_utf8 copy_lossy compare_units compare_code_points
+        compare_with_units find find_units rfind rfind_units
         """,
     ),
 ]
@@ -115,6 +116,15 @@ class String:
         units = array.array("H")
         units.frombytes(text.encode("utf-16-le", "surrogatepass"))
         self._push(units)
+
+    def replace(self, begin: int, end: int, text: str) -> None:
+        """Replaces the units from `begin` to before `end` by those of a text, which may be empty."""
+        units = array.array("H")
+        units.frombytes(text.encode("utf-16-le", "surrogatepass"))
+        n = len(units)
+        with self.lock:
+            new = (ctypes.c_uint16 * n).from_buffer_copy(units)
+            check(lib.wtf8_replace_units(self, ctypes.c_size_t(begin), ctypes.c_size_t(end), new, ctypes.c_size_t(n)))
 
     def __len__(self) -> int:
         """The number of 16-bit units."""

@@ -1,3 +1,4 @@
+pub mod EditLemmas
 pub mod MarkLemmas
 pub mod PositionLemmas
 pub mod ReadingLemmas

@@ -27,8 +27,8 @@ use wtf8::{CodePoint, IllFormedUtf16CodeUnits, UnitMark, UnitSlice, Wtf8, Wtf8Bu
 #[derive(Drop)]
 pub struct IndexedBuf<A: Allocator> {
     pub(crate) text: Wtf8Buf<A>,
-    count: usize,
-    marks: Option<MarkList<A>>,
+    pub(crate) count: usize,
+    pub(crate) marks: Option<MarkList<A>>,
 }
 
 impl<A: Allocator> Model for IndexedBuf<A> {

@@ -4,6 +4,7 @@
 
 mod comparisons;
 mod debug_text;
+mod editing;
 mod indexed;
 mod marks;
 mod search;

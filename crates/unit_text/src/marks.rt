@@ -166,6 +166,22 @@ pub(crate) fn truncate_kept<A: Allocator>(text: CountedView<'_>, marks: &mut Opt
     }
 }
 
+/// Leaves out the marks, if marks are kept, that are not before unit `unchanged` of a text in which later ones were
+/// replaced, and appends those that are missing.
+pub(crate) fn renew_after<A: Allocator>(
+    text: CountedView<'_>,
+    marks: &mut Option<MarkList<A>>,
+    unchanged: usize,
+)
+    requires { IfSome marks.old (λ m. AreKept text.view.bytes.now (view_units text.view) (take ((unchanged - 1) / SPACING) m.value.items)) }
+    ensures { IfSome marks.new (λ m. AreMarks text.entry.view.bytes.now (view_units text.entry.view) m.value.items (vec_capacity m.value)) }
+{
+    if let Some(marks) = marks {
+        marks.truncate(unchanged.saturating_sub(1) / SPACING);
+    }
+    add_to_kept(text, marks);
+}
+
 /// Releases the spare capacity of the marks, if marks are kept and the allocator agrees.
 pub(crate) fn shrink_kept<A: Allocator>(marks: &mut Option<MarkList<A>>)
     ensures { (w u : List ℕ) → IfSome marks.old (λ m. AreMarks w u m.value.items (vec_capacity m.value)) → IfSome marks.new (λ m. AreMarks w u m.value.items (vec_capacity m.value)) }

@@ -1,4 +1,5 @@
 pub mod EncodedLengths
+pub mod Cuts
 pub mod Decoding
 pub mod EncodedBytes
 pub mod PackedUnits

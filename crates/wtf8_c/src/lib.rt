@@ -6,6 +6,7 @@ mod asking;
 mod codes;
 mod comparing;
 mod cutting;
+mod editing;
 mod handle;
 mod hashing;
 mod latin1;

@@ -18,6 +18,8 @@ mod no_requests;
 #[cfg(test)]
 mod pushed_units;
 #[cfg(test)]
+mod replaced_units;
+#[cfg(test)]
 mod samples;
 #[cfg(test)]
 mod shared;

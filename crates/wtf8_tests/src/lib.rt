@@ -30,9 +30,12 @@ mod lossy_bytes;
 mod marks;
 #[cfg(test)]
 mod ordering;
+#[cfg(test)]
+mod replaced_units;
 pub mod sinks;
 #[cfg(test)]
 mod unit_cuts;
+pub mod unit_edits;
 pub mod unit_lists;
 #[cfg(test)]
 mod utf8_bytes;

@@ -1,6 +1,7 @@
 pub mod AsciiFronts
 pub mod Copies
 pub mod Mismatch
+pub mod Moves
 pub mod Masks
 pub mod Padding
 pub mod SurrogateLanes

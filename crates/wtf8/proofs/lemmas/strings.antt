@@ -1,4 +1,5 @@
 pub mod Concatenation
+pub mod Editing
 pub mod ExtendedForms
 pub mod LossyTexts
 pub mod PositionLaws

@@ -2,9 +2,10 @@
 ghost use Rattle.std.specs.Prelude.{◌≡◌, ℕ, List, [], ◌∷◌, ◌++◌, ◌+◌, ◌*◌, ◌<◌, ◌≤◌, length, take, IsTrue, OnOk, OnErr, IsOk, IfOk, IfErr, ◌↔◌, vec_capacity, if◌then◌else◌};
 ghost use Rattle.std.specs.Str.{chars};
 ghost use Rattle.std.specs.String.{string_bytes};
-ghost use Rattle.wtf8.specs.Appending.{AppendsUnits, KeepsContents, HasRoomFor, AddsLength};
+ghost use Rattle.wtf8.specs.Appending.{AppendsUnits, KeepsContents, HasRoomFor, AddsLength, FitWithin};
 ghost use Rattle.wtf8.specs.Building.{Truncates};
 ghost use Rattle.wtf8.specs.CodePoint.{number};
+ghost use Rattle.wtf8.specs.Editing.{spliced};
 ghost use Rattle.wtf8.specs.Form.{IsWellFormed, IsForm, Reads, bytes, encoding};
 ghost use Rattle.wtf8.specs.OneForm.{IsWellFormed-prop, form_of};
 ghost use Rattle.wtf8.specs.Position.{IsBoundary, IsFront};
@@ -24,6 +25,7 @@ use crate::codec::encoding;
 use crate::from_utf16::transcode;
 use crate::lanes::search;
 use crate::strings::appending;
+use crate::strings::editing;
 use crate::strings::lossy::{self, replace_surrogates};
 use crate::strings::utf8_prefix::Utf8Prefix;
 use crate::strings::view::Wtf8;
@@ -489,6 +491,44 @@ impl<A: Allocator> Wtf8Buf<A> {
         let lead = encoding::read_lead(pair);
         self.utf8_prefix = self.utf8_prefix.up_to(mark.position);
         encoding::keep_lead(&mut self.bytes, mark.position, lead);
+    }
+
+    /// Replaces the code units from index `begin` to before `end` by others, paired or not. A pair that an end splits is
+    /// cut, and a lead and a trail that meet become one code point, so any part can be inserted, removed or put back.
+    /// `from` and `to` must be the marks that `mark_at` or `mark_back` finds for `begin` and `end`. If memory is
+    /// refused, the string is unchanged; it is requested at most once, and not if the new string fits the capacity.
+    /// Linear in the number of new units and of the bytes after `begin`.
+    pub fn replace_units_at(
+        &mut self,
+        from: UnitMark,
+        begin: usize,
+        to: UnitMark,
+        end: usize,
+        units: &[u16],
+    ) -> Result<(), AllocError>
+        requires order { begin ≤ end }
+        requires from { IsMark self.old.bytes self.old.units from.position from.units }
+        requires begin { RoundsDownTo self.old.units begin from.units }
+        requires to { IsMark self.old.bytes self.old.units to.position to.units }
+        requires end { RoundsDownTo self.old.units end to.units }
+        ensures ok { OnOk result (self.new.units ≡ spliced self.old.units begin end units.now) }
+        ensures kept { OnErr result (KeepsContents self.old self.new) }
+
+        ensures room { FitWithin (spliced self.old.units begin end units.now) 0 self.old.capacity → IsOk result }
+        ensures capacity { self.old.capacity ≤ self.new.capacity }
+    {
+        let view = self.as_wtf8();
+        let before = view.cut_before(from, begin);
+        let after = view.cut_after(to, end);
+        self.utf8_prefix = self.utf8_prefix.up_to(before.position);
+        editing::replace(
+            &mut self.bytes,
+            before.position,
+            after.position,
+            before.surrogate,
+            units,
+            after.surrogate,
+        )
     }
 
     pub(crate) fn try_truncate(&mut self, position: usize) -> bool

@@ -5,6 +5,7 @@ ghost use Rattle.wtf8.specs.private.Search.{IsFirstSet};
 
 pub(crate) mod ascii;
 pub(crate) mod memcmp;
+pub(crate) mod moves;
 pub(crate) mod padding;
 pub(crate) mod search;
 pub(crate) mod utf8;

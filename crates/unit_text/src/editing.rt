@@ -1,0 +1,72 @@
+// Code units inserted, removed and replaced at any index, also inside a surrogate pair.
+ghost use Rattle.std.specs.Prelude.{◌≡◌, ◌≤◌, length, OnOk, OnErr, IsOk, [], ℕ};
+ghost use Rattle.wtf8.specs.Appending.{KeepsContents, FitWithin};
+ghost use Rattle.wtf8.specs.Editing.{spliced};
+
+use crate::indexed::IndexedBuf;
+use crate::marks::{self, CountedView};
+use std::alloc::{AllocError, Allocator};
+use wtf8::laws;
+
+impl<A: Allocator> IndexedBuf<A> {
+    /// Inserts code units, paired or not, before the one at index `index`, which must be at most the length. Inside a
+    /// surrogate pair, the pair is cut, and each half may form one with a new unit. If memory is refused, the string is
+    /// unchanged; no insertion is refused for a mark. Finds the index as `position_at` does, then linear in the number of
+    /// new units and of the bytes after them. Marks after `index` are made anew.
+    pub fn insert_units(&mut self, index: usize, units: &[u16]) -> Result<(), AllocError>
+        requires { index ≤ length self.old.units }
+        ensures ok { OnOk result (self.new.units ≡ spliced self.old.units index index units.now) }
+        ensures kept { OnErr result (KeepsContents self.old self.new) }
+        ensures room { FitWithin (spliced self.old.units index index units.now) 0 self.old.capacity → IsOk result }
+        ensures capacity { self.old.capacity ≤ self.new.capacity }
+    {
+        self.replace_units(index, index, units)
+    }
+
+    /// Removes the code units from index `begin` to before `end`, which must be in order and at most the length. A pair
+    /// that an end splits is cut, and a lead and a trail that then meet become one code point. Costs what `replace_units`
+    /// does.
+    pub fn remove_units(&mut self, begin: usize, end: usize) -> Result<(), AllocError>
+        requires order { begin ≤ end }
+        requires within { end ≤ length self.old.units }
+        ensures ok { OnOk result (self.new.units ≡ spliced self.old.units begin end []) }
+        ensures kept { OnErr result (KeepsContents self.old self.new) }
+        ensures room { FitWithin (spliced self.old.units begin end []) 0 self.old.capacity → IsOk result }
+        ensures capacity { self.old.capacity ≤ self.new.capacity }
+    {
+        self.replace_units(begin, end, &[])
+    }
+
+    /// Replaces the code units from index `begin` to before `end`, which must be in order and at most the length, by
+    /// others, paired or not. A pair that an end splits is cut, and a lead and a trail that then meet become one code
+    /// point. If memory is refused, the string is unchanged; it is requested at most once, and not if the new string fits
+    /// the capacity, and no call is refused for a mark. Finds both indexes as `position_at` does, then linear in the number
+    /// of new units and of the bytes after `begin`. Marks after `begin` are made anew.
+    pub fn replace_units(
+        &mut self,
+        begin: usize,
+        end: usize,
+        units: &[u16],
+    ) -> Result<(), AllocError>
+        requires order { begin ≤ end }
+        requires within { end ≤ length self.old.units }
+        ensures ok { OnOk result (self.new.units ≡ spliced self.old.units begin end units.now) }
+        ensures kept { OnErr result (KeepsContents self.old self.new) }
+
+        // It is never refused if the new string fits, and the capacity never shrinks.
+        ensures room { FitWithin (spliced self.old.units begin end units.now) 0 self.old.capacity → IsOk result }
+        ensures capacity { self.old.capacity ≤ self.new.capacity }
+    {
+        let marked = self.marked();
+        let from = marked.mark_at(begin);
+        let to = marked.mark_at(end);
+        self.text.replace_units_at(from, begin, to, end, units)?;
+        // There are no more units than bytes, so the sum fits.
+        prove!(self.text.len() <= usize::MAX);
+        self.count = begin + units.len() + (self.count - end);
+        laws::law_marks();
+        let text = CountedView::new(&self.text, self.count);
+        marks::renew_after(text, &mut self.marks, begin);
+        Ok(())
+    }
+}

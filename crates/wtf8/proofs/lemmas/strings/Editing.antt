@@ -1,0 +1,234 @@
+-- Bytes with others in their middle: the gap, and the form that is written there.
+use Rattle.wtf8.proofs.Common.{◌≡◌, ℕ, ◌+◌, ◌-◌, ◌≤◌, ◌∙◌, List, [], ◌++◌, length, take, drop, arith, ap, sym, subst, refl, append_assoc, append-nil}
+use Rattle.wtf8.proofs.Common.{take_at, drop_at, drop-drop, drop_all, length-take-le, length-append, IsForm, All, IsUnit, All-drop, take-append-drop}
+use Rattle.wtf8.proofs.Common.{◌*◌, units, bytes, form_of, IsWellFormed, MeetsAsPair}
+use Rattle.wtf8.proofs.Common.{Option, Some, None, IfSome, option_to_list, All-nil, All-cons, Result, Ok, Err, OnOk, OnErr, IsOk, UnitString}
+use Rattle.wtf8.proofs.Common.{KeepsContents, FitWithin, AreScalarTo, vec_capacity, on_ok_weaker, on_err_weaker, well_formed_of, bytes-injective}
+use Rattle.std.specs.declared.vec.Vec.{Vec}
+use Rattle.wtf8.specs.Editing.{spliced}
+use Rattle.wtf8.specs.private.EncodedBytes.{BecomesOrKeeps}
+use Rattle.wtf8.proofs.lemmas.codec.Encoding.{bytes-append}
+use Rattle.wtf8.specs.private.Cuts.{WritesForm, CutsBefore, CutsAfter}
+use Rattle.wtf8.proofs.lemmas.codec.Readings.{form_append-unpaired, lists_have_lengths, same_form, units_from_form, IsWellFormed-equal_bytes}
+use Rattle.wtf8.proofs.lemmas.strings.Concatenation.{one_form, units_read}
+use Rattle.wtf8.proofs.lemmas.strings.ExtendedForms.{all_back, beginning_of_form, scalar_to-append, scalar_to-front}
+use Rattle.wtf8.proofs.lemmas.strings.Positions.{cut_by}
+
+-- Writing the form of a list of units, part by part.
+
+-- nothing is written yet
+pub writes_none : (old : List ℕ) (at : ℕ) (v : List ℕ) → WritesForm old at v 0 old at
+writes_none old at v = record {
+  within = omega arith;
+  front = [];
+  end = omega arith;
+  items = sym (take-append-drop at old);
+  rest = λ w f. f;
+}
+
+module _ {old now : List ℕ} {at to read : ℕ} {v : List ℕ} (u : All IsUnit v) (m : WritesForm old at v read now to)
+      (room : (w : List ℕ) → IsForm w v → at + length w ≤ length old) (piece : List ℕ) (n : ℕ)
+      (form : (w : List ℕ) → IsForm w (drop n (drop read v)) → IsForm (piece ++ w) (drop read v)) where
+  more_form : (w : List ℕ) → IsForm w (drop (read + n) v) → IsForm ((m.front ++ piece) ++ w) v
+  more_form w f = subst (λ z. IsForm z v) (sym (append_assoc m.front piece w))
+      (m.rest (piece ++ w) (form w (subst (IsForm w) (sym (drop-drop n read v)) f)))
+
+  -- there is room for one more part
+  pub room_for_piece : to + length piece ≤ length old
+  room_for_piece =
+      let last = one_form (drop (read + n) v) (All-drop IsUnit (read + n) v u) in
+      omega (
+        arith,
+        room ((m.front ++ piece) ++ last.one) (more_form last.one last.has),
+        length-append (m.front ++ piece) last.one,
+        length-append m.front piece,
+        m.end,
+      )
+
+  pub writes_more : {new : List ℕ} → read + n ≤ length v → new ≡ take to now ++ (piece ++ drop (to + length piece) now)
+      → WritesForm old at v (read + n) new (to + length piece)
+  writes_more {new} within e =
+      let base : length (take at old) ≡ at = length-take-le at old (omega (arith, room_for_piece, m.end)) in
+      let size : length (take at old ++ m.front) ≡ to = omega (arith, length-append (take at old) m.front, base, m.end) in
+      let parts : now ≡ (take at old ++ m.front) ++ drop to old = m.items ∙ sym (append_assoc (take at old) m.front (drop to old)) in
+      let kept : take to now ≡ take at old ++ m.front = ap (take to) parts ∙ take_at (take at old ++ m.front) (drop to old) to size in
+      let later : drop to now ≡ drop to old = ap (drop to) parts ∙ drop_at (take at old ++ m.front) (drop to old) to size in
+      let last : drop (to + length piece) now ≡ drop (to + length piece) old =
+      sym (drop-drop (length piece) to now) ∙ (ap (drop (length piece)) later ∙ drop-drop (length piece) to old) in
+      record {
+        within = within;
+        front = m.front ++ piece;
+        end = omega (arith, length-append m.front piece, m.end);
+        items = e ∙ (ap (λ k. k ++ (piece ++ drop (to + length piece) now)) kept
+            ∙ (ap (λ l. (take at old ++ m.front) ++ (piece ++ l)) last
+            ∙ (append_assoc (take at old) m.front (piece ++ drop (to + length piece) old)
+            ∙ ap (λ x. take at old ++ x) (sym (append_assoc m.front piece (drop (to + length piece) old))))));
+        rest = more_form;
+      }
+
+-- all is written
+pub written : {old now : List ℕ} {at to read : ℕ} {v : List ℕ} → WritesForm old at v read now to → length v ≤ read → (w : List ℕ)
+    → IsForm w v → now ≡ take at old ++ (w ++ drop (at + length w) old)
+written {old} {now} {at} {to} {read} {v} m all w f =
+    let none : IsForm [] (drop read v) = record {
+      points = [];
+      reads = record { clean = tt; same_units = sym (drop_all read v all) };
+      encoded = refl;
+    } in
+    let same : m.front ≡ w = sym (append-nil m.front) ∙ same_form (m.front ++ []) w v (m.rest [] none) f in
+    m.items ∙ (ap (λ k. take at old ++ (m.front ++ drop k old)) (m.end ∙ ap (λ x. at + length x) same)
+    ∙ ap (λ x. take at old ++ (x ++ drop (at + length w) old)) same)
+
+-- Three lists written into a gap, one after the other.
+
+-- at the index after `p`, `x` is written over the first of the bytes after it
+written_after : (p r x s : List ℕ) (at : ℕ) → s ≡ p ++ r → length p ≡ at
+    → take at s ++ (x ++ drop (at + length x) s) ≡ (p ++ x) ++ drop (length x) r
+written_after p r x s at e n =
+    let kept : take at s ≡ p = ap (take at) e ∙ take_at p r at n in
+    let last : drop (at + length x) s ≡ drop (length x) r =
+    sym (drop-drop (length x) at s) ∙ ap (drop (length x)) (ap (drop at) e ∙ drop_at p r at n) in
+    ap (λ k. k ++ (x ++ drop (at + length x) s)) kept ∙ (ap (λ l. p ++ (x ++ l)) last ∙ sym (append_assoc p x (drop (length x) r)))
+
+pub three_written : (old g x y z : List ℕ) {s1 s2 s3 : List ℕ} (begin end at2 at3 n : ℕ) → begin ≤ length old
+    → take begin g ≡ take begin old → drop (begin + n) g ≡ drop end old
+    → at2 ≡ begin + length x → at3 ≡ at2 + length y → begin + n ≡ at3 + length z
+    → s1 ≡ take begin g ++ (x ++ drop (begin + length x) g)
+    → s2 ≡ take at2 s1 ++ (y ++ drop (at2 + length y) s1)
+    → s3 ≡ take at3 s2 ++ (z ++ drop (at3 + length z) s2)
+    → s3 ≡ take begin old ++ ((x ++ (y ++ z)) ++ drop end old)
+three_written old g x y z {s1} {s2} {s3} begin end at2 at3 n within front back e2 e3 all h1 h2 h3 =
+    let k = take begin old in
+    let size : length k ≡ begin = length-take-le begin old within in
+    let r = drop begin g in
+    let whole : g ≡ k ++ r = sym (take-append-drop begin g) ∙ ap (λ f. f ++ r) front in
+    let one : s1 ≡ (k ++ x) ++ drop (length x) r = h1 ∙ written_after k r x g begin whole size in
+    let two : s2 ≡ ((k ++ x) ++ y) ++ drop (length y) (drop (length x) r) =
+    h2 ∙ written_after (k ++ x) (drop (length x) r) y s1 at2 one (omega (arith, length-append k x, size, e2)) in
+    let three : s3 ≡ (((k ++ x) ++ y) ++ z) ++ drop (length z) (drop (length y) (drop (length x) r)) =
+    h3 ∙ written_after ((k ++ x) ++ y) (drop (length y) (drop (length x) r)) z s2 at3 two
+    (omega (arith, length-append k x, length-append (k ++ x) y, size, e2, e3)) in
+    let rest : drop (length z) (drop (length y) (drop (length x) r)) ≡ drop end old =
+    ap (λ l. drop (length z) (drop (length y) l)) (drop-drop (length x) begin g)
+    ∙ (ap (drop (length z)) (drop-drop (length y) (begin + length x) g)
+    ∙ (drop-drop (length z) ((begin + length x) + length y) g
+    ∙ (ap (λ i. drop i g) (omega (arith, e2, e3, all)) ∙ back))) in
+    let d = drop end old in
+    three ∙ (ap (λ l. (((k ++ x) ++ y) ++ z) ++ l) rest
+    ∙ (append_assoc ((k ++ x) ++ y) z d ∙ (append_assoc (k ++ x) y (z ++ d) ∙ (append_assoc k x (y ++ (z ++ d))
+    ∙ ap (λ l. k ++ l) (sym (append_assoc x (y ++ z) d ∙ ap (λ l. x ++ l) (append_assoc y z d)))))))
+
+-- The length of a form, and forms of three lists, one after the other.
+
+pub encoded_bound : {v : List ℕ} {n : ℕ} → All IsUnit v → ((w : List ℕ) → IsForm w v → n ≡ length w) → n ≤ 3 * length v
+encoded_bound {v} {n} u is =
+    let f = one_form v u in
+    omega (
+      arith,
+      is f.one f.has,
+      ap length f.has.encoded,
+      ap length f.has.reads.same_units,
+      (lists_have_lengths f.has.points).units_most,
+    )
+
+-- the form of a whole that is divided where no pair is
+pub record ThreeForms (m a b c : List ℕ) : Type 0 where
+  pub first : List ℕ
+  pub second : List ℕ
+  pub third : List ℕ
+  pub first_form : IsForm first a
+  pub second_form : IsForm second b
+  pub third_form : IsForm third c
+  pub joined : first ++ (second ++ third) ≡ m
+
+pub three_forms : {m u : List ℕ} (a b c : List ℕ) → IsForm m u → a ++ (b ++ c) ≡ u → ¬ (MeetsAsPair a (b ++ c)) → ¬ (MeetsAsPair b c)
+    → ThreeForms m a b c
+three_forms {m} {u} a b c f e n k =
+    let whole : IsForm m (a ++ (b ++ c)) = subst (IsForm m) (sym e) f in
+    let all = units_read whole.points (a ++ (b ++ c)) whole.reads in
+    let x = beginning_of_form a (b ++ c) m whole in
+    let later = all_back a (b ++ c) all in
+    let rest = one_form (b ++ c) later in
+    let y = beginning_of_form b c rest.one rest.has in
+    let z = one_form c (all_back b c later) in
+    record {
+      first = x.whole;
+      second = y.whole;
+      third = z.one;
+      first_form = x.form;
+      second_form = y.form;
+      third_form = z.has;
+      joined = same_form (x.whole ++ (y.whole ++ z.one)) m (a ++ (b ++ c))
+          (form_append-unpaired x.whole (y.whole ++ z.one) a (b ++ c) x.form (form_append-unpaired y.whole z.one b c y.form z.has k) n)
+          whole;
+    }
+
+-- The form of the new units between two cuts.
+
+pub edited : {c w u m : List ℕ} {begin end p q : ℕ} {head tail : List ℕ} (h : IsWellFormed w) → h.points ≡ c → units c ≡ u
+    → CutsBefore c begin p head → CutsAfter c end q tail → (v : List ℕ) → IsForm m (head ++ (v ++ tail))
+    → IsForm (take p w ++ (m ++ drop q w)) (spliced u begin end v)
+edited {c} {w} {u} {m} {begin} {end} {p} {q} {head} {tail} h e same l r v f =
+    let left : IsForm (take p w) (units l.front) = form_of (cut_by h l.front l.back p (e ∙ l.joined) l.front_len).before in
+    let right : IsForm (drop q w) (units r.back) =
+    let cut = (cut_by h r.front r.back q (e ∙ r.joined) r.front_len) in
+    record { points = r.back; reads = record { clean = cut.after.clean; same_units = refl }; encoded = cut.after.encoded } in
+    let middle = head ++ (v ++ tail) in
+    let back : IsForm (m ++ drop q w) (middle ++ units r.back) =
+    form_append-unpaired m (drop q w) middle (units r.back) f right
+    (λ x. r.apart (head ++ v) (subst (λ z. MeetsAsPair z (units r.back)) (sym (append_assoc head v tail)) x)) in
+    let all : IsForm (take p w ++ (m ++ drop q w)) (units l.front ++ (middle ++ units r.back)) =
+    form_append-unpaired (take p w) (m ++ drop q w) (units l.front) (middle ++ units r.back) left back
+    (λ x. l.apart ((v ++ tail) ++ units r.back)
+    (subst (MeetsAsPair (units l.front)) (append_assoc head (v ++ tail) (units r.back)) x)) in
+    let joined : units l.front ++ (middle ++ units r.back) ≡ spliced u begin end v =
+    ap (λ z. units l.front ++ z) (append_assoc head (v ++ tail) (units r.back))
+    ∙ (sym (append_assoc (units l.front) head ((v ++ tail) ++ units r.back))
+    ∙ (ap (λ z. z ++ ((v ++ tail) ++ units r.back)) (l.kept ∙ ap (take begin) same)
+    ∙ ap (λ z. take begin u ++ z) (append_assoc v tail (units r.back) ∙ ap (λ z. v ++ z) (r.kept ∙ ap (drop end) same)))) in
+    subst (IsForm (take p w ++ (m ++ drop q w))) joined all
+
+-- A string after its middle was replaced, or memory was refused.
+
+-- a surrogate that is kept beside the new units is a unit
+pub unit_of_surrogate : (o : Option ℕ) → IfSome o (λ p. p ≤ 0xFFFF) → All IsUnit (option_to_list o)
+unit_of_surrogate None h = All-nil IsUnit
+unit_of_surrogate (Some p) h = All-cons IsUnit p [] h (All-nil IsUnit)
+
+pub some_weaker : {P Q : ℕ → Type 0} (o : Option ℕ) → ((p : ℕ) → P p → Q p) → IfSome o P → IfSome o Q
+some_weaker None f h = tt
+some_weaker (Some p) f h = f p h
+
+module _ {T E Z : Type 0} {b n : Vec ℕ Z} {r : Result T E} {whole u : List ℕ} (f : IsForm whole u) (g : BecomesOrKeeps b whole n r) where
+  pub units_replaced : (k : IsWellFormed n.items) → OnOk r (units k.points ≡ u)
+  units_replaced k = on_ok_weaker r (λ h. units_from_form n.items (units k.points) u (form_of k) (rw h f)) g.ok
+
+  pub unchanged : (was old new : UnitString) → was ≡ old → was.bytes ≡ b.items → new.bytes ≡ n.items → OnErr r (KeepsContents old new)
+  unchanged was old new s e c = on_err_weaker r (λ h.
+      let same = c ∙ (h ∙ (sym e ∙ ap (λ (t : UnitString). t.bytes) s)) in
+      let form = subst (λ w. IsForm w old.units) (sym same) old.form in
+      record { units = units_from_form new.bytes new.units old.units new.form form; bytes = same }) g.err
+
+  pub room_for_form : (capacity : ℕ) → capacity ≡ vec_capacity b → FitWithin u 0 capacity → IsOk r
+  room_for_form capacity e fit = g.room (omega (arith, fit.within, ap length (same_form whole fit.whole u f fit.form), e))
+
+  -- no surrogate begins before byte `k` if none does in the bytes that stay at the front
+  pub utf8_prefix_after_edit : (h : IsWellFormed b.items) (front back rest : List ℕ) (j k : ℕ) → h.points ≡ front ++ back
+      → AreScalarTo j h.points → k ≤ j → k ≤ length (bytes front) → whole ≡ bytes front ++ bytes rest
+      → (x : IsWellFormed n.items) × (AreScalarTo k x.points × Unit {0})
+  utf8_prefix_after_edit h front back rest j k e s l m same = by r g.ok g.err
+    where
+      now : IsWellFormed whole
+      now = well_formed_of f
+
+      joined : now.points ≡ front ++ rest
+      joined = bytes-injective now.points (front ++ rest) (now.encoded ∙ (same ∙ sym (bytes-append front rest)))
+
+      scalar : AreScalarTo k now.points
+      scalar = subst (AreScalarTo k) (sym joined) (scalar_to-append k front rest
+          (scalar_to-front j k front back (subst (AreScalarTo j) e s) l) (λ x. absurd (omega (arith, x, m))))
+
+      by : (r : Result T E) → OnOk r (n.items ≡ whole) → OnErr r (n.items ≡ b.items)
+          → (x : IsWellFormed n.items) × (AreScalarTo k x.points × Unit {0})
+      by (Ok _) ok err = (IsWellFormed-equal_bytes now ok, (scalar, tt))
+      by (Err _) ok err = (IsWellFormed-equal_bytes h err, ((λ p q z d o. s p q z d (omega (arith, l, o))), tt))

@@ -1,0 +1,66 @@
+// Calls that insert, remove and replace units at any index.
+ghost use Rattle.std.specs.Prelude.{◌≡◌, [], ◌⊎◌, ◌≤◌, ◌<◌, ◌↔◌, length};
+ghost use Rattle.wtf8.specs.Appending.{KeepsContents, FitWithin};
+ghost use Rattle.wtf8.specs.Editing.{spliced};
+
+use crate::codes::{BAD_POSITION, NO_MEMORY, OK, code_of};
+use crate::handle::Wtf8String;
+
+/// Inserts units before index `index`.
+#[unsafe(no_mangle)]
+pub extern "C" fn wtf8_insert_units(string: &mut Wtf8String, index: usize, units: &[u16]) -> i32
+    ensures code { (result ≡ OK) ⊎ ((result ≡ NO_MEMORY) ⊎ (result ≡ BAD_POSITION)) }
+    ensures position { result ≡ BAD_POSITION ↔ length string.old.buf.units < index }
+    ensures ok { result ≡ OK → string.new.buf.units ≡ spliced string.old.buf.units index index units.now }
+    ensures kept { ¬ (result ≡ OK) → KeepsContents string.old.buf string.new.buf }
+    ensures room { index ≤ length string.old.buf.units → FitWithin (spliced string.old.buf.units index index units.now) 0 string.old.buf.capacity → result ≡ OK }
+    ensures capacity { string.old.buf.capacity ≤ string.new.buf.capacity }
+    ensures lies { string.new.at ≡ string.old.at }
+{
+    let buf = string.buffer();
+    if buf.unit_len() < index {
+        return BAD_POSITION;
+    }
+    code_of(buf.insert_units(index, units))
+}
+
+/// Removes the units from index `begin` to before `end`.
+#[unsafe(no_mangle)]
+pub extern "C" fn wtf8_remove_units(string: &mut Wtf8String, begin: usize, end: usize) -> i32
+    ensures code { (result ≡ OK) ⊎ ((result ≡ NO_MEMORY) ⊎ (result ≡ BAD_POSITION)) }
+    ensures position { result ≡ BAD_POSITION ↔ ¬ ((begin ≤ end) × (end ≤ length string.old.buf.units)) }
+    ensures ok { result ≡ OK → string.new.buf.units ≡ spliced string.old.buf.units begin end [] }
+    ensures kept { ¬ (result ≡ OK) → KeepsContents string.old.buf string.new.buf }
+    ensures room { (begin ≤ end) × (end ≤ length string.old.buf.units) → FitWithin (spliced string.old.buf.units begin end []) 0 string.old.buf.capacity → result ≡ OK }
+    ensures capacity { string.old.buf.capacity ≤ string.new.buf.capacity }
+    ensures lies { string.new.at ≡ string.old.at }
+{
+    let buf = string.buffer();
+    if end < begin || buf.unit_len() < end {
+        return BAD_POSITION;
+    }
+    code_of(buf.remove_units(begin, end))
+}
+
+/// Replaces the units from index `begin` to before `end` by others.
+#[unsafe(no_mangle)]
+pub extern "C" fn wtf8_replace_units(
+    string: &mut Wtf8String,
+    begin: usize,
+    end: usize,
+    units: &[u16],
+) -> i32
+    ensures code { (result ≡ OK) ⊎ ((result ≡ NO_MEMORY) ⊎ (result ≡ BAD_POSITION)) }
+    ensures position { result ≡ BAD_POSITION ↔ ¬ ((begin ≤ end) × (end ≤ length string.old.buf.units)) }
+    ensures ok { result ≡ OK → string.new.buf.units ≡ spliced string.old.buf.units begin end units.now }
+    ensures kept { ¬ (result ≡ OK) → KeepsContents string.old.buf string.new.buf }
+    ensures room { (begin ≤ end) × (end ≤ length string.old.buf.units) → FitWithin (spliced string.old.buf.units begin end units.now) 0 string.old.buf.capacity → result ≡ OK }
+    ensures capacity { string.old.buf.capacity ≤ string.new.buf.capacity }
+    ensures lies { string.new.at ≡ string.old.at }
+{
+    let buf = string.buffer();
+    if end < begin || buf.unit_len() < end {
+        return BAD_POSITION;
+    }
+    code_of(buf.replace_units(begin, end, units))
+}

@@ -1,0 +1,81 @@
+// Code units replaced in the middle of a string: at each spare capacity, with every request for memory refused.
+use refusing::{Lent, Refusing};
+use std::alloc::{AllocError, Allocator, Global};
+use wtf8::Wtf8Buf;
+use wtf8_tests::examples::expect_units;
+use wtf8_tests::unit_edits::{EDITS, Edit};
+use wtf8_tests::wrong::{Failed, Wrong, expect, expect_bytes, in_row};
+
+/// Replaces the units of a row.
+fn replace<A: Allocator>(text: &mut Wtf8Buf<A>, edit: Edit) -> Result<(), AllocError> {
+    let view = text.as_wtf8();
+    let (begin, end) = (edit.begin, edit.end);
+    if end < begin || view.unit_len() < end {
+        return Err(AllocError);
+    }
+    let from = view.mark_at(view.start_mark(), begin);
+    let to = view.mark_at(view.start_mark(), end);
+    text.replace_units_at(from, begin, to, end, edit.new)
+}
+
+/// The string of the row's units, with a capacity of `capacity` bytes, or of what they need.
+fn with_capacity<'a>(
+    heap: Lent<'a>,
+    edit: Edit,
+    capacity: usize,
+) -> Result<Wtf8Buf<Lent<'a>>, Failed> {
+    heap.grant(2);
+    let Ok(mut text) = Wtf8Buf::with_capacity(heap, capacity) else {
+        return Err(Failed::by(Wrong::Memory));
+    };
+    match text.push_ill_formed_utf16(edit.units) {
+        Ok(()) => Ok(text),
+        Err(_) => Err(Failed::by(Wrong::Memory)),
+    }
+}
+
+/// Fails unless the row's units are replaced without a request if the new bytes, of which the dump has `len`, fit, and
+/// otherwise the string stays as it was.
+fn expect_replaced(
+    alloc: Global,
+    heap: Lent<'_>,
+    edit: Edit,
+    (len, capacity): (usize, usize),
+) -> Result<(), Failed> {
+    let Ok(mut text) = with_capacity(heap, edit, capacity) else {
+        return Err(Failed::by(Wrong::Memory));
+    };
+    let fits = len <= text.capacity();
+    heap.grant(0);
+    if replace(&mut text, edit).is_ok() != fits {
+        return Err(Failed::by(Wrong::Outcome));
+    }
+    expect((heap.requests() == 0) == fits, Wrong::Requests)?;
+    if fits {
+        return expect_bytes(alloc, text.as_wtf8(), edit.dump);
+    }
+    expect_units(alloc, text.as_wtf8(), edit.units)
+}
+
+/// Fails unless the row's units are replaced just if the bytes fit, at each capacity up to what is needed.
+fn expect_row(alloc: Global, heap: Lent<'_>, edit: Edit) -> Result<(), Failed> {
+    let len = edit.dump.len().wrapping_add(1) / 3;
+    for capacity in 0..=len {
+        expect_replaced(alloc, heap, edit, (len, capacity))?;
+    }
+    Ok(())
+}
+
+#[test]
+fn units_are_replaced_without_a_request_just_if_they_fit(rt: HostRuntime) -> Result<(), Failed> {
+    let alloc = rt.alloc();
+    let heap = Refusing::new(alloc, 0);
+    let mut row = 0usize;
+    for edit in &EDITS {
+        if let Err(failed) = expect_row(alloc, &heap, *edit) {
+            return in_row(row, Err(failed));
+        }
+        row = row.wrapping_add(1);
+    }
+    Ok(())
+}
