@@ -253,7 +253,7 @@ public:
         using pointer = void;
         using reference = char32_t;
 
-        iterator() noexcept : string_(nullptr), position_(0), at_(0), n_(0), part_() {}
+        iterator() noexcept : string_(nullptr), position_(0), at_(0), n_(0), is_last_(false), part_() {}
         char32_t operator*() const noexcept { return part_[at_]; }
         /* At the end the walk stays there. */
         iterator &operator++() noexcept {
@@ -268,6 +268,7 @@ public:
                 position_ -= encoded_len(part_[--at_]);
             } else if (wtf8_previous_code_point(string_, &position_, raw(part_)) == WTF8_OK) {
                 n_ = 1;
+                is_last_ = false;
             }
             return *this;
         }
@@ -282,19 +283,22 @@ public:
         /* How many code points are decoded at a time. */
         enum : size_t { PART = 32 };
         iterator(const wtf8_string *string, size_t position) noexcept
-            : string_(string), position_(position), at_(0), n_(0), part_() {}
+            : string_(string), position_(position), at_(0), n_(0), is_last_(false), part_() {}
         void decode() noexcept {
             size_t after = position_, n = 0;
             at_ = n_ = 0;
-            if (wtf8_copy_code_points(string_, &after, raw(part_), PART, &n) == WTF8_OK) n_ = n;
+            if (is_last_ || wtf8_copy_code_points(string_, &after, raw(part_), PART, &n) != WTF8_OK) return;
+            n_ = n;
+            is_last_ = n < PART;
         }
         static size_t encoded_len(char32_t value) noexcept {
             return value < 0x80 ? 1 : value < 0x800 ? 2 : value < 0x10000 ? 3 : 4;
         }
 
-        /* The first `n_` of the part are the code points from `position_` on, but that it is the `at_`th that is there. */
+        /* The part holds `n_` code points, all that are left if it is the last part. That of index `at_` is at the position. */
         const wtf8_string *string_;
         size_t position_, at_, n_;
+        bool is_last_;
         char32_t part_[PART];
     };
     using const_iterator = iterator;
