@@ -65,15 +65,28 @@ fn latin1_len(text: Wtf8<'_>) -> usize
     let mut left = text;
     let mut count = 0;
     while 0 < left.len() {
-        let end = left.boundary_before(PART.min(left.len()));
-        let (front, n) = part_latin1_len(left.slice_to(end));
+        let (part, rest) = next_part(left);
+        let (front, n) = part_latin1_len(part);
+        // The string has no more units than bytes, so they can be counted.
+        prove!(text.len() <= usize::MAX);
         count += front;
         if front < n {
             return count;
         }
-        left = left.slice_from(end);
+        left = rest;
     }
     count
+}
+
+/// Divides a view that is not empty: the code points of its first `PART` bytes, and the others.
+fn next_part<'a>(left: Wtf8<'a>) -> (Wtf8<'a>, Wtf8<'a>)
+    requires { 0 < length left.bytes.now }
+    ensures whole { view_units result.0 ++ view_units result.1 ≡ view_units left.entry }
+    ensures short { length result.0.bytes.now ≤ PART }
+    ensures less { length result.1.bytes.now < length left.entry.bytes.now }
+{
+    let end = left.boundary_before(PART.min(left.len()));
+    (left.slice_to(end), left.slice_from(end))
 }
 
 /// The same of at most `PART` bytes, and the number of their units.
@@ -108,9 +121,9 @@ fn write_latin1(text: Wtf8<'_>, out: &mut [u8])
     let mut left = text;
     let mut count = 0;
     while 0 < left.len() {
-        let end = left.boundary_before(PART.min(left.len()));
-        count = write_part(left.slice_to(end), out, count);
-        left = left.slice_from(end);
+        let (part, rest) = next_part(left);
+        count = write_part(part, out, count);
+        left = rest;
     }
 }
 
