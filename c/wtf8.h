@@ -310,7 +310,7 @@ wtf8_result wtf8_copy_code_points(const wtf8_string *string, size_t *position, u
 /* Whether the string holds no surrogate, so that wtf8_copy_utf8 gives its text. Linear in the length. */
 bool wtf8_is_utf8(const wtf8_string *string);
 
-/* Whether each unit is ASCII, below 80. Constant: a string of ASCII has as many bytes as units. Since 0.2.0. */
+/* Whether each unit is ASCII, below 80. Constant: such a string has one byte for each unit. Since 0.2.0. */
 bool wtf8_is_ascii(const wtf8_string *string);
 
 /* Whether each unit is at most FF, so that wtf8_copy_latin1 gives its text. Linear in the length up to the first that is

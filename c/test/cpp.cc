@@ -197,7 +197,7 @@ static void test_operators() {
     must(s.units() == mixed + u"\xD83D\xDCA9z" + mixed + u"\xD83D\xDCA9z", "+= of a code point and of strings");
 }
 
-/* What std::u16string has under the same names: each begin, length and place of short strings. */
+/* What std::u16string has under the same names: each begin, length and index in short strings. */
 static void test_as_std() {
     const std::vector<std::u16string> wholes = {u"", u"a", mixed, u"abcabcab", u"\xD83D\xDCA9\xD83D\xDCA9", u"aaaa"};
     for (const auto &whole : wholes) {

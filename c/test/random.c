@@ -341,7 +341,7 @@ static void step(enum call call, struct pair *p, struct pair *q) {
         }
         case PUSH_POINTS: {
             uint32_t list[LONGEST];
-            uint16_t listed[2 * LONGEST];
+            static uint16_t listed[2 * LONGEST];
             size_t count = n;
             n = 0;
             for (size_t i = 0; i < count; i++) n += units_of(list[i] = only_surrogates ? 0xD800 + below(0x800) : a_point(), listed + n);
@@ -663,8 +663,8 @@ static void step(enum call call, struct pair *p, struct pair *q) {
         case COPY_LATIN1: {
             /* Strings whose units are all of Latin-1 are seldom long by themselves. */
             if (below(2)) {
-                for (size_t i = 0; i < n; i++) text[i] = (uint8_t)(is_bad ? below(0x100) : below(0x80));
-                if (wtf8_set_latin1(&p->string, text, n) == WTF8_OK) for (p->n = 0; p->n < n; p->n++) p->units[p->n] = text[p->n];
+                for (size_t i = 0; i < n; i++) units[i] = (uint16_t)(is_bad ? below(0x100) : below(0x80));
+                if (wtf8_set_units(&p->string, units, n) == WTF8_OK) replace(p, units, n);
                 memcpy(string, &p->string, sizeof string);
                 capacity = wtf8_capacity(&p->string);
                 requested = requests;

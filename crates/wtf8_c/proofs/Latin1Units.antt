@@ -27,16 +27,25 @@ units-latin1 (p ∷ u) a =
 pub form_of_latin1 : (u : List ℕ) → AreLatin1 u → IsForm (bytes u) u
 form_of_latin1 u a = record { points = u; reads = record { clean = clean-latin1 u a; same_units = units-latin1 u a }; encoded = refl }
 
--- a string with as many bytes as units is ASCII
+-- a string that has one byte for each unit is ASCII
 pub ascii_by_length : {w u : List ℕ} → IsForm w u → length w ≡ length u → AreAscii u
 ascii_by_length {w} {u} f e =
     All-from_get_or (λ n. n < 0x80) u 0 (λ i l. Each1-get_or (λ n. n < 0x80) u i 0 l (ascii_same f e).0)
 
--- a string of ASCII has as many bytes as units
+-- a string of ASCII has one byte for each unit
 pub length_of_ascii : {w u : List ℕ} → IsForm w u → AreAscii u → length w ≡ length u
 length_of_ascii {w} {u} f a =
     let each = Each1-from_get_or (λ n. n < 0x80) u 0 (λ i l. All-get_or (λ n. n < 0x80) u i 0 l a) in
     ap length (same_form w u u f (IsKnownForm-ascii u each).form)
+
+-- units of ASCII are of Latin-1 up to their end
+pub ascii_ends : (u : List ℕ) (n : ℕ) → AreAscii u → n ≡ length u → EndsLatin1 u n
+ascii_ends u n a e =
+    let low = All-from_get_or (λ k. k ≤ 0xFF) u 0 (λ i l. omega (arith, All-get_or (λ k. k < 0x80) u i 0 l a)) in record {
+      within = omega (arith, e);
+      front = subst AreLatin1 (sym (take_all n u (omega (arith, e)))) low;
+      next = λ l. absurd (omega (arith, l, e));
+    }
 
 -- units before index `n` that are of Latin-1, and the others
 pub record AreLatin1To (all : List ℕ) (n : ℕ) (rest : List ℕ) : Type 0 where

@@ -130,8 +130,8 @@ pub extern "C" fn wtf8_is_ascii(string: &mut Wtf8String) -> bool
     has_one_byte_each(buf.as_wtf8(), buf.unit_len())
 }
 
-/// Whether a string has as many bytes as its `count` units, so that each is ASCII.
-fn has_one_byte_each(text: Wtf8<'_>, count: usize) -> bool
+/// Whether a string has one byte for each of its `count` units, so that each is ASCII.
+pub(crate) fn has_one_byte_each(text: Wtf8<'_>, count: usize) -> bool
     requires { count ≡ length (view_units text) }
     ensures { IsTrue result ↔ AreAscii (view_units text.entry) }
 {

@@ -1,10 +1,11 @@
 // Calls that ask whether the units are Latin-1, and copy them out as bytes.
-ghost use Rattle.std.specs.Prelude.{◌≡◌, ◌++◌, ◌⊎◌, ◌+◌, ◌<◌, ◌≤◌, ◌↔◌, ℕ, IsTrue, length, take, drop};
+ghost use Rattle.std.specs.Prelude.{◌≡◌, ◌++◌, ◌⊎◌, ◌+◌, ◌<◌, ◌≤◌, ◌↔◌, ℕ, IsFalse, IsTrue, length, take, drop};
 ghost use Rattle.wtf8.specs.View.{view_units};
 ghost use Rattle.wtf8_c.specs.Front.{with_front};
 ghost use Rattle.wtf8_c.specs.Latin1.{AreLatin1, EndsLatin1};
 ghost use Rattle.wtf8_c.specs.Kept.{IsKept};
 
+use crate::asking::has_one_byte_each;
 use crate::codes::{ARRAY_TOO_SHORT, NOT_LATIN1, OK};
 use crate::handle::Wtf8String;
 use wtf8::Wtf8;
@@ -19,7 +20,7 @@ pub extern "C" fn wtf8_is_latin1(string: &mut Wtf8String) -> bool
     ensures kept { IsKept string.old string.new }
 {
     let buf = string.buffer();
-    latin1_len(buf.as_wtf8()) == buf.unit_len()
+    latin1_len(buf.as_wtf8(), buf.unit_len()) == buf.unit_len()
 }
 
 /// Writes each unit as a byte at the front of `out`, and their number to `len`, if each is at most FF. If one is not, the
@@ -45,7 +46,7 @@ pub extern "C" fn wtf8_copy_latin1(
     let buf = string.buffer();
     let text = buf.as_wtf8();
     let needed = buf.unit_len();
-    let front = latin1_len(text);
+    let front = latin1_len(text, needed);
     if front < needed {
         *valid = front;
         return NOT_LATIN1;
@@ -58,8 +59,19 @@ pub extern "C" fn wtf8_copy_latin1(
     OK
 }
 
-/// The number of units before the first one that is greater than FF, or of all.
-fn latin1_len(text: Wtf8<'_>) -> usize
+/// The number of units before the first one that is greater than FF, or of all, which are `count`.
+fn latin1_len(text: Wtf8<'_>, count: usize) -> usize
+    requires { count ≡ length (view_units text) }
+    ensures { EndsLatin1 (view_units text.entry) result }
+{
+    if has_one_byte_each(text, count) {
+        return count;
+    }
+    scanned_len(text)
+}
+
+/// The same of a string that need not be ASCII.
+fn scanned_len(text: Wtf8<'_>) -> usize
     ensures { EndsLatin1 (view_units text.entry) result }
 {
     let mut left = text;
@@ -104,12 +116,26 @@ fn part_latin1_len(part: Wtf8<'_>) -> (usize, usize)
 fn low_len(units: &[u16]) -> usize
     ensures { EndsLatin1 units.now result }
 {
+    if !has_high(units) {
+        return units.len();
+    }
     for at in 0..units.len() {
         if 0xFF < units[at] {
             return at;
         }
     }
     units.len()
+}
+
+/// Whether a unit is greater than FF. All are looked at, several at a time.
+fn has_high(units: &[u16]) -> bool
+    ensures { IsFalse result → AreLatin1 units.now }
+{
+    let mut found = false;
+    for at in 0..units.len() {
+        found = found | (0xFF < units[at]);
+    }
+    found
 }
 
 /// Writes each unit as a byte at the front of `out`, which has room for them.
