@@ -76,6 +76,7 @@ DECLARE(void, init, handle *)
 DECLARE(wtf8_result, init_units, handle *, const uint16_t *, size_t)
 DECLARE(wtf8_result, set_units, handle *, const uint16_t *, size_t)
 DECLARE(wtf8_result, set_utf8, handle *, const uint8_t *, size_t, size_t *)
+DECLARE(wtf8_result, set_latin1, handle *, const uint8_t *, size_t)
 DECLARE(wtf8_result, set_string, handle *, handle *)
 DECLARE(void, clear, handle *)
 DECLARE(void, free, handle *)
@@ -84,6 +85,7 @@ DECLARE(void, shrink, handle *)
 DECLARE(wtf8_result, mark, handle *)
 DECLARE(wtf8_result, push_unit, handle *, uint16_t)
 DECLARE(wtf8_result, push_code_point, handle *, uint32_t)
+DECLARE(wtf8_result, push_code_points, handle *, const uint32_t *, size_t)
 DECLARE(wtf8_result, push_units, handle *, const uint16_t *, size_t)
 DECLARE(wtf8_result, push_latin1, handle *, const uint8_t *, size_t)
 DECLARE(wtf8_result, push_utf8, handle *, const uint8_t *, size_t, size_t *)
@@ -94,6 +96,7 @@ DECLARE(wtf8_result, push_string, handle *, handle *)
 DECLARE(wtf8_result, push_slice, handle *, handle *, size_t, size_t)
 DECLARE(size_t, unit_len, handle *)
 DECLARE(size_t, encoded_len, const uint16_t *, size_t)
+DECLARE(wtf8_result, utf8_unit_len, const uint8_t *, size_t, size_t *, size_t *)
 DECLARE(size_t, byte_len, handle *)
 DECLARE(size_t, capacity, handle *)
 DECLARE(wtf8_result, position_at, handle *, size_t, size_t *)
@@ -101,6 +104,8 @@ DECLARE(size_t, unit_before, handle *, size_t)
 DECLARE(wtf8_result, unit_at, handle *, size_t, uint16_t *)
 DECLARE(bool, is_boundary, handle *, size_t)
 DECLARE(bool, is_utf8, handle *)
+DECLARE(bool, is_ascii, handle *)
+DECLARE(bool, is_latin1, handle *)
 DECLARE(bool, equal, handle *, handle *)
 DECLARE(int32_t, compare_units, handle *, handle *)
 DECLARE(int32_t, compare_code_points, handle *, handle *)
@@ -110,6 +115,7 @@ DECLARE(uint64_t, hash_utf8, const uint8_t *, size_t, uint64_t, uint64_t)
 DECLARE(wtf8_result, next_surrogate, handle *, size_t *, uint16_t *)
 DECLARE(wtf8_result, next_code_point, handle *, size_t *, uint32_t *)
 DECLARE(wtf8_result, previous_code_point, handle *, size_t *, uint32_t *)
+DECLARE(wtf8_result, code_point_before, handle *, size_t, uint32_t *)
 DECLARE(bool, equal_units, handle *, const uint16_t *, size_t)
 DECLARE(int32_t, compare_with_units, handle *, const uint16_t *, size_t)
 DECLARE(bool, equal_utf8, handle *, const uint8_t *, size_t)
@@ -132,6 +138,7 @@ DECLARE(wtf8_result, copy_units, handle *, uint16_t *, size_t, size_t *)
 DECLARE(wtf8_result, copy_slice, handle *, size_t, size_t, uint16_t *, size_t, size_t *)
 DECLARE(wtf8_result, copy_utf8, handle *, uint8_t *, size_t, size_t *)
 DECLARE(wtf8_result, copy_lossy, handle *, uint8_t *, size_t, size_t *)
+DECLARE(wtf8_result, copy_latin1, handle *, uint8_t *, size_t, size_t *, size_t *)
 
 /* Functions that are given no context. */
 typedef struct {
@@ -250,6 +257,8 @@ DEFINE_CHANGE(reserve_bytes, (wtf8_string *string, size_t additional), (string, 
 DEFINE_CHANGE(mark, (wtf8_string *string), (string), (&changed))
 DEFINE_CHANGE(push_unit, (wtf8_string *string, uint16_t unit), (string, unit), (&changed, unit))
 DEFINE_CHANGE(push_code_point, (wtf8_string *string, uint32_t value), (string, value), (&changed, value))
+DEFINE_CHANGE(push_code_points, (wtf8_string *string, const uint32_t *points, size_t n), (string, points, n),
+              (&changed, n ? points : no_points, n))
 DEFINE_CHANGE(push_units, (wtf8_string *string, const uint16_t *units, size_t n), (string, units, n),
               (&changed, n ? units : nothing, n))
 DEFINE_CHANGE(push_latin1, (wtf8_string *string, const uint8_t *text, size_t n), (string, text, n),
@@ -289,6 +298,11 @@ wtf8_result wtf8_set_utf8(wtf8_string *string, const uint8_t *text, size_t n, si
     return PROVED(set_utf8)(&changed, n ? text : (const uint8_t *)nothing, n, valid ? valid : &unused);
 }
 
+wtf8_result wtf8_set_latin1(wtf8_string *string, const uint8_t *text, size_t n) {
+    handle changed = opened(string);
+    return PROVED(set_latin1)(&changed, n ? text : (const uint8_t *)nothing, n);
+}
+
 wtf8_result wtf8_set_string(wtf8_string *string, const wtf8_string *other) {
     wtf8_string empty;
     if (string == other) return WTF8_OK;
@@ -307,6 +321,13 @@ void wtf8_free(wtf8_string *string) {
     handle changed = {string};
     PROVED(free)(&changed);
     *string = (wtf8_string)WTF8_EMPTY;
+}
+
+void wtf8_move(wtf8_string *string, wtf8_string *other) {
+    if (string == other) return;
+    wtf8_free(string);
+    *string = *other;
+    *other = (wtf8_string)WTF8_EMPTY;
 }
 
 void wtf8_shrink(wtf8_string *string) {
@@ -399,6 +420,18 @@ bool wtf8_is_utf8(const wtf8_string *string) {
     return PROVED(is_utf8)(&copy);
 }
 
+bool wtf8_is_ascii(const wtf8_string *string) {
+    wtf8_string empty;
+    handle copy = asked(string, &empty);
+    return PROVED(is_ascii)(&copy);
+}
+
+bool wtf8_is_latin1(const wtf8_string *string) {
+    wtf8_string empty;
+    handle copy = asked(string, &empty);
+    return PROVED(is_latin1)(&copy);
+}
+
 bool wtf8_equal(const wtf8_string *string, const wtf8_string *other) {
     wtf8_string empty, empty_other;
     handle copy = asked(string, &empty), others = asked(other, &empty_other);
@@ -427,6 +460,11 @@ size_t wtf8_encoded_len(const uint16_t *units, size_t n) {
     return PROVED(encoded_len)(n ? units : nothing, n);
 }
 
+wtf8_result wtf8_utf8_unit_len(const uint8_t *text, size_t n, size_t *len, size_t *valid) {
+    size_t unused;
+    return PROVED(utf8_unit_len)(n ? text : (const uint8_t *)nothing, n, len, valid ? valid : &unused);
+}
+
 uint64_t wtf8_hash_units(const uint16_t *units, size_t n, uint64_t seed_0, uint64_t seed_1) {
     return PROVED(hash_units)(n ? units : nothing, n, seed_0, seed_1);
 }
@@ -451,6 +489,12 @@ wtf8_result wtf8_previous_code_point(const wtf8_string *string, size_t *position
     wtf8_string empty;
     handle copy = asked(string, &empty);
     return PROVED(previous_code_point)(&copy, position, code_point);
+}
+
+wtf8_result wtf8_code_point_before(const wtf8_string *string, size_t index, uint32_t *code_point) {
+    wtf8_string empty;
+    handle copy = asked(string, &empty);
+    return PROVED(code_point_before)(&copy, index, code_point);
 }
 
 bool wtf8_equal_units(const wtf8_string *string, const uint16_t *units, size_t n) {
@@ -567,6 +611,13 @@ wtf8_result wtf8_copy_lossy(const wtf8_string *string, uint8_t *out, size_t size
     return PROVED(copy_lossy)(&copy, size ? out : (uint8_t *)nothing, size, len);
 }
 
+wtf8_result wtf8_copy_latin1(const wtf8_string *string, uint8_t *out, size_t size, size_t *len, size_t *valid) {
+    size_t unused;
+    wtf8_string empty;
+    handle copy = asked(string, &empty);
+    return PROVED(copy_latin1)(&copy, size ? out : (uint8_t *)nothing, size, len, valid ? valid : &unused);
+}
+
 const char *wtf8_result_text(wtf8_result code) {
     switch (code) {
         case WTF8_OK: return "the call did what it says";
@@ -577,6 +628,7 @@ const char *wtf8_result_text(wtf8_result code) {
         case WTF8_BAD_CODE_POINT: return "the number is not a code point";
         case WTF8_NOT_UTF8: return "the bytes are not UTF-8";
         case WTF8_END: return "there is no further code point, surrogate or index";
+        case WTF8_NOT_LATIN1: return "a unit is greater than FF";
     }
     return "not a code of this library";
 }

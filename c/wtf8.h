@@ -24,8 +24,8 @@
  * after what is copied out.
  *
  * In each call the string that is changed, or else the one that is asked, comes first. If several codes apply, a call
- * returns the first of them in this order: BAD_CODE_POINT, NOT_UTF8, BAD_POSITION, HAS_SURROGATE, ARRAY_TOO_SHORT,
- * NO_MEMORY. END comes alone.
+ * returns the first of them in this order: BAD_CODE_POINT, NOT_UTF8, BAD_POSITION, HAS_SURROGATE, NOT_LATIN1,
+ * ARRAY_TOO_SHORT, NO_MEMORY. END comes alone.
  *
  * Costs: a call takes time linear in the units or bytes that it is given or hands out, if its text says no other. An
  * append to a string without room for it moves the string to a block of at least twice the capacity, so that n appends of
@@ -94,7 +94,8 @@ typedef enum wtf8_result {
     WTF8_HAS_SURROGATE = 4,   /* the string holds a surrogate, so it is not a text in UTF-8 */
     WTF8_BAD_CODE_POINT = 5,  /* the number is greater than 10FFFF */
     WTF8_NOT_UTF8 = 6,        /* the bytes are not UTF-8 */
-    WTF8_END = 7              /* there is no further code point, surrogate or index */
+    WTF8_END = 7,             /* there is no further code point, surrogate or index */
+    WTF8_NOT_LATIN1 = 8       /* a unit is greater than FF, so the string is not a text in Latin-1; since 0.2.0 */
 } wtf8_result;
 
 /* The code in words, for a message. The text is static. */
@@ -126,7 +127,7 @@ wtf8_memory wtf8_memory_in_use(void);
 /* ---- Making a string ----
  *
  * A wtf8_set_ call uses the string's capacity if the new string fits it, and keeps it, and is not refused then: of a text
- * or a string the bytes have to fit, of up to 1,024 units 3 bytes for each, of more units their bytes. Else it makes a new
+ * or a string its bytes in WTF-8 have to fit, of up to 1,024 units 3 bytes for each, of more units their bytes. Else it makes a new
  * buffer, and keeps the old one until that is filled. A string that was not written has no capacity.
  */
 
@@ -134,6 +135,12 @@ wtf8_memory wtf8_memory_in_use(void);
  * surrogate pair, 3 for any other unit. */
 WTF8_READS(1, 2)
 size_t wtf8_encoded_len(const uint16_t *units, size_t n);
+
+/* Writes the number of units of a text of `n` bytes in UTF-8 to `*len`; a string of it has `n` bytes. With NOT_UTF8 only the
+ * position of the first byte that is not UTF-8 is written, to `*valid`, unless that is NULL. Codes: OK, NOT_UTF8. Since
+ * 0.2.0. */
+WTF8_CODE WTF8_READS(1, 2) WTF8_WRITES(3) WTF8_WRITES(4)
+wtf8_result wtf8_utf8_unit_len(const uint8_t *text, size_t n, size_t *len, size_t *valid);
 
 /* Replaces the string by `n` units. Never refused if 3 bytes for each fit, or, of more than 1,024 units, if their bytes do
  * (wtf8_encoded_len). Else a string that has a buffer gets a capacity of 3 bytes for each of up to 1,024 units, so that
@@ -147,9 +154,19 @@ wtf8_result wtf8_set_units(wtf8_string *string, const uint16_t *units, size_t n)
 WTF8_CODE WTF8_CHANGES(1) WTF8_READS(2, 3) WTF8_WRITES(4)
 wtf8_result wtf8_set_utf8(wtf8_string *string, const uint8_t *text, size_t n, size_t *valid);
 
+/* Replaces the string by a text of `n` bytes in Latin-1, each of which is the code point of its value: one byte below 80, two
+ * from there on. Never refused if they fit. Codes: OK, NO_MEMORY. Since 0.2.0. */
+WTF8_CODE WTF8_CHANGES(1) WTF8_READS(2, 3)
+wtf8_result wtf8_set_latin1(wtf8_string *string, const uint8_t *text, size_t n);
+
 /* Replaces the string by a copy of `other`. Never refused if it fits. Codes: OK, NO_MEMORY. */
 WTF8_CODE WTF8_CHANGES(1)
 wtf8_result wtf8_set_string(wtf8_string *string, const wtf8_string *other);
+
+/* Frees what `string` owns and gives it all that `other` owns, its capacity and its marks too: `other` is the empty string
+ * then. Nothing happens if both are one string. Constant. Since 0.2.0. */
+WTF8_CHANGES(1) WTF8_CHANGES(2)
+void wtf8_move(wtf8_string *string, wtf8_string *other);
 
 /* Empties the string and keeps its capacity. Constant. */
 WTF8_CHANGES(1)
@@ -195,6 +212,11 @@ wtf8_result wtf8_push_unit(wtf8_string *string, uint16_t unit);
 /* One code point, a surrogate too. Never refused if it fits. Codes: OK, NO_MEMORY, BAD_CODE_POINT. */
 WTF8_CODE WTF8_CHANGES(1)
 wtf8_result wtf8_push_code_point(wtf8_string *string, uint32_t value);
+
+/* `n` code points, surrogates too, if none is greater than 10FFFF: all of them or none. Never refused if they fit. Codes: OK,
+ * NO_MEMORY, BAD_CODE_POINT. Since 0.2.0. */
+WTF8_CODE WTF8_CHANGES(1) WTF8_READS(2, 3)
+wtf8_result wtf8_push_code_points(wtf8_string *string, const uint32_t *points, size_t n);
 
 /* `n` units. Never refused if they fit. Codes: OK, NO_MEMORY. */
 WTF8_CODE WTF8_CHANGES(1) WTF8_READS(2, 3)
@@ -278,6 +300,12 @@ wtf8_result wtf8_next_code_point(const wtf8_string *string, size_t *position, ui
 WTF8_CODE WTF8_CHANGES(2) WTF8_WRITES(3)
 wtf8_result wtf8_previous_code_point(const wtf8_string *string, size_t *position, uint32_t *code_point);
 
+/* Writes the code point before the unit at `index`, found by the marks, to `*code_point`, a lone surrogate too: the lead of a
+ * pair that `index` divides. It has two units if it is 10000 or greater, else one. Codes: OK, BAD_POSITION (`index` is greater
+ * than the length), END (it is 0). Since 0.2.0. */
+WTF8_CODE WTF8_WRITES(3)
+wtf8_result wtf8_code_point_before(const wtf8_string *string, size_t index, uint32_t *code_point);
+
 /* Writes the first surrogate after the boundary `*position` to `*unit`, and moves `*position` past its 3 bytes: what was
  * between is text. Any code but OK leaves both numbers as they are. Linear in the bytes that it moves over. Codes: OK,
  * BAD_POSITION (`*position` is not a boundary), END (no surrogate is after it). */
@@ -293,6 +321,13 @@ wtf8_result wtf8_copy_code_points(const wtf8_string *string, size_t *position, u
 
 /* Whether the string holds no surrogate, so that wtf8_copy_utf8 gives its text. Linear in the length. */
 bool wtf8_is_utf8(const wtf8_string *string);
+
+/* Whether each unit is ASCII, below 80. Constant: such a string has one byte for each unit. Since 0.2.0. */
+bool wtf8_is_ascii(const wtf8_string *string);
+
+/* Whether each unit is at most FF, so that wtf8_copy_latin1 gives its text. Linear in the length up to the first that is
+ * not. Since 0.2.0. */
+bool wtf8_is_latin1(const wtf8_string *string);
 
 /* Whether two strings have the same units. Linear in the shorter length, constant if the lengths in bytes differ. */
 bool wtf8_equal(const wtf8_string *string, const wtf8_string *other);
@@ -426,6 +461,12 @@ wtf8_result wtf8_copy_utf8(const wtf8_string *string, uint8_t *out, size_t size,
 /* The same of the text with U+FFFD in place of each surrogate. Codes: OK, ARRAY_TOO_SHORT. */
 WTF8_CODE WTF8_WRITES(2, 3) WTF8_WRITES(4)
 wtf8_result wtf8_copy_lossy(const wtf8_string *string, uint8_t *out, size_t size, size_t *len);
+
+/* The same of the units, each as one byte, if none is greater than FF: a text in Latin-1, or in ASCII if the string is. With
+ * NOT_LATIN1 only the index of the first unit that is greater is written, to `*valid`, unless that is NULL. The string is read
+ * before anything is written. Codes: OK, NOT_LATIN1, ARRAY_TOO_SHORT. Since 0.2.0. */
+WTF8_CODE WTF8_WRITES(2, 3) WTF8_WRITES(4) WTF8_WRITES(5)
+wtf8_result wtf8_copy_latin1(const wtf8_string *string, uint8_t *out, size_t size, size_t *len, size_t *valid);
 
 #ifdef __cplusplus
 }

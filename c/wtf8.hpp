@@ -5,8 +5,8 @@
  * that are const only read it, so any number of threads may make them at once; calls that change it need a lock.
  *
  * Refused memory is std::bad_alloc. An index or a position after the end, or not at a boundary, is std::out_of_range. A
- * number that is not a code point, bytes that are not UTF-8, and a surrogate in what is copied out as UTF-8 are
- * wtf8::error. A call that throws changes nothing. Without exceptions (-fno-exceptions, in all files of a program or in
+ * number that is not a code point, bytes that are not UTF-8, a surrogate in what is copied out as UTF-8, and a unit greater
+ * than FF in what is copied out as Latin-1 are wtf8::error. A call that throws changes nothing. Without exceptions (-fno-exceptions, in all files of a program or in
  * none) such a call calls the function that wtf8::on_failure was given, and then std::abort.
  */
 #ifndef WTF8_HPP
@@ -35,19 +35,27 @@
 #define WTF8_COLD
 #endif
 
-/* Units and texts as arguments: views if the standard has them. */
+/* Units and texts as arguments: views if the standard has them. From C++20 on a text in UTF-8 may be of char8_t too. */
 #if 201703L <= __cplusplus
 #include <string_view>
 namespace wtf8 { using units_in = std::u16string_view; using text_in = std::string_view; }
 #else
 namespace wtf8 { using units_in = const std::u16string &; using text_in = const std::string &; }
 #endif
+#if defined(__cpp_char8_t) && defined(__cpp_lib_char8_t)
+#define WTF8_WITH_CHAR8
+namespace wtf8 {
+using text8_in = std::u8string_view;
+inline text_in plain(text8_in text) noexcept { return text_in(reinterpret_cast<const char *>(text.data()), text.size()); }
+}
+#endif
 
 namespace wtf8 {
 
 #if defined(__cpp_exceptions) || defined(__EXCEPTIONS)
 
-/* BAD_CODE_POINT, HAS_SURROGATE, or NOT_UTF8 with the position of the first byte that is not UTF-8. */
+/* BAD_CODE_POINT, HAS_SURROGATE, NOT_UTF8 with the position of the first byte that is not UTF-8, or NOT_LATIN1 with the index
+ * of the first unit that is greater than FF. */
 struct error : std::invalid_argument {
     explicit error(wtf8_result code_, size_t position_ = 0)
         : std::invalid_argument(wtf8_result_text(code_)), code(code_), position(position_) {}
@@ -64,7 +72,8 @@ struct error : std::invalid_argument {
 
 #else
 
-/* What a failure calls: `position` is that of the first byte that is not UTF-8 with NOT_UTF8, else 0. */
+/* What a failure calls: `position` is that of the first byte that is not UTF-8 with NOT_UTF8, the index of the first unit that
+ * is greater than FF with NOT_LATIN1, else 0. */
 using failure_handler = void (*)(wtf8_result code, size_t position);
 
 inline failure_handler &the_failure_handler() noexcept {
@@ -94,13 +103,27 @@ inline void check(wtf8_result code, size_t position = 0) {
 
 class string {
 public:
+    /* What push_back takes, so that std::back_inserter appends units. */
+    using value_type = char16_t;
+    /* What find and rfind return if there is no index. */
+    enum : size_t { npos = static_cast<size_t>(-1) };
+
     string() noexcept : string_() {}
     string(const char16_t *units, size_t n) : string() { assign(units, n); }
     explicit string(units_in units) : string(units.data(), units.size()) {}
     WTF8_NODISCARD static string from_utf8(text_in text) { return std::move(string().assign_utf8(text)); }
+#ifdef WTF8_WITH_CHAR8
+    WTF8_NODISCARD static string from_utf8(text8_in text) { return from_utf8(plain(text)); }
+#endif
+    WTF8_NODISCARD static string from_latin1(text_in text) { return std::move(string().assign_latin1(text)); }
     WTF8_NODISCARD string clone() const { return std::move(string().assign(*this)); }
     WTF8_NODISCARD string slice(size_t begin, size_t end) const {
         return std::move(string().assign(*this, begin, end));
+    }
+    /* At most `n` units from `begin` on, as std::u16string has it. */
+    WTF8_NODISCARD string substr(size_t begin = 0, size_t n = npos) const {
+        size_t len = unit_len(), most = begin <= len ? len - begin : 0;
+        return slice(begin, n < most ? begin + n : begin + most);
     }
 
     string(const string &) = delete;
@@ -137,6 +160,12 @@ public:
         wtf8_result code = wtf8_set_utf8(get(), raw(text.data()), text.size(), &valid);
         return done(code, valid);
     }
+#ifdef WTF8_WITH_CHAR8
+    string &assign_utf8(text8_in text) { return assign_utf8(plain(text)); }
+    string &append_utf8(text8_in text) { return append_utf8(plain(text)); }
+    WTF8_NODISCARD bool equals_utf8(text8_in text) const noexcept { return equals_utf8(plain(text)); }
+#endif
+    string &assign_latin1(text_in text) { return done(wtf8_set_latin1(get(), raw(text.data()), text.size())); }
     string &assign(const string &other) { return done(wtf8_set_string(get(), other.get())); }
     string &assign(const string &other, size_t begin, size_t end) {
         return done(wtf8_slice_units(get(), other.get(), begin, end));
@@ -144,7 +173,11 @@ public:
 
     /* Appending. */
     string &append_unit(char16_t unit) { return done(wtf8_push_unit(get(), unit)); }
+    void push_back(char16_t unit) { append_unit(unit); }
     string &append_code_point(char32_t value) { return done(wtf8_push_code_point(get(), value)); }
+    string &append_code_points(const char32_t *points, size_t n) {
+        return done(wtf8_push_code_points(get(), raw(points), n));
+    }
     string &append(const char16_t *units, size_t n) { return done(wtf8_push_units(get(), raw(units), n)); }
     string &append(units_in units) { return append(units.data(), units.size()); }
     string &append_latin1(text_in text) { return done(wtf8_push_latin1(get(), raw(text.data()), text.size())); }
@@ -179,6 +212,13 @@ public:
     WTF8_NODISCARD static size_t encoded_len(units_in units) noexcept {
         return wtf8_encoded_len(raw(units.data()), units.size());
     }
+    /* The number of units of a text in UTF-8. */
+    WTF8_NODISCARD static size_t utf8_unit_len(text_in text) {
+        size_t n = 0, valid = 0;
+        wtf8_result code = wtf8_utf8_unit_len(raw(text.data()), text.size(), &n, &valid);
+        check(code, valid);
+        return n;
+    }
     void reserve_bytes(size_t additional) { check(wtf8_reserve_bytes(get(), additional)); }
     WTF8_NODISCARD size_t capacity() const noexcept { return wtf8_capacity(get()); }
     void shrink() noexcept { wtf8_shrink(get()); }
@@ -204,6 +244,10 @@ public:
     WTF8_NODISCARD bool previous(size_t &position, char32_t &value) const {
         return found(wtf8_previous_code_point(get(), &position, raw(&value)));
     }
+    /* The one before the unit at an index. */
+    WTF8_NODISCARD bool before(size_t index, char32_t &value) const {
+        return found(wtf8_code_point_before(get(), index, raw(&value)));
+    }
     /* At most `size` of them. The number written is 0 at the end. */
     WTF8_NODISCARD size_t copy_code_points(size_t &position, char32_t *out, size_t size) const {
         size_t n = 0;
@@ -214,8 +258,8 @@ public:
         return found(wtf8_next_surrogate(get(), &position, raw(&unit)));
     }
 
-    /* A walk over the code points, lone surrogates too. The string is not changed or moved meanwhile. <string> has the
-     * tags: <iterator> would be 5,000 lines more. */
+    /* A walk over the code points, lone surrogates too, which are decoded some at a time, so that a copy of it copies these.
+     * The string is not changed or moved meanwhile. <string> has the tags: <iterator> would be 5,000 lines more. */
     class iterator {
     public:
         using iterator_category = std::input_iterator_tag;
@@ -225,14 +269,23 @@ public:
         using pointer = void;
         using reference = char32_t;
 
-        iterator() noexcept : string_(nullptr), position_(0), after_(0), value_(0) {}
-        char32_t operator*() const noexcept { return value_; }
-        iterator &operator++() noexcept { *this = iterator(string_, after_); return *this; }
+        iterator() noexcept : string_(nullptr), position_(0), at_(0), n_(0), is_last_(false), part_() {}
+        char32_t operator*() const noexcept { return part_[at_]; }
+        /* At the end the walk stays there. */
+        iterator &operator++() noexcept {
+            if (n_ == 0) return *this;
+            position_ += encoded_len(part_[at_]);
+            if (++at_ == n_) decode();
+            return *this;
+        }
         iterator operator++(int) noexcept { iterator before(*this); ++*this; return before; }
         iterator &operator--() noexcept {
-            size_t before = position_;
-            if (wtf8_previous_code_point(string_, &before, raw(&value_)) == WTF8_OK) after_ = position_;
-            position_ = before;
+            if (0 < at_) {
+                position_ -= encoded_len(part_[--at_]);
+            } else if (wtf8_previous_code_point(string_, &position_, raw(part_)) == WTF8_OK) {
+                n_ = 1;
+                is_last_ = false;
+            }
             return *this;
         }
         iterator operator--(int) noexcept { iterator before(*this); --*this; return before; }
@@ -243,23 +296,39 @@ public:
 
     private:
         friend class string;
-        /* After the last code point there is none, and the walk stays there. */
+        /* How many code points are decoded at a time. */
+        enum : size_t { PART = 32 };
         iterator(const wtf8_string *string, size_t position) noexcept
-            : string_(string), position_(position), after_(position), value_(0) {
-            if (wtf8_next_code_point(string, &after_, raw(&value_)) != WTF8_OK) after_ = position;
+            : string_(string), position_(position), at_(0), n_(0), is_last_(false), part_() {}
+        void decode() noexcept {
+            size_t after = position_, n = 0;
+            at_ = n_ = 0;
+            if (is_last_ || wtf8_copy_code_points(string_, &after, raw(part_), PART, &n) != WTF8_OK) return;
+            n_ = n;
+            is_last_ = n < PART;
+        }
+        static size_t encoded_len(char32_t value) noexcept {
+            return value < 0x80 ? 1 : value < 0x800 ? 2 : value < 0x10000 ? 3 : 4;
         }
 
+        /* The part holds `n_` code points, all that are left if it is the last part. That of index `at_` is at the position. */
         const wtf8_string *string_;
-        size_t position_, after_;
-        char32_t value_;
+        size_t position_, at_, n_;
+        bool is_last_;
+        char32_t part_[PART];
     };
     using const_iterator = iterator;
-    WTF8_NODISCARD iterator begin() const noexcept { return iterator(get(), 0); }
+    WTF8_NODISCARD iterator begin() const noexcept {
+        iterator first(get(), 0);
+        first.decode();
+        return first;
+    }
     WTF8_NODISCARD iterator end() const noexcept { return iterator(get(), byte_len()); }
 
     /* Asking. */
     WTF8_NODISCARD bool empty() const noexcept { return byte_len() == 0; }
     WTF8_NODISCARD size_t unit_len() const noexcept { return wtf8_unit_len(get()); }
+    WTF8_NODISCARD size_t size() const noexcept { return unit_len(); }
     WTF8_NODISCARD size_t byte_len() const noexcept { return wtf8_byte_len(get()); }
     WTF8_NODISCARD char16_t at(size_t index) const {
         char16_t unit = 0;
@@ -275,9 +344,8 @@ public:
     WTF8_NODISCARD size_t unit_before(size_t position) const noexcept { return wtf8_unit_before(get(), position); }
     WTF8_NODISCARD bool is_boundary(size_t position) const noexcept { return wtf8_is_boundary(get(), position); }
     WTF8_NODISCARD bool is_utf8() const noexcept { return wtf8_is_utf8(get()); }
-    /* Whether units begin at the index, or are the last. */
-    /* What find and rfind return if there is no index. */
-    enum : size_t { npos = static_cast<size_t>(-1) };
+    WTF8_NODISCARD bool is_ascii() const noexcept { return wtf8_is_ascii(get()); }
+    WTF8_NODISCARD bool is_latin1() const noexcept { return wtf8_is_latin1(get()); }
     /* The first index at or after `from` at which units or those of a string occur, and the last one at or before it. */
     WTF8_NODISCARD size_t find(const string &other, size_t from = 0) const noexcept {
         size_t index = npos;
@@ -295,7 +363,16 @@ public:
         size_t index = npos;
         return wtf8_rfind_units(get(), from, raw(units.data()), units.size(), &index) == WTF8_OK ? index : static_cast<size_t>(npos);
     }
+    WTF8_NODISCARD size_t find(char16_t unit, size_t from = 0) const noexcept {
+        size_t index = npos;
+        return wtf8_find_units(get(), from, raw(&unit), 1, &index) == WTF8_OK ? index : static_cast<size_t>(npos);
+    }
+    WTF8_NODISCARD size_t rfind(char16_t unit, size_t from = npos) const noexcept {
+        size_t index = npos;
+        return wtf8_rfind_units(get(), from, raw(&unit), 1, &index) == WTF8_OK ? index : static_cast<size_t>(npos);
+    }
     WTF8_NODISCARD bool divides_pair(size_t index) const noexcept { return wtf8_divides_pair(get(), index); }
+    /* Whether units begin at the index, or are the last. */
     WTF8_NODISCARD bool starts_with(const string &other, size_t index = 0) const noexcept {
         return wtf8_starts_with(get(), index, other.get());
     }
@@ -334,9 +411,21 @@ public:
         return out;
     }
     WTF8_NODISCARD std::u16string units(size_t begin, size_t end) const {
-        std::u16string out(begin <= end && end <= unit_len() ? end - begin : 0, 0);
+        std::u16string out(part_len(begin, end), 0);
+        copy_units(begin, end, &out[0]);
+        return out;
+    }
+    /* The units from `begin` to before `end` into an array that has room for them. Returns their number. */
+    size_t copy_units(size_t begin, size_t end, char16_t *out) const {
         size_t n = 0;
-        check(wtf8_copy_slice(get(), begin, end, raw(&out[0]), out.size(), &n));
+        check(wtf8_copy_slice(get(), begin, end, raw(out), part_len(begin, end), &n));
+        return n;
+    }
+    WTF8_NODISCARD std::string latin1() const {
+        std::string out(unit_len(), 0);
+        size_t n = 0, valid = 0;
+        wtf8_result code = wtf8_copy_latin1(get(), raw(&out[0]), out.size(), &n, &valid);
+        check(code, valid);
         return out;
     }
     /* Each has as many bytes as the string, since U+FFFD has three, as a surrogate. */
@@ -358,11 +447,14 @@ private:
     /* char16_t and uint16_t are different types, so an array of one must not be read as of the other. Only the library
      * does: it is compiled apart, so the compiler has to expect any access there. The same holds of char32_t. */
     static const uint16_t *raw(const char16_t *at) { return reinterpret_cast<const uint16_t *>(at); }
+    static const uint32_t *raw(const char32_t *at) { return reinterpret_cast<const uint32_t *>(at); }
     static const uint8_t *raw(const char *at) { return reinterpret_cast<const uint8_t *>(at); }
     static uint8_t *raw(char *at) { return reinterpret_cast<uint8_t *>(at); }
     static uint16_t *raw(char16_t *at) { return reinterpret_cast<uint16_t *>(at); }
     static uint32_t *raw(char32_t *at) { return reinterpret_cast<uint32_t *>(at); }
 
+    /* The number of units of a part, or 0 if there is no such part. */
+    size_t part_len(size_t begin, size_t end) const noexcept { return begin <= end && end <= unit_len() ? end - begin : 0; }
     string &done(wtf8_result code, size_t position = 0) { check(code, position); return *this; }
     static bool found(wtf8_result code) {
         if (code != WTF8_END) check(code);
@@ -383,10 +475,39 @@ WTF8_OPERATOR(==, equals, true) WTF8_OPERATOR(!=, equals, true)
 WTF8_OPERATOR(<, compare, 0) WTF8_OPERATOR(<=, compare, 0)
 WTF8_OPERATOR(>, compare, 0) WTF8_OPERATOR(>=, compare, 0)
 #undef WTF8_OPERATOR
+/* Whether a string is that of a text in UTF-8. */
+#define WTF8_TEXT_OPERATORS(type)                                                                             \
+    inline bool operator==(const string &a, type b) noexcept { return a.equals_utf8(b); }                     \
+    inline bool operator!=(const string &a, type b) noexcept { return !a.equals_utf8(b); }                    \
+    inline bool operator==(type a, const string &b) noexcept { return b.equals_utf8(a); }                     \
+    inline bool operator!=(type a, const string &b) noexcept { return !b.equals_utf8(a); }
+WTF8_TEXT_OPERATORS(text_in)
+#ifdef WTF8_WITH_CHAR8
+WTF8_TEXT_OPERATORS(text8_in)
+#endif
+#undef WTF8_TEXT_OPERATORS
 #ifdef __cpp_impl_three_way_comparison
 inline std::strong_ordering operator<=>(const string &a, const string &b) noexcept { return a.compare(b) <=> 0; }
 inline std::strong_ordering operator<=>(const string &a, units_in b) noexcept { return a.compare(b) <=> 0; }
 #endif
+
+/* A string of both sides' units, one of which may be units. A string that may be moved from is appended to. */
+template <class Other> string joined(const string &a, const Other &b, size_t n) {
+    string out;
+    out.reserve_bytes(a.byte_len() + n);
+    return std::move(out.append(a).append(b));
+}
+WTF8_NODISCARD inline string operator+(const string &a, const string &b) { return joined(a, b, b.byte_len()); }
+WTF8_NODISCARD inline string operator+(const string &a, units_in b) { return joined(a, b, string::encoded_len(b)); }
+WTF8_NODISCARD inline string operator+(string &&a, const string &b) { return std::move(a.append(b)); }
+WTF8_NODISCARD inline string operator+(string &&a, units_in b) { return std::move(a.append(b)); }
+WTF8_NODISCARD inline string operator+(units_in a, const string &b) { return std::move(string(a).append(b)); }
+
+/* Writes the text with U+FFFD in place of each surrogate, as that std::string is written. */
+template <class Char>
+auto operator<<(std::basic_ostream<Char> &out, const string &a) -> decltype(out << a.lossy()) {
+    return out << a.lossy();
+}
 
 /* Hashes under a seed, which should be random if others choose the strings. std::hash has the seed 0. */
 struct hasher {
@@ -407,5 +528,6 @@ struct hasher {
 namespace std { template <> struct hash<wtf8::string> : wtf8::hasher {}; }
 #undef WTF8_NODISCARD
 #undef WTF8_COLD
+#undef WTF8_WITH_CHAR8
 
 #endif

@@ -41,17 +41,21 @@ class Memory(ctypes.Structure):
 RESULTS = [
     (Memory, "memory_in_use"),
     (ctypes.c_char_p, "result_text version"),
-    (None, "use_memory use_memory_with clear free shrink"),
+    (None, "use_memory use_memory_with move clear free shrink"),
     (ctypes.c_size_t, "encoded_len unit_len byte_len capacity unit_before"),
-    (ctypes.c_bool, "is_boundary is_utf8 equal equal_units equal_utf8 starts_with starts_with_units divides_pair"),
+    (
+        ctypes.c_bool,
+        "is_boundary is_utf8 is_ascii is_latin1 equal equal_units equal_utf8 starts_with starts_with_units divides_pair",
+    ),
     (ctypes.c_uint64, "hash hash_units hash_utf8"),
     (
         ctypes.c_int32,
         """
-        set_units set_utf8 set_string reserve_bytes mark push_unit push_code_point push_units push_latin1 push_utf8
-        push_utf8_part push_utf8_lossy push_utf8_lossy_part push_string push_slice position_at unit_at next_surrogate
-        next_code_point previous_code_point truncate_bytes truncate_units pop slice_units insert_units remove_units
-        replace_units copy_code_points copy_units copy_slice copy_utf8 copy_lossy compare_units compare_code_points
+        set_units set_utf8 set_latin1 set_string reserve_bytes mark push_unit push_code_point push_code_points
+        push_units push_latin1 push_utf8 push_utf8_part push_utf8_lossy push_utf8_lossy_part push_string push_slice
+        utf8_unit_len position_at unit_at next_surrogate next_code_point previous_code_point code_point_before
+        truncate_bytes truncate_units pop slice_units insert_units remove_units replace_units copy_code_points
+        copy_units copy_slice copy_utf8 copy_lossy copy_latin1 compare_units compare_code_points
         compare_with_units find find_units rfind rfind_units
         """,
     ),
@@ -155,6 +159,19 @@ class String:
             text = (ctypes.c_uint8 * n.value)()
             check(lib.wtf8_copy_lossy(self, text, n, ctypes.byref(n)))
         return bytes(text).decode()
+
+    def isascii(self) -> bool:
+        """Whether each unit is ASCII."""
+        with self.lock:
+            return lib.wtf8_is_ascii(self)
+
+    def latin1(self) -> bytes:
+        """The units, each as a byte. ValueError if one is greater than 0xFF."""
+        with self.lock:
+            n = ctypes.c_size_t(lib.wtf8_unit_len(self))
+            text = (ctypes.c_uint8 * n.value)()
+            check(lib.wtf8_copy_latin1(self, text, n, ctypes.byref(n), None))
+        return bytes(text)
 
     def __getitem__(self, index: Union[int, slice]) -> String:
         """A string of the unit at an index, or of the units of a slice."""

@@ -114,6 +114,11 @@ WTF8_INLINE void wtf8_copied(wtf8_result code, const void *out, size_t size, con
     if (code == WTF8_OK) wtf8_wrote(out, *len * size);
 }
 
+/* A call wrote where the units or the bytes are not what they must be to `*valid`, unless that is NULL, if it says so. */
+WTF8_INLINE void wtf8_not(wtf8_result code, wtf8_result says, const size_t *valid) {
+    if (code == says && valid) wtf8_wrote(valid, sizeof *valid);
+}
+
 /* A step of a walk wrote both numbers, unless it failed. */
 WTF8_INLINE void wtf8_walked(wtf8_result code, const size_t *position, const uint32_t *code_point) {
     if (code != WTF8_OK) return;
@@ -144,13 +149,20 @@ WTF8_INLINE void wtf8_walked(wtf8_result code, const size_t *position, const uin
 
 /* Making a string. */
 WTF8_TELLS(size_t, encoded_len, (const uint16_t *units, size_t n), (units, n), wtf8_reads(units, n * 2))
+WTF8_TELLS_AFTER(utf8_unit_len, (const uint8_t *text, size_t n, size_t *len, size_t *valid), (text, n, len, valid),
+                 wtf8_reads(text, n); wtf8_may_write(len, sizeof *len); wtf8_may_write(valid, valid ? sizeof *valid : 0),
+                 if (code == WTF8_OK) wtf8_wrote(len, sizeof *len);
+                 wtf8_not(code, WTF8_NOT_UTF8, valid))
 WTF8_TELLS_CODE(set_units, (wtf8_string *string, const uint16_t *units, size_t n), (string, units, n),
            wtf8_changes(string); wtf8_reads(units, n * 2))
 WTF8_TELLS_AFTER(set_utf8, (wtf8_string *string, const uint8_t *text, size_t n, size_t *valid), (string, text, n, valid),
                  wtf8_changes(string); wtf8_reads(text, n); wtf8_may_write(valid, valid ? sizeof *valid : 0),
-                 if (code == WTF8_NOT_UTF8 && valid) wtf8_wrote(valid, sizeof *valid))
+                 wtf8_not(code, WTF8_NOT_UTF8, valid))
+WTF8_TELLS_CODE(set_latin1, (wtf8_string *string, const uint8_t *text, size_t n), (string, text, n),
+           wtf8_changes(string); wtf8_reads(text, n))
 WTF8_TELLS_CODE(set_string, (wtf8_string *string, const wtf8_string *other), (string, other),
            wtf8_changes(string); wtf8_asks(other))
+WTF8_TELLS_VOID(move, (wtf8_string *string, wtf8_string *other), (string, other), wtf8_changes(string); wtf8_changes(other))
 WTF8_TELLS_VOID(clear, (wtf8_string *string), (string), wtf8_changes(string))
 WTF8_TELLS_VOID(free, (wtf8_string *string), (string), wtf8_changes(string))
 WTF8_TELLS_CODE(reserve_bytes, (wtf8_string *string, size_t additional), (string, additional), wtf8_changes(string))
@@ -160,13 +172,15 @@ WTF8_TELLS(wtf8_result, mark, (wtf8_string *string), (string), wtf8_changes(stri
 /* Appending. */
 WTF8_TELLS_CODE(push_unit, (wtf8_string *string, uint16_t unit), (string, unit), wtf8_changes(string))
 WTF8_TELLS_CODE(push_code_point, (wtf8_string *string, uint32_t value), (string, value), wtf8_changes(string))
+WTF8_TELLS_CODE(push_code_points, (wtf8_string *string, const uint32_t *points, size_t n), (string, points, n),
+           wtf8_changes(string); wtf8_reads(points, n * 4))
 WTF8_TELLS_CODE(push_units, (wtf8_string *string, const uint16_t *units, size_t n), (string, units, n),
            wtf8_changes(string); wtf8_reads(units, n * 2))
 WTF8_TELLS_CODE(push_latin1, (wtf8_string *string, const uint8_t *text, size_t n), (string, text, n),
            wtf8_changes(string); wtf8_reads(text, n))
 WTF8_TELLS_AFTER(push_utf8, (wtf8_string *string, const uint8_t *text, size_t n, size_t *valid), (string, text, n, valid),
                  wtf8_changes(string); wtf8_reads(text, n); wtf8_may_write(valid, valid ? sizeof *valid : 0),
-                 if (code == WTF8_NOT_UTF8 && valid) wtf8_wrote(valid, sizeof *valid))
+                 wtf8_not(code, WTF8_NOT_UTF8, valid))
 WTF8_TELLS_AFTER(push_utf8_part, (wtf8_string *string, const uint8_t *text, size_t n, size_t *used, size_t *bad),
                  (string, text, n, used, bad), wtf8_changes(string); wtf8_reads(text, n);
                  wtf8_may_write(used, sizeof *used); wtf8_may_write(bad, sizeof *bad), if (code == WTF8_OK) {
@@ -205,6 +219,10 @@ WTF8_TELLS_AFTER(previous_code_point, (const wtf8_string *string, size_t *positi
                  wtf8_asks(string); wtf8_reads(position, sizeof *position);
                  wtf8_may_write(code_point, sizeof *code_point),
                  wtf8_walked(code, position, code_point))
+WTF8_TELLS_AFTER(code_point_before, (const wtf8_string *string, size_t index, uint32_t *code_point),
+                 (string, index, code_point),
+                 wtf8_asks(string); wtf8_may_write(code_point, sizeof *code_point),
+                 if (code == WTF8_OK) wtf8_wrote(code_point, sizeof *code_point))
 WTF8_TELLS_AFTER(next_surrogate, (const wtf8_string *string, size_t *position, uint16_t *unit), (string, position, unit),
                  wtf8_asks(string); wtf8_reads(position, sizeof *position); wtf8_may_write(unit, sizeof *unit),
                  if (code == WTF8_OK) {
@@ -212,6 +230,8 @@ WTF8_TELLS_AFTER(next_surrogate, (const wtf8_string *string, size_t *position, u
                      wtf8_wrote(unit, sizeof *unit);
                  })
 WTF8_TELLS(bool, is_utf8, (const wtf8_string *string), (string), wtf8_asks(string))
+WTF8_TELLS(bool, is_ascii, (const wtf8_string *string), (string), wtf8_asks(string))
+WTF8_TELLS(bool, is_latin1, (const wtf8_string *string), (string), wtf8_asks(string))
 WTF8_TELLS(bool, equal, (const wtf8_string *string, const wtf8_string *other), (string, other),
            wtf8_asks(string); wtf8_asks(other))
 WTF8_TELLS(int32_t, compare_units, (const wtf8_string *string, const wtf8_string *other), (string, other),
@@ -286,14 +306,24 @@ WTF8_TELLS_AFTER(copy_lossy, (const wtf8_string *string, uint8_t *out, size_t si
                  wtf8_asks(string); wtf8_may_write(out, size); wtf8_may_write(len, sizeof *len),
                  wtf8_copied(code, out, 1, len))
 
+WTF8_TELLS_AFTER(copy_latin1, (const wtf8_string *string, uint8_t *out, size_t size, size_t *len, size_t *valid),
+                 (string, out, size, len, valid),
+                 wtf8_asks(string); wtf8_may_write(out, size); wtf8_may_write(len, sizeof *len);
+                 wtf8_may_write(valid, valid ? sizeof *valid : 0),
+                 wtf8_copied(code, out, 1, len);
+                 wtf8_not(code, WTF8_NOT_LATIN1, valid))
+
 #ifdef __cplusplus
 }
 #endif
 
 #define wtf8_encoded_len wtf8_told_encoded_len
+#define wtf8_utf8_unit_len wtf8_told_utf8_unit_len
 #define wtf8_set_units wtf8_told_set_units
 #define wtf8_set_utf8 wtf8_told_set_utf8
+#define wtf8_set_latin1 wtf8_told_set_latin1
 #define wtf8_set_string wtf8_told_set_string
+#define wtf8_move wtf8_told_move
 #define wtf8_clear wtf8_told_clear
 #define wtf8_free wtf8_told_free
 #define wtf8_reserve_bytes wtf8_told_reserve_bytes
@@ -301,6 +331,7 @@ WTF8_TELLS_AFTER(copy_lossy, (const wtf8_string *string, uint8_t *out, size_t si
 #define wtf8_mark wtf8_told_mark
 #define wtf8_push_unit wtf8_told_push_unit
 #define wtf8_push_code_point wtf8_told_push_code_point
+#define wtf8_push_code_points wtf8_told_push_code_points
 #define wtf8_push_units wtf8_told_push_units
 #define wtf8_push_latin1 wtf8_told_push_latin1
 #define wtf8_push_utf8 wtf8_told_push_utf8
@@ -318,8 +349,11 @@ WTF8_TELLS_AFTER(copy_lossy, (const wtf8_string *string, uint8_t *out, size_t si
 #define wtf8_is_boundary wtf8_told_is_boundary
 #define wtf8_next_code_point wtf8_told_next_code_point
 #define wtf8_previous_code_point wtf8_told_previous_code_point
+#define wtf8_code_point_before wtf8_told_code_point_before
 #define wtf8_next_surrogate wtf8_told_next_surrogate
 #define wtf8_is_utf8 wtf8_told_is_utf8
+#define wtf8_is_ascii wtf8_told_is_ascii
+#define wtf8_is_latin1 wtf8_told_is_latin1
 #define wtf8_equal wtf8_told_equal
 #define wtf8_compare_units wtf8_told_compare_units
 #define wtf8_compare_code_points wtf8_told_compare_code_points
@@ -345,5 +379,6 @@ WTF8_TELLS_AFTER(copy_lossy, (const wtf8_string *string, uint8_t *out, size_t si
 #define wtf8_copy_code_points wtf8_told_copy_code_points
 #define wtf8_copy_utf8 wtf8_told_copy_utf8
 #define wtf8_copy_lossy wtf8_told_copy_lossy
+#define wtf8_copy_latin1 wtf8_told_copy_latin1
 
 #endif

@@ -7,7 +7,10 @@
 #include <algorithm>
 #include <csignal>
 #include <functional>
+#include <iomanip>
+#include <iterator>
 #include <map>
+#include <sstream>
 #include <type_traits>
 #include <unordered_map>
 #include <vector>
@@ -194,6 +197,86 @@ static void test_operators() {
     must(s.units() == mixed + u"\xD83D\xDCA9z" + mixed + u"\xD83D\xDCA9z", "+= of a code point and of strings");
 }
 
+/* What std::u16string has under the same names: each begin, length and index in short strings. */
+static void test_as_std() {
+    const std::vector<std::u16string> wholes = {u"", u"a", mixed, u"abcabcab", u"\xD83D\xDCA9\xD83D\xDCA9", u"aaaa"};
+    for (const auto &whole : wholes) {
+        const string s(whole);
+        must(s.size() == whole.size() && s.substr().units() == whole, "size, and substr of all");
+        for (size_t begin = 0; begin <= whole.size(); begin++) {
+            for (size_t n = 0; n <= whole.size() + 1; n++)
+                must(s.substr(begin, n).units() == whole.substr(begin, n), "substr");
+            must(s.substr(begin).units() == whole.substr(begin), "substr to the end");
+        }
+        for (const auto &part : wholes) {
+            for (size_t from = 0; from <= whole.size() + 1; from++) {
+                must(s.find(part, from) == whole.find(part, from) && s.rfind(part, from) == whole.rfind(part, from), "find, rfind");
+                must(s.find(u'a', from) == whole.find(u'a', from) && s.rfind(u'a', from) == whole.rfind(u'a', from), "a unit");
+                must(s.find(string(part), from) == whole.find(part, from), "find of a string");
+                must(s.rfind(string(part), from) == whole.rfind(part, from), "rfind of a string");
+            }
+            must(s.find(part) == whole.find(part) && s.rfind(part) == whole.rfind(part), "find and rfind of all");
+            must((s + string(part)).units() == whole + part && (s + part).units() == whole + part, "+");
+            must((part + s).units() == part + whole && (s.clone() + part).units() == whole + part, "+ of units and a string");
+            must((s.clone() + string(part) + s).units() == whole + part + whole, "+ of three");
+        }
+        string pushed;
+        for (char16_t unit : whole) pushed.push_back(unit);
+        string inserted;
+        std::copy(whole.begin(), whole.end(), std::back_inserter(inserted));
+        must(pushed == whole && inserted == whole, "push_back");
+    }
+    must((u"x" + string(u"y") + u"z").units() == u"xyz" && string(u"a\xD83D") + u"\xDCA9" == u"a\xD83D\xDCA9", "+ of literals");
+    string twice(u"ab");
+    must((std::move(twice) + twice.clone()).units() == u"abab", "+ of a string and its copy");
+    std::ostringstream out;
+    out << string(mixed) << '|' << std::setw(4) << string(u"ab") << '|';
+    must(out.str() == "a\xF0\x9F\x92\xA9\xEF\xBF\xBD|  ab|", "<<");
+#if 201703L <= __cplusplus
+    const std::u16string_view view = u"ab";
+    must(string(view) == view && view < string(u"b") && string(u"b") != view && string(u"ab").find(view) == 0, "views");
+    must((string(view) + view).units() == u"abab" && (view + string(view)).size() == 4, "+ of views");
+#endif
+}
+
+/* Texts in UTF-8 beside strings, which literals with u8 are of another type for from C++20 on. */
+static void test_texts() {
+    const string s(u"z\xE9\x4E2D\xD83D\xDCA9");
+    must(s == u8"z\u00E9\u4E2D\U0001F4A9" && u8"z\u00E9\u4E2D\U0001F4A9" == s, "a literal with u8");
+    must(s != u8"z\u00E9" && u8"" != s && string() == u8"" && !(s == u8"z"), "another literal with u8");
+    must(s == std::string("z\xC3\xA9\xE4\xB8\xAD\xF0\x9F\x92\xA9") && string(u"\xD83D") != "\xED\xA0\xBD", "a text");
+    must(string::from_utf8(u8"\u00E9") == u"\xE9" && string().assign_utf8(u8"\u00E9") == u"\xE9", "from_utf8, assign_utf8");
+    must(string().append_utf8(u8"\u00E9").equals_utf8(u8"\u00E9"), "append_utf8, equals_utf8");
+    must(string::utf8_unit_len("z\xC3\xA9\xF0\x9F\x92\xA9") == 4 && string::utf8_unit_len("") == 0, "utf8_unit_len");
+    must(fails([] { (void)string::utf8_unit_len("a\xED\xA0\x80"); }, WTF8_NOT_UTF8, 1), "utf8_unit_len of no text");
+    must(string(u"a\x7F").is_ascii() && !string(u"a\x80").is_ascii() && string().is_ascii(), "is_ascii");
+    must(string(u"a\xFF").is_latin1() && !string(u"a\x100").is_latin1() && string().is_latin1(), "is_latin1");
+    must(string(u"a\xFF").latin1() == "a\xFF" && string().latin1().empty(), "latin1");
+    must(string::from_latin1("a\xFF").units() == u"a\xFF" && string(mixed).assign_latin1("\xE9") == u"\xE9", "assign_latin1");
+    must(fails([] { (void)string(u"ab\x100").latin1(); }, WTF8_NOT_LATIN1, 2), "latin1 of other units");
+}
+
+/* Arrays of the caller. */
+static void test_arrays() {
+    const string s(mixed);
+    char16_t units[6] = {7, 7, 7, 7, 7, 7};
+    must(s.copy_units(1, 3, units) == 2 && std::u16string(units, 3) == u"\xD83D\xDCA9\x7", "copy_units");
+    must(s.copy_units(0, 4, units) == 4 && std::u16string(units, 5) == mixed + u"\x7", "copy_units of all");
+    must(s.copy_units(4, 4, nullptr) == 0, "copy_units of none");
+    must(is_out_of_range([&] { s.copy_units(3, 5, units); }) && is_out_of_range([&] { s.copy_units(2, 1, units); }), "copy_units");
+    must(std::u16string(units, 5) == mixed + u"\x7", "copy_units that fails");
+    const char32_t points[] = {0x61, 0xD83D, 0xDCA9, 0x1F4A9, 0x110000};
+    string pushed(u"\xD83D");
+    must(pushed.append_code_points(points + 2, 2).units() == u"\xD83D\xDCA9\xD83D\xDCA9", "append_code_points");
+    must(fails([&] { pushed.append_code_points(points, 5); }, WTF8_BAD_CODE_POINT) && pushed.size() == 4, "BAD_CODE_POINT");
+    must(pushed.append_code_points(nullptr, 0).size() == 4, "no code points");
+    char32_t point = 7;
+    must(!s.before(0, point) && point == 7 && s.before(1, point) && point == U'a', "before");
+    must(s.before(2, point) && point == 0xD83D && s.before(3, point) && point == 0x1F4A9 && s.before(4, point) && point == 0xDC00,
+         "before the units of a pair");
+    must(is_out_of_range([&] { (void)s.before(5, point); }) && point == 0xDC00, "before an index after the end");
+}
+
 /* Fronts and ends of 0 to 700 units, the last unit also another: two or three parts are compared. */
 static void test_starts_and_ends() {
     const std::u16string units = std::u16string(254, u'x') + mixed + std::u16string(300, u'\x4E2D') + mixed;
@@ -228,6 +311,24 @@ static void test_iteration() {
     must(*it-- == 0x1F4A9 && it == s.begin(), "to the start");
     must(*it++ == U'a' && *it == 0x1F4A9 && ++it != s.end() && ++it == s.end() && it.position() == 8, "forwards");
     must(string().begin() == string().end(), "no code points");
+    const char32_t kinds[] = {U'a', 0xE9, 0x4E2D, 0x1F4A9, 0xDC00};
+    for (size_t n = 0; n <= 100; n++) {
+        std::vector<char32_t> all;
+        string walked;
+        for (size_t i = 0; i < n; i++) {
+            all.push_back(kinds[i * i % 5]);
+            walked.append_code_point(all.back());
+        }
+        size_t i = 0, position = 0;
+        char32_t value = 0;
+        for (string::iterator at = walked.begin(); at != walked.end(); ++at, i++) {
+            must(at.position() == position && *at == all[i] && walked.next(position, value), "a walk over parts");
+            string::iterator back = at;
+            if (0 < i) must(*--back == all[i - 1] && *++back == all[i] && back == at, "a step back and forth");
+        }
+        must(i == n && position == walked.byte_len() && std::vector<char32_t>(walked.begin(), walked.end()) == all, "the walk's end");
+        for (string::iterator at = walked.end(); at != walked.begin();) must(*--at == all[--i], "a walk back");
+    }
     must(std::find(s.begin(), s.end(), char32_t(0x1F4A9)).position() == 1, "a code point that is found");
 #ifdef __cpp_lib_concepts
     static_assert(std::bidirectional_iterator<string::iterator>);
@@ -299,7 +400,7 @@ static void test_failures() {
         [&] { (void)s.position_at(5); },  [&] { (void)s.slice(2, 1); },    [&] { (void)s.slice(0, 5); },
         [&] { (void)s.units(2, 1); },     [&] { (void)s.units(5, 5); },    [&] { s.append(other, 0, 3); },
         [&] { s.append(s, 3, 2); },       [&] { s.assign(other, 2, 3); },  [&] { s.truncate_units(5); },
-        [&] { s.truncate_bytes(2); },     [&] { s.truncate_bytes(9); }};
+        [&] { s.truncate_bytes(2); },     [&] { s.truncate_bytes(9); },    [&] { (void)s.substr(5); }};
     for (const auto &call : out_of_range) must(is_out_of_range(call) && s.units() == mixed, "out_of_range");
     must(fails([&] { s.append_code_point(0x110000); }, WTF8_BAD_CODE_POINT) && s.units() == mixed, "BAD_CODE_POINT");
     must(fails([&] { s.append_utf8("ab\xFF"); }, WTF8_NOT_UTF8, 2) && s.units() == mixed, "NOT_UTF8");
@@ -443,6 +544,12 @@ static void test_refusals() {
         [](string &s) { s.append_code_point(0x1F4A9); },
         [](string &s) { s.append_utf8("y"); },
         [](string &s) { s.append_latin1("\xE9"); },
+        [](string &s) { s.assign_latin1(std::string(1000, '\xE9')); },
+        [](string &s) { const char32_t points[] = {U'y', 0x1F4A9}; s.append_code_points(points, 2); },
+        [](string &s) { s.push_back(u'y'); },
+        [](string &s) { (void)(s + u"y"); },
+        [](string &s) { (void)(u"y" + s); },
+        [](string &s) { (void)s.substr(1); },
         [](string &s) { size_t bad; s.append_utf8_part("y\xFF", bad); },
         [](string &s) { s.append_lossy("y\xFF"); },
         [](string &s) { s.append_lossy_part("y\xFF"); },
@@ -491,6 +598,9 @@ int main() {
     test_parts();
     test_building();
     test_operators();
+    test_as_std();
+    test_texts();
+    test_arrays();
     test_starts_and_ends();
     test_iteration();
     test_adoption();

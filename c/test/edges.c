@@ -774,6 +774,166 @@ static void latin1(void) {
     }
 }
 
+/* Strings of each length up to 70, and about what is decoded at a time, of ASCII or Latin-1 and with one other unit at each
+ * index, are asked whether they are Latin-1, and copied out as bytes, into rooms that are long enough, too short, or none. */
+static void latin1_out(void) {
+    enum { SHORT = 70, LONG = 530 };
+    static const uint16_t odd[] = {0x80, 0xFF, 0x100, 0x17F, 0x4E2D, 0xDC00, 0xFFFF};
+    static struct pair p;
+    static uint8_t text[LONG];
+    for (size_t n = 0; n <= LONG; n += n < SHORT || n % 128 < 4 || n % 128 > 124 ? 1 : 19) {
+        for (size_t kind = 0; kind <= sizeof odd / sizeof odd[0]; kind++) {
+            for (size_t at = 0; at <= n; at += n < SHORT || at + 9 > n ? 1 : 17) {
+                p.n = n;
+                for (size_t i = 0; i < n; i++) p.units[i] = (uint16_t)(kind % 2 ? 'a' + i % 26 : (i * 37) % 256);
+                if (at < n && kind > 0) p.units[at] = odd[kind - 1];
+                for (size_t i = 0; i < n; i++) text[i] = (uint8_t)p.units[i];
+                must(wtf8_set_units(&p.string, p.units, n) == WTF8_OK, "a string to copy as Latin-1");
+                size_t front = front_below(&p, 0x100);
+                must(wtf8_is_ascii(&p.string) == (front_below(&p, 0x80) == n), "is_ascii");
+                must(wtf8_is_latin1(&p.string) == (front == n), "is_latin1");
+                for (size_t less = 0; less < 3 && less <= n; less++) {
+                    size_t len = 77, valid = 77, size = less == 2 ? 0 : n - less;
+                    uint8_t *out = an_array(size);
+                    wtf8_result code = wtf8_copy_latin1(&p.string, size ? out : NULL, size, &len, &valid);
+                    must(code == (front < n ? WTF8_NOT_LATIN1 : size < n ? WTF8_ARRAY_TOO_SHORT : WTF8_OK), "copy_latin1");
+                    must(len == (front < n ? 77 : n) && valid == (front < n ? front : 77), "the numbers of copy_latin1");
+                    must_begin(out, size, text, code == WTF8_OK ? n : 0, "the bytes of copy_latin1");
+                }
+                if (front < n) continue;
+                uint8_t *array = array_of(text, n);
+                long requested = requests;
+                refuse_after = 0;
+                must(wtf8_set_latin1(&p.string, n ? array : NULL, n) == WTF8_OK && requests == requested, "set_latin1 in place");
+                refuse_after = -1;
+                must_have(&p.string, p.units, n, "the units of set_latin1");
+                wtf8_string made = WTF8_EMPTY;
+                must(wtf8_push_unit(&made, 0xD83D) == WTF8_OK, "a string to set");
+                size_t capacity = wtf8_capacity(&made), bytes = byte_len(&p);
+                refuse_after = 0;
+                wtf8_result code = wtf8_set_latin1(&made, array, n);
+                must(code == (bytes <= capacity ? WTF8_OK : WTF8_NO_MEMORY), "set_latin1 without memory");
+                static const uint16_t lead[] = {0xD83D};
+                if (code != WTF8_OK) must_have(&made, lead, 1, "a string that was not set");
+                refuse_after = -1;
+                must(wtf8_set_latin1(&made, array, n) == WTF8_OK && wtf8_equal(&made, &p.string), "set_latin1");
+                wtf8_free(&made);
+                must_begin(array, n, text, n, "the text of set_latin1");
+            }
+        }
+    }
+    wtf8_free(&p.string);
+}
+
+/* Code points, one of which is at an edge, after a lead, a trail or a letter: all are appended, or none. */
+static void pushed_points(void) {
+    enum { MOST_POINTS = 400 };
+    static uint32_t points[MOST_POINTS];
+    static uint16_t units[2 * MOST_POINTS + 1];
+    static const uint16_t before[] = {'x', 0xD83D, 0xDCA9};
+    static const uint32_t bad[] = {0x110000, 0x1000000, 0x80000000, UINT32_MAX};
+    for (size_t count = 0; count <= MOST_POINTS; count += count < 20 || count % 128 < 2 || count % 128 > 126 ? 1 : 31) {
+        for (size_t edge = 0; edge < EDGE_POINTS; edge++) {
+            size_t n = 1, at = count > 0 ? edge * 7 % count : 0;
+            wtf8_string string = WTF8_EMPTY;
+            units[0] = before[edge % 3];
+            for (size_t i = 0; i < count; i++)
+                n += units_of(points[i] = i % 9 == at % 9 ? edge_points[edge] : edge % 2 ? 'a' : 0x4E00 + (uint32_t)i, units + n);
+            must(wtf8_push_unit(&string, units[0]) == WTF8_OK, "a unit before code points");
+            uint32_t *array = array_of(points, 4 * count);
+            if (count > 0) {
+                uint32_t kept = points[at];
+                array[at] = bad[edge % 4];
+                long requested = requests;
+                must(wtf8_push_code_points(&string, array, count) == WTF8_BAD_CODE_POINT && requests == requested, "a bad code point");
+                array[at] = kept;
+            }
+            for (long granted = 0; granted < 9; granted++) {
+                must_have(&string, units, 1, "a string to push code points to");
+                refuse_after = granted;
+                wtf8_result code = wtf8_push_code_points(&string, count ? array : NULL, count);
+                refuse_after = -1;
+                if (code == WTF8_OK) break;
+                must(code == WTF8_NO_MEMORY && granted < 8, "code points that are refused memory");
+            }
+            must_have(&string, units, n, "the units of code points");
+            must_begin(array, 4 * count, points, 4 * count, "the code points");
+            must(wtf8_truncate_units(&string, 1) == WTF8_OK, "a string that is cut");
+            long requested = requests;
+            must(wtf8_push_code_points(&string, points, count) == WTF8_OK && requests == requested, "code points that fit");
+            must_have(&string, units, n, "the units of code points that fit");
+            wtf8_free(&string);
+        }
+    }
+}
+
+/* The code point before each index of strings of each length up to 70, marked and not, with pairs and halves. */
+static void points_before(void) {
+    static const uint16_t kinds[] = {'a', 0xD83D, 0xDCA9, 0xDC00, 0xE9, 0x4E2D};
+    static struct pair p;
+    state = 5;
+    for (size_t n = 0; n <= 72; n++) {
+        p.n = n == 72 ? 700 : n;
+        for (size_t i = 0; i < p.n; i++) p.units[i] = kinds[below(n % 2 ? 6 : 3)];
+        must(wtf8_set_units(&p.string, p.units, p.n) == WTF8_OK, "a string of code points");
+        if (n % 3 == 0) wtf8_mark(&p.string);
+        for (size_t i = 0; i <= p.n + 1; i++) {
+            uint32_t point = 77, must_be = 77;
+            wtf8_result code = wtf8_code_point_before(&p.string, i, &point);
+            must(code == must_be_before(&p, i, &must_be) && point == must_be, "code_point_before");
+        }
+    }
+    uint32_t point = 77;
+    must(wtf8_code_point_before(&p.string, SIZE_MAX, &point) == WTF8_BAD_POSITION && point == 77, "before no index");
+    wtf8_free(&p.string);
+    must(wtf8_code_point_before(&p.string, 0, &point) == WTF8_END && point == 77, "before the start of nothing");
+}
+
+/* A string that is moved: over another, to itself, from and to one without a buffer. */
+static void moves(void) {
+    static const uint16_t units[] = {'a', 0xD83D, 0x4E2D};
+    wtf8_string one = WTF8_EMPTY, two = WTF8_EMPTY, none = WTF8_EMPTY;
+    must(wtf8_set_units(&one, units, 3) == WTF8_OK && wtf8_reserve_bytes(&one, 100) == WTF8_OK, "a string to move");
+    must(wtf8_set_units(&two, units, 1) == WTF8_OK, "a string that is moved over");
+    size_t capacity = wtf8_capacity(&one);
+    long requested = requests, had = blocks;
+    wtf8_move(&two, &one);
+    must_have(&two, units, 3, "a string that was moved");
+    must(wtf8_capacity(&two) == capacity && requests == requested && blocks == had - 1, "its capacity");
+    must(memcmp(&one, &none, sizeof none) == 0, "the string that it was");
+    wtf8_move(&two, &two);
+    must_have(&two, units, 3, "a string that is moved to itself");
+    wtf8_move(&one, &two);
+    wtf8_move(&two, &none);
+    must_have(&one, units, 3, "a string that is moved to one without a buffer");
+    must(wtf8_unit_len(&two) == 0 && wtf8_push_unit(&two, 'x') == WTF8_OK, "a string that was moved from");
+    wtf8_move(&one, &none);
+    must(wtf8_unit_len(&one) == 0 && wtf8_capacity(&one) == 0, "a move of nothing");
+    wtf8_free(&two);
+}
+
+/* The units of texts in UTF-8, and the first byte that is wrong. */
+static void utf8_unit_lens(void) {
+    static const struct { const char *text; size_t len, units; } texts[] = {
+        {"", 0, 0}, {"a", 1, 1}, {"\0b", 2, 2}, {"\xC3\xA9", 2, 1}, {"\xE4\xB8\xAD", 3, 1}, {"\xF0\x9F\x92\xA9", 4, 2},
+        {"a\xF4\x8F\xBF\xBFz", 6, 4}, {"\xEF\xBF\xBF\xEE\x80\x80", 6, 2}};
+    uint8_t text[6 + 200];
+    for (size_t i = 0; i < sizeof texts / sizeof texts[0]; i++) {
+        for (size_t front = 0; front <= 200; front++) {
+            size_t len = 77, valid = 77, n = front + texts[i].len;
+            memset(text, 'a', front);
+            memcpy(text + front, texts[i].text, texts[i].len);
+            must(wtf8_utf8_unit_len(n ? text : NULL, n, &len, &valid) == WTF8_OK, "utf8_unit_len");
+            must(len == front + texts[i].units && valid == 77, "the number of units of a text");
+            if (texts[i].len < 2 || text[front] < 0x80) continue;
+            size_t written = 77;
+            must(wtf8_utf8_unit_len(text, front + 1, &written, &valid) == WTF8_NOT_UTF8, "a text that is cut");
+            must(valid == front && written == 77, "where a text is cut");
+            must(wtf8_utf8_unit_len(text, front + 1, &written, NULL) == WTF8_NOT_UTF8, "a text that is cut, which is not asked");
+        }
+    }
+}
+
 /* Each part of a string is appended, also from the middle of a pair, and to the string itself. */
 static void pushed_slices(void) {
     static const uint16_t units[] = {'a', 0xD83D, 0xDCA9, 0xDC00, 0xD801, 0xE9};
@@ -1510,11 +1670,11 @@ static void structs(void) {
 /* Each code has a text of its own, with a word of its meaning, and so has what is no code. */
 static void texts_of_codes(void) {
     static const char *const words[] = {
-        "did", "memory", "position", "array", "surrogate", "not a code point", "UTF-8", "no further"};
-    for (int i = WTF8_OK; i <= WTF8_END; i++)
+        "did", "memory", "position", "array", "surrogate", "not a code point", "UTF-8", "no further", "FF"};
+    for (int i = WTF8_OK; i <= WTF8_NOT_LATIN1; i++)
         must(strstr(wtf8_result_text((wtf8_result)i), words[i]) != NULL, "a word in the text of a code");
-    must(wtf8_result_text((wtf8_result)(WTF8_END + 1)) != NULL, "a text of no code");
-    for (int i = WTF8_OK; i <= WTF8_END + 1; i++)
+    must(wtf8_result_text((wtf8_result)(WTF8_NOT_LATIN1 + 1)) != NULL, "a text of no code");
+    for (int i = WTF8_OK; i <= WTF8_NOT_LATIN1 + 1; i++)
         for (int k = WTF8_OK; k < i; k++)
             must(strcmp(wtf8_result_text((wtf8_result)i), wtf8_result_text((wtf8_result)k)) != 0, "the text of a code");
     char version[16];
@@ -1660,6 +1820,11 @@ int main(void) {
     walks();
     surrogates();
     latin1();
+    latin1_out();
+    pushed_points();
+    points_before();
+    moves();
+    utf8_unit_lens();
     copied_points();
     pushed_slices();
     indexes();

@@ -39,7 +39,7 @@ int main(int argc, char **argv) {
     is_marked = strcmp(argv[2], "cjk") == 0;
     must(n >= 1000 && n <= UNITS, "the number of units");
     for (size_t i = 0; i < n; i++) units[i] = (uint16_t)(is_marked ? 0x4E00 + i % 0x5000 : 'a' + i % 26);
-    wtf8_string s = WTF8_EMPTY, same = WTF8_EMPTY, part = WTF8_EMPTY, set = WTF8_EMPTY;
+    wtf8_string s = WTF8_EMPTY, same = WTF8_EMPTY, part = WTF8_EMPTY, set = WTF8_EMPTY, moved = WTF8_EMPTY;
     uint16_t unit;
     uint32_t point;
     make(&s, n);
@@ -62,6 +62,10 @@ int main(int argc, char **argv) {
     COUNT_OK(position_at, wtf8_position_at(&s, index, &position));
     COUNT(unit_before, wtf8_unit_before(&s, byte));
     COUNT_OK(unit_at, wtf8_unit_at(&s, index, &unit));
+    COUNT_OK(code_point_before, wtf8_code_point_before(&s, index, &point));
+    COUNT(is_ascii, wtf8_is_ascii(&s));
+    COUNT_VOID(move, wtf8_move(&moved, &s));
+    wtf8_move(&s, &moved);
     COUNT_OK(pop, wtf8_pop(&s, &point));
     COUNT_OK(truncate_units, wtf8_truncate_units(&s, n - FEW));
     COUNT_OK(truncate_bytes, wtf8_truncate_bytes(&s, (n - 2 * FEW) * width));
@@ -89,6 +93,9 @@ int main(int argc, char **argv) {
     COUNT_OK(push_code_point, wtf8_push_code_point(&s, 0x10FFFF));
     COUNT_OK(push_units, wtf8_push_units(&s, units, FEW));
     COUNT_OK(push_latin1, wtf8_push_latin1(&s, (const uint8_t *)"abcdefghijkl", FEW));
+    COUNT_OK(set_latin1, wtf8_set_latin1(&moved, (const uint8_t *)"abcdefghijkl", FEW));
+    COUNT_OK(push_code_points, wtf8_push_code_points(&s, points, FEW));
+    COUNT_OK(utf8_unit_len, wtf8_utf8_unit_len(text, FEW, &len, NULL));
     COUNT_OK(push_utf8, wtf8_push_utf8(&s, text, FEW, NULL));
     COUNT_OK(push_utf8_part, wtf8_push_utf8_part(&s, text, FEW, &len, &position));
     COUNT_OK(push_utf8_lossy, wtf8_push_utf8_lossy(&s, text, FEW));
@@ -120,6 +127,9 @@ int main(int argc, char **argv) {
     COUNT_OK(copy_units, wtf8_copy_units(&same, out, n, &len));
     COUNT_OK(copy_utf8, wtf8_copy_utf8(&same, lossy, POINTS, &len));
     COUNT_OK(copy_lossy, wtf8_copy_lossy(&same, lossy, POINTS, &len));
+    COUNT(is_latin1, wtf8_is_latin1(&same));
+    must(answer == !is_marked, "whether it is Latin-1");
+    COUNT(copy_latin1, (int)wtf8_copy_latin1(&same, lossy, POINTS, &len, NULL));
     COUNT_VOID(shrink, wtf8_shrink(&set));
 
     /* Constant. */
@@ -128,5 +138,6 @@ int main(int argc, char **argv) {
     wtf8_free(&same);
     wtf8_free(&part);
     wtf8_free(&set);
+    wtf8_free(&moved);
     return 0;
 }

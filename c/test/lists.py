@@ -34,7 +34,7 @@ TYPES = {
 }
 # Texts of CPython's tests of surrogatepass, and of edges of the encoding.
 TEXTS = [
-    "", "abc\ud800def", "\U00010fff\ud800", "[\ud800\udc80]", "\ud800", "\udfff", "\udc80\ud800", "\ud800\ud800\udc00",
+    "", "\x00z\x7f", "caf\u00e9\u00ff", "\u00ff\u0100", "abc\ud800def", "\U00010fff\ud800", "[\ud800\udc80]", "\ud800", "\udfff", "\udc80\ud800", "\ud800\ud800\udc00",
     "a\udbff\udfff", "\ud7ff\ue000", "\u007f\u0080\u07ff\u0800\uffff\U00010000\U0010ffff", "\0", "\ud83d\udca9\ud83d",
 ]
 
@@ -42,7 +42,7 @@ TEXTS = [
 def wrong_results():
     """The calls of the header whose result has another type in the module."""
     found = re.findall(r"^(?:WTF8_CODE )?(\w+|const char \*) ?(wtf8_\w+)\(", HEADER.read_text(), re.M)
-    if len(found) < 58:
+    if len(found) < 67:
         return [f"only {len(found)} calls in the header"]
     return [name for of, name in found if getattr(lib, name).restype is not TYPES[of]]
 
@@ -70,6 +70,8 @@ def wrong_pairs():
                 and one[::-2].units() == units[::-2]
                 and String.from_units(units) == copy.copy(one) == copy.deepcopy(one) == pickle.loads(pickle.dumps(one)) == one
                 and eval(repr(one)) == one
+                and one.isascii() is text.isascii()
+                and latin1_of(one) == text.encode("latin-1", "replace") * (max(units, default=0) < 256)
                 and one.lossy() == re.sub("[\ud800-\udfff]", "\ufffd", code_points)
             )
             plain, needle = (text_of_units(of) for of in (units, others))
@@ -84,6 +86,14 @@ def wrong_pairs():
             if not same or copied == one or String.__hash__ is not None:
                 wrong.append((text, other))
     return wrong
+
+
+def latin1_of(string):
+    """The string's text in Latin-1, or no bytes if it has none."""
+    try:
+        return string.latin1()
+    except ValueError:
+        return b""
 
 
 def text_of_units(units):

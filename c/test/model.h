@@ -185,6 +185,23 @@ static inline wtf8_result previous_point(const struct pair *p, size_t *position,
     return WTF8_OK;
 }
 
+/* The same of the code point before an index: the lead of a pair that it divides. */
+static inline wtf8_result must_be_before(const struct pair *p, size_t index, uint32_t *value) {
+    if (p->n < index) return WTF8_BAD_POSITION;
+    if (index == 0) return WTF8_END;
+    *value = p->units[index - 1];
+    if (1 < index && is_trail(p->units[index - 1]) && is_lead(p->units[index - 2]))
+        *value = 0x10000 + ((uint32_t)(p->units[index - 2] - 0xD800) << 10) + (uint32_t)(p->units[index - 1] - 0xDC00);
+    return WTF8_OK;
+}
+
+/* The number of units before the first one that is not below a limit. */
+static inline size_t front_below(const struct pair *p, uint32_t limit) {
+    size_t n = 0;
+    while (n < p->n && p->units[n] < limit) n++;
+    return n;
+}
+
 static inline int is_utf8(const struct pair *p) {
     size_t taken = 0;
     for (size_t i = 0; i < p->n; i += taken) {

@@ -6,7 +6,7 @@
 
 #include <string.h>
 
-enum { QUESTIONS = 35, SEED_0 = 77, SEED_1 = 88 };
+enum { QUESTIONS = 40, SEED_0 = 77, SEED_1 = 88 };
 
 /* What the calls must answer of one string, and of it and another. */
 struct answers {
@@ -121,6 +121,19 @@ static inline int is_right(unsigned kind, size_t number, const struct pair *p, c
             return is_found(p, index, p->units + begin, end - begin, 1, code, len);
         case 33:
             return wtf8_divides_pair(s, index) == (0 < index && index < p->n && position_of(p, index - 1) == position_of(p, index));
+        case 34: return wtf8_is_ascii(s) == (front_below(p, 0x80) == p->n);
+        case 35: return wtf8_is_latin1(s) == (front_below(p, 0x100) == p->n);
+        case 36: {
+            size_t front = front_below(p, 0x100), valid = 77;
+            code = wtf8_copy_latin1(s, bytes, sizeof bytes, &len, &valid);
+            if (front < p->n) return code == WTF8_NOT_LATIN1 && valid == front && len == 0;
+            for (size_t i = 0; i < p->n; i++) if (bytes[i] != p->units[i]) return 0;
+            return code == WTF8_OK && valid == 77 && len == p->n;
+        }
+        case 37:
+            code = wtf8_code_point_before(s, index, &point);
+            return code == must_be_before(p, index, &must_be) && point == must_be;
+        case 38: return !a->is_utf8 || (wtf8_utf8_unit_len(a->lossy, a->byte_len, &len, NULL) == WTF8_OK && len == p->n);
         default:
             wtf8_clear(own);
             return wtf8_push_string(own, s) == WTF8_OK && has_units(own, p->units, p->n);

@@ -7,16 +7,17 @@
 #include "requests.h"
 
 enum call {
-    SET_UNITS, SET_UTF8, SET_STRING, CLEAR, FREE, RESERVE, PUSH_UNIT, PUSH_POINT, PUSH_UNITS, PUSH_LATIN1, PUSH_UTF8,
-    PUSH_PART, PUSH_STRING, PUSH_SLICE, MARK, FILL, SHRINK, TRUNCATE_UNITS, TRUNCATE_BYTES, POP, SLICE, ALIKE,
+    SET_UNITS, SET_UTF8, SET_LATIN1, SET_STRING, CLEAR, MOVE, FREE, RESERVE, PUSH_UNIT, PUSH_POINT, PUSH_POINTS, PUSH_UNITS,
+    PUSH_LATIN1, PUSH_UTF8, PUSH_PART, PUSH_STRING, PUSH_SLICE, MARK, FILL, SHRINK, TRUNCATE_UNITS, TRUNCATE_BYTES, POP, SLICE, ALIKE,
     /* Calls that only read. */
-    UNIT_LEN, CAPACITY, POSITION_AT, UNIT_BEFORE, UNIT_AT, IS_BOUNDARY, NEXT, PREVIOUS, NEXT_SURROGATE, IS_UTF8, EQUAL,
+    UNIT_LEN, CAPACITY, POSITION_AT, UNIT_BEFORE, UNIT_AT, IS_BOUNDARY, NEXT, PREVIOUS, POINT_BEFORE, NEXT_SURROGATE, UTF8_UNIT_LEN,
+    IS_UTF8, IS_ASCII, IS_LATIN1, EQUAL,
     ORDER_UNITS, ORDER_POINTS, HASH, HASH_UNITS, EQUAL_UNITS, ORDER_WITH_UNITS, EQUAL_UTF8, HASH_UTF8, STARTS_WITH,
     STARTS_WITH_UNITS, COPY_UNITS, COPY_POINTS, COPY_SLICE,
-    COPY_UTF8, COPY_LOSSY, CALLS
+    COPY_UTF8, COPY_LOSSY, COPY_LATIN1, CALLS
 };
 
-enum { STRINGS = 4, CODES = WTF8_END + 1, TEXT_LONGEST = 4 * LONGEST + 2 * LONGEST_NO_TEXT };
+enum { STRINGS = 4, CODES = WTF8_NOT_LATIN1 + 1, TEXT_LONGEST = 4 * LONGEST + 2 * LONGEST_NO_TEXT };
 
 static struct pair pairs[STRINGS];
 static long counts[CALLS][CODES];
@@ -277,6 +278,17 @@ static void step(enum call call, struct pair *p, struct pair *q) {
             if (code == WTF8_OK) append(p, units, n);
             break;
         }
+        case SET_LATIN1: {
+            uint32_t kind = below(2) ? 0x80 : 0x100;
+            for (size_t i = 0; i < n; i++) units[i] = text[i] = (uint8_t)below(kind);
+            replace(&asked, units, n);
+            needs_none = is_set_in_place(p, byte_len(&asked));
+            bytes = array_of(text, n);
+            code = wtf8_set_latin1(&p->string, n || below(2) ? bytes : NULL, n);
+            must_begin(bytes, n, text, n, "set_latin1, text");
+            if (code == WTF8_OK) replace(p, units, n);
+            break;
+        }
         case SET_STRING:
             needs_none = p == q || is_set_in_place(p, byte_len(q));
             if (p == q && below(2)) refuse_after = 0;
@@ -284,6 +296,15 @@ static void step(enum call call, struct pair *p, struct pair *q) {
             if (code == WTF8_OK && p != q) replace(p, q->units, q->n);
             break;
         case CLEAR: wtf8_clear(&p->string); p->n = 0; break;
+        case MOVE:
+            wtf8_move(&p->string, &q->string);
+            if (p == q) break;
+            replace(p, q->units, q->n);
+            p->is_marked = q->is_marked;
+            q->n = 0;
+            q->is_marked = 0;
+            must(wtf8_capacity(&p->string) == q->capacity && wtf8_capacity(&q->string) == 0, "the capacities after a move");
+            break;
         case FREE:
             wtf8_free(&p->string);
             if (below(2)) wtf8_free(&p->string);
@@ -316,6 +337,23 @@ static void step(enum call call, struct pair *p, struct pair *q) {
             code = wtf8_push_code_point(&p->string, c);
             must((code == WTF8_BAD_CODE_POINT) == (c > 0x10FFFF), "push_code_point");
             if (code == WTF8_OK) append(p, units, n);
+            break;
+        }
+        case PUSH_POINTS: {
+            uint32_t list[LONGEST];
+            static uint16_t listed[2 * LONGEST];
+            size_t count = n;
+            n = 0;
+            for (size_t i = 0; i < count; i++) n += units_of(list[i] = only_surrogates ? 0xD800 + below(0x800) : a_point(), listed + n);
+            is_bad = is_bad && count > 0;
+            if (is_bad) list[below((uint32_t)count)] = below(2) ? 0x110000 + below(3) : UINT32_MAX - below(9);
+            needs_none = !is_bad && refuse_if_units_fit(p, listed, n);
+            uint32_t *given = array_of(list, 4 * count);
+            code = wtf8_push_code_points(&p->string, count || below(2) ? given : NULL, count);
+            must_begin(given, 4 * count, list, 4 * count, "push_code_points, array");
+            must((code == WTF8_BAD_CODE_POINT) == is_bad, "push_code_points");
+            must(!is_bad || requests == requested, "code points that are not pushed request memory");
+            if (code == WTF8_OK) append(p, listed, n);
             break;
         }
         case PUSH_UNITS:
@@ -443,6 +481,30 @@ static void step(enum call call, struct pair *p, struct pair *q) {
             must_begin(point, sizeof value, &value, code == WTF8_OK ? sizeof value : 0, "the code point of a walk");
             break;
         }
+        case POINT_BEFORE: {
+            at = an_index(p->n);
+            uint32_t value = 77, *point = an_array(sizeof *point);
+            refuse_after = 0;
+            code = wtf8_code_point_before(&p->string, at, point);
+            must_begin(point, sizeof value, &value, code == must_be_before(p, at, &value) && code == WTF8_OK ? sizeof value : 0,
+                       "the code point before an index");
+            must(code == (at == 0 ? WTF8_END : p->n < at ? WTF8_BAD_POSITION : WTF8_OK), "code_point_before");
+            break;
+        }
+        case UTF8_UNIT_LEN: {
+            len = a_text(text, units, &n, &at);
+            if (is_bad) len = spoiled(text, len, at);
+            bytes = array_of(text, len);
+            written = an_array(sizeof *written);
+            size_t *valid = an_array(sizeof *valid), *asked_valid = below(4) ? valid : NULL;
+            refuse_after = 0;
+            code = wtf8_utf8_unit_len(len || below(2) ? bytes : NULL, len, written, asked_valid);
+            must(code == (is_bad ? WTF8_NOT_UTF8 : WTF8_OK), "utf8_unit_len");
+            must_begin(bytes, len, text, len, "a text whose units are counted");
+            must_begin(written, sizeof n, &n, is_bad ? 0 : sizeof n, "the number of units of a text");
+            must_begin(valid, sizeof at, &at, is_bad && asked_valid ? sizeof at : 0, "the first bad byte of a text that is counted");
+            break;
+        }
         case NEXT_SURROGATE: {
             at = an_index(byte_len(p));
             uint16_t must_be = 77;
@@ -456,6 +518,8 @@ static void step(enum call call, struct pair *p, struct pair *q) {
             break;
         }
         case IS_UTF8: must(wtf8_is_utf8(&p->string) == is_utf8(p), "is_utf8"); break;
+        case IS_ASCII: must(wtf8_is_ascii(&p->string) == (front_below(p, 0x80) == p->n), "is_ascii"); break;
+        case IS_LATIN1: must(wtf8_is_latin1(&p->string) == (front_below(p, 0x100) == p->n), "is_latin1"); break;
         case EQUAL: must(wtf8_equal(&p->string, &q->string) == (compare_units(p, q) == 0), "equal"); break;
         case ORDER_UNITS: must(wtf8_compare_units(&p->string, &q->string) == compare_units(p, q), "compare_units"); break;
         case ORDER_POINTS:
@@ -596,20 +660,45 @@ static void step(enum call call, struct pair *p, struct pair *q) {
             must(requests == requested, "copy_text requests memory");
             break;
         }
+        case COPY_LATIN1: {
+            /* Strings whose units are all of Latin-1 are seldom long by themselves. */
+            if (below(2)) {
+                for (size_t i = 0; i < n; i++) units[i] = (uint16_t)(is_bad ? below(0x100) : below(0x80));
+                if (wtf8_set_units(&p->string, units, n) == WTF8_OK) replace(p, units, n);
+                memcpy(string, &p->string, sizeof string);
+                capacity = wtf8_capacity(&p->string);
+                requested = requests;
+            }
+            static uint8_t right[4 * MOST];
+            size_t front = front_below(p, 0x100);
+            int is_latin1 = front == p->n;
+            for (size_t i = 0; i < p->n; i++) right[i] = (uint8_t)p->units[i];
+            n = a_size(p->n);
+            bytes = an_array(n);
+            written = an_array(sizeof *written);
+            size_t *valid = an_array(sizeof *valid), *asked_valid = below(4) ? valid : NULL;
+            refuse_after = 0;
+            code = wtf8_copy_latin1(&p->string, n || below(2) ? bytes : NULL, n, written, asked_valid);
+            must(code == (!is_latin1 ? WTF8_NOT_LATIN1 : n < p->n ? WTF8_ARRAY_TOO_SHORT : WTF8_OK), "copy_latin1");
+            must_begin(written, sizeof p->n, &p->n, is_latin1 ? sizeof p->n : 0, "copy_latin1, length");
+            must_begin(valid, sizeof front, &front, !is_latin1 && asked_valid ? sizeof front : 0, "copy_latin1, index");
+            must_begin(bytes, n, right, code == WTF8_OK ? p->n : 0, "copy_latin1, array");
+            break;
+        }
         default: must(0, "no call"); break;
     }
-    must(code <= WTF8_END, "code");
+    must(code <= WTF8_NOT_LATIN1, "code");
     /* Units may be refused after the string has grown for the first of them. */
-    int may_grow = call == PUSH_UNITS || call == PUSH_LATIN1 || call == PUSH_SLICE;
+    int may_grow = call == PUSH_UNITS || call == PUSH_LATIN1 || call == PUSH_SLICE || call == PUSH_POINTS;
     must(code == WTF8_OK || may_grow || wtf8_capacity(&p->string) == capacity, "the capacity after a code that is not OK");
     must(code != WTF8_NO_MEMORY || refused < refusals || more > PTRDIFF_MAX, "NO_MEMORY, but no request was refused");
     if (UNIT_LEN <= call || (call == SLICE && p != q))
         must(memcmp(string, &p->string, sizeof string) == 0, "the struct of a string that is read");
-    if (p != q && call != FILL && call != SLICE && call != ALIKE && call != STARTS_WITH && call != STARTS_WITH_UNITS)
+    if (p != q && call != MOVE && call != FILL && call != SLICE && call != ALIKE && call != STARTS_WITH && call != STARTS_WITH_UNITS)
         must(memcmp(other, &q->string, sizeof other) == 0, "the struct of another string");
     if (UNIT_LEN <= call || (CLEAR <= call && call <= FREE) || (TRUNCATE_UNITS <= call && call <= POP)) {
         must(requests == requested, "a call that cannot be refused requests memory");
-        must(call == FREE || wtf8_capacity(&p->string) == capacity, "the capacity after a call that does not append");
+        must(call == FREE || call == MOVE || wtf8_capacity(&p->string) == capacity, "the capacity after a call that does not append");
         counts[call][code]++;
         return;
     }
@@ -649,6 +738,8 @@ int main(int count, char **words) {
     must(blocks == 0, "a block is not given back");
     static const int reached[][2] = {
         {SET_UNITS, WTF8_NO_MEMORY}, {SET_UTF8, WTF8_NO_MEMORY}, {SET_UTF8, WTF8_NOT_UTF8}, {SET_STRING, WTF8_NO_MEMORY},
+        {SET_LATIN1, WTF8_NO_MEMORY}, {PUSH_POINTS, WTF8_NO_MEMORY}, {PUSH_POINTS, WTF8_BAD_CODE_POINT}, {POINT_BEFORE, WTF8_END},
+        {POINT_BEFORE, WTF8_BAD_POSITION}, {UTF8_UNIT_LEN, WTF8_NOT_UTF8}, {COPY_LATIN1, WTF8_NOT_LATIN1}, {COPY_LATIN1, WTF8_ARRAY_TOO_SHORT},
         {RESERVE, WTF8_NO_MEMORY}, {PUSH_UNIT, WTF8_NO_MEMORY}, {PUSH_POINT, WTF8_NO_MEMORY},
         {PUSH_POINT, WTF8_BAD_CODE_POINT}, {PUSH_UNITS, WTF8_NO_MEMORY}, {PUSH_LATIN1, WTF8_NO_MEMORY},
         {PUSH_UTF8, WTF8_NO_MEMORY}, {PUSH_UTF8, WTF8_NOT_UTF8}, {PUSH_PART, WTF8_NO_MEMORY},

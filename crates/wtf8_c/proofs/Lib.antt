@@ -1,6 +1,8 @@
 pub mod Boxed
 pub mod Halves
+pub mod Latin1Units
 pub mod Outcomes
+pub mod Pushes
 pub mod Steps
 pub mod Units
 pub mod Walks

@@ -2,6 +2,7 @@ pub mod Front
 pub mod Halves
 pub mod Hashing
 pub mod Kept
+pub mod Latin1
 pub mod Lending
 pub mod Ownership
 pub mod Utf8Front

@@ -1,17 +1,22 @@
 // Calls that change nothing.
 ghost use Rattle.std.specs.Prelude.{◌≡◌, ◌⊎◌, ◌-◌, ◌<◌, ◌≤◌, ◌↔◌, List, ℕ, IsTrue, Some, length, take};
 ghost use Rattle.std.specs.List.{slice_get};
+ghost use Rattle.std.specs.Str.{chars, IsUtf8};
+ghost use Rattle.std.specs.Str.Lossy.{utf8_valid_len};
 ghost use Rattle.wtf8.specs.Form.{IsForm, Reads};
 ghost use Rattle.wtf8.specs.Order.{Before};
 ghost use Rattle.wtf8.specs.Position.{IsBoundary, IsFront};
 ghost use Rattle.wtf8.specs.Surrogates.{AreScalar};
+ghost use Rattle.wtf8.specs.Unicode.{units};
 ghost use Rattle.wtf8.specs.UnitPosition.{DividesPair};
+ghost use Rattle.wtf8.specs.View.{view_units};
 ghost use Rattle.unit_text.specs.Positions.{AreUnitsBefore};
 ghost use Rattle.wtf8_c.specs.Kept.{IsKept};
+ghost use Rattle.wtf8_c.specs.Latin1.{AreAscii};
 
-use crate::codes::{AFTER, BAD_POSITION, BEFORE, OK, SAME, code_of_order};
+use crate::codes::{AFTER, BAD_POSITION, BEFORE, NOT_UTF8, OK, SAME, code_of_order};
 use crate::handle::Wtf8String;
-use wtf8::encoded_len;
+use wtf8::{Wtf8, encoded_len, from_utf8};
 
 /// The number of units.
 #[unsafe(no_mangle)]
@@ -113,6 +118,47 @@ pub extern "C" fn wtf8_is_utf8(string: &mut Wtf8String) -> bool
     ensures kept { IsKept string.old string.new }
 {
     string.buffer().as_wtf8().as_str().is_some()
+}
+
+/// Whether each unit is below 80.
+#[unsafe(no_mangle)]
+pub extern "C" fn wtf8_is_ascii(string: &mut Wtf8String) -> bool
+    ensures ascii { IsTrue result ↔ AreAscii string.old.buf.units }
+    ensures kept { IsKept string.old string.new }
+{
+    let buf = string.buffer();
+    has_one_byte_each(buf.as_wtf8(), buf.unit_len())
+}
+
+/// Whether a string has one byte for each of its `count` units, so that each is ASCII.
+pub(crate) fn has_one_byte_each(text: Wtf8<'_>, count: usize) -> bool
+    requires { count ≡ length (view_units text) }
+    ensures { IsTrue result ↔ AreAscii (view_units text.entry) }
+{
+    text.len() == count
+}
+
+/// Writes the number of units of a text to `len`, which must be UTF-8. If it is not, the length of its longest front that
+/// is UTF-8 is written to `valid`.
+#[unsafe(no_mangle)]
+pub extern "C" fn wtf8_utf8_unit_len(text: &[u8], len: &mut usize, valid: &mut usize) -> i32
+    ensures code { (result ≡ OK) ⊎ (result ≡ NOT_UTF8) }
+    ensures not_utf8 { result ≡ NOT_UTF8 ↔ ¬ (IsUtf8 text.now) }
+    ensures ok { result ≡ OK → len.new ≡ length (units (chars text.now)) }
+    ensures len_kept { result ≡ NOT_UTF8 → len.new ≡ len.old }
+    ensures valid { result ≡ NOT_UTF8 → valid.new ≡ utf8_valid_len text.now }
+    ensures valid_kept { result ≡ OK → valid.new ≡ valid.old }
+{
+    match from_utf8(text) {
+        Ok(text) => {
+            *len = Wtf8::from_str(text).unit_len();
+            OK
+        }
+        Err(error) => {
+            *valid = error.valid_up_to();
+            NOT_UTF8
+        }
+    }
 }
 
 /// Whether two strings have the same units.

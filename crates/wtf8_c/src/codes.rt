@@ -29,6 +29,9 @@ pub(crate) const NOT_UTF8: i32 = 6;
 /// No code point is after the position, or before it, or the string is empty.
 pub(crate) const END: i32 = 7;
 
+/// A unit is greater than FF, so the string is not a text in Latin-1.
+pub(crate) const NOT_LATIN1: i32 = 8;
+
 /// The first of two strings comes before the second.
 pub(crate) const BEFORE: i32 = -1;
 

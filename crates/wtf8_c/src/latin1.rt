@@ -1,6 +1,7 @@
 // Texts in Latin-1, each byte of which is the code point of its value.
-ghost use Rattle.std.specs.Prelude.{◌≡◌, ◌≤◌, ◌<◌, ◌^◌, length, take, IsOk, OnOk, OnErr};
-ghost use Rattle.wtf8.specs.Appending.{AppendsUnits, KeepsContents, HasRoomFor};
+ghost use Rattle.std.specs.Prelude.{◌≡◌, ◌+◌, ◌≤◌, ◌<◌, ◌^◌, ◌↔◌, ℕ, List, length, take, IsTrue, IsOk, OnOk, OnErr};
+ghost use Rattle.wtf8.specs.Appending.{AppendsUnits, FitWithin, KeepsContents, HasRoomFor};
+ghost use Rattle.wtf8.specs.Form.{IsForm};
 
 use std::alloc::{AllocError, Global};
 use unit_text::IndexedBuf;
@@ -10,6 +11,34 @@ const CHUNK: usize = 128;
 
 /// The same for shorter texts: fewer units to zero.
 const SHORT_CHUNK: usize = 32;
+
+/// Replaces the units of a buffer by the code points of bytes, in its capacity if they fit.
+pub(crate) fn set_bytes(
+    alloc: Global,
+    buf: &mut IndexedBuf<Global>,
+    bytes: &[u8],
+) -> Result<(), AllocError>
+    ensures ok { OnOk result (buf.new.units ≡ bytes.now) }
+    ensures kept { OnErr result (buf.new ≡ buf.old) }
+    ensures room { FitWithin bytes.now 0 buf.old.capacity → IsOk result }
+    ensures capacity { buf.old.capacity ≤ buf.new.capacity }
+{
+    if has_room(buf.capacity(), bytes) {
+        buf.clear();
+        return push_bytes(buf, bytes);
+    }
+    let mut made = IndexedBuf::new(alloc);
+    push_bytes(&mut made, bytes)?;
+    *buf = made;
+    Ok(())
+}
+
+/// Whether a capacity has room for the code points of bytes.
+fn has_room(capacity: usize, bytes: &[u8]) -> bool
+    ensures { IsTrue result ↔ FitWithin bytes.now 0 capacity }
+{
+    bytes.len() <= capacity && high_count(bytes) <= capacity - bytes.len()
+}
 
 /// Appends the code points of bytes. If memory is refused, the string is unchanged.
 pub(crate) fn push_bytes(buf: &mut IndexedBuf<Global>, bytes: &[u8]) -> Result<(), AllocError>
@@ -39,7 +68,9 @@ pub(crate) fn push_bytes(buf: &mut IndexedBuf<Global>, bytes: &[u8]) -> Result<(
 }
 
 /// The number of bytes from 80 on, each of which is a code point of two bytes.
-fn high_count(bytes: &[u8]) -> usize {
+fn high_count(bytes: &[u8]) -> usize
+    ensures { (w : List ℕ) → IsForm w bytes.now → length w ≡ length bytes.now + result }
+{
     let mut high = 0;
     for at in 0..bytes.len() {
         if 0x80 <= bytes[at] {

@@ -8,6 +8,7 @@ ghost use Rattle.wtf8_c.specs.Kept.{IsKept};
 
 use crate::codes::{NO_MEMORY, NOT_UTF8, OK, code_of};
 use crate::handle::{Wtf8String, empty};
+use crate::latin1::set_bytes;
 use std::alloc::{AllocError, Global};
 use unit_text::IndexedBuf;
 use wtf8::{Wtf8Buf, encoded_len, from_utf8};
@@ -114,6 +115,19 @@ fn set_text(alloc: Global, buf: &mut IndexedBuf<Global>, text: &str) -> Result<(
     }
     *buf = IndexedBuf::from_buf(Wtf8Buf::from_str(alloc, text)?);
     Ok(())
+}
+
+/// Replaces the string by a text in Latin-1: by the code points of its bytes.
+#[unsafe(no_mangle)]
+pub extern "C" fn wtf8_set_latin1(alloc: Global, string: &mut Wtf8String, text: &[u8]) -> i32
+    ensures code { (result ≡ OK) ⊎ (result ≡ NO_MEMORY) }
+    ensures ok { result ≡ OK → string.new.buf.units ≡ text.now }
+    ensures kept { result ≡ NO_MEMORY → IsKept string.old string.new }
+    ensures room { FitWithin text.now 0 string.old.buf.capacity → result ≡ OK }
+    ensures capacity { string.old.buf.capacity ≤ string.new.buf.capacity }
+    ensures lies { string.new.at ≡ string.old.at }
+{
+    code_of(set_bytes(alloc, string.buffer(), text))
 }
 
 /// Replaces the string by a copy of another one.

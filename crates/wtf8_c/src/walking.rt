@@ -1,16 +1,21 @@
 // Calls that walk over a string, code point by code point.
-ghost use Rattle.std.specs.Prelude.{◌≡◌, ◌⊎◌, ◌+◌, ◌-◌, ◌≤◌, ◌↔◌, IfSome, IsNone, length};
+ghost use Rattle.std.specs.Prelude.{◌≡◌, ◌⊎◌, ◌+◌, ◌-◌, ◌<◌, ◌≤◌, ◌↔◌, None, IfSome, IsNone, length, take};
 ghost use Rattle.wtf8.specs.CodePoint.{number};
 ghost use Rattle.wtf8.specs.Form.{encoding};
 ghost use Rattle.wtf8.specs.Position.{IsBoundary};
 ghost use Rattle.wtf8.specs.SurrogatePosition.{IsNextSurrogate, IsTextFrom};
 ghost use Rattle.wtf8.specs.View.{view_units};
-ghost use Rattle.wtf8_c.specs.Walks.{IsPointBetween};
+ghost use Rattle.wtf8.specs.UnitPosition.{units_of_slice};
+ghost use Rattle.wtf8_c.specs.Halves.{AreHalves};
+ghost use Rattle.wtf8_c.specs.Walks.{EndsWithPoint, IsPointBetween};
 ghost use Rattle.wtf8_c.specs.Kept.{IsKept};
 
 use crate::codes::{BAD_POSITION, END, OK};
+use crate::cutting::slice_of;
 use crate::handle::Wtf8String;
-use wtf8::{CodePoint, Wtf8};
+use std::alloc::Global;
+use unit_text::IndexedBuf;
+use wtf8::{CodePoint, UnitSlice, Wtf8};
 
 /// Writes the code point after `position` to `code_point`, and moves `position` past it.
 #[unsafe(no_mangle)]
@@ -69,6 +74,67 @@ pub extern "C" fn wtf8_previous_code_point(
             OK
         }
         None => END,
+    }
+}
+
+/// Writes the code point before the unit at `index` to `code_point`: the lead of a pair that `index` divides.
+#[unsafe(no_mangle)]
+pub extern "C" fn wtf8_code_point_before(
+    string: &mut Wtf8String,
+    index: usize,
+    code_point: &mut u32,
+) -> i32
+    ensures code { (result ≡ OK) ⊎ ((result ≡ BAD_POSITION) ⊎ (result ≡ END)) }
+    ensures position { result ≡ BAD_POSITION ↔ length string.old.buf.units < index }
+    ensures end { result ≡ END ↔ index ≡ 0 }
+    ensures ok { result ≡ OK → EndsWithPoint (take index string.old.buf.units) code_point.new }
+    ensures code_point { ¬ (result ≡ OK) → code_point.new ≡ code_point.old }
+    ensures kept { IsKept string.old string.new }
+{
+    let buf = string.buffer();
+    if buf.unit_len() < index {
+        return BAD_POSITION;
+    }
+    if index == 0 {
+        return END;
+    }
+    *code_point = last_point(front_of(buf, index));
+    OK
+}
+
+/// The units of the buffer before `index`. No pair is divided at their start.
+fn front_of(buf: &IndexedBuf<Global>, index: usize) -> UnitSlice<'_>
+    requires some { 0 < index }
+    requires within { index ≤ length buf.now.units }
+    ensures units { units_of_slice result ≡ take index buf.now.units }
+    ensures halves { AreHalves result }
+    ensures trail { result.trail ≡ None }
+{
+    slice_of(buf, 0, index)
+}
+
+/// The last code point of a slice with units, at whose start no pair is divided.
+fn last_point(front: UnitSlice<'_>) -> u32
+    requires halves { AreHalves front }
+    requires trail { front.trail ≡ None }
+    requires some { 0 < length (units_of_slice front) }
+    ensures { EndsWithPoint (units_of_slice front.entry) result }
+{
+    match front.lead {
+        Some(lead) => u32::from(lead),
+        None => last_of(front.whole).to_u32(),
+    }
+}
+
+/// The last code point of a view, which has one.
+fn last_of(text: Wtf8<'_>) -> CodePoint
+    requires { 0 < length (view_units text) }
+    ensures { EndsWithPoint (view_units text.entry) (number result) }
+{
+    let len = text.len();
+    match code_point_before(text, len) {
+        Some((last, _)) => last,
+        None => CodePoint::from_unit(0),
     }
 }
 

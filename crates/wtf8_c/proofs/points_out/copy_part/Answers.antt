@@ -1,14 +1,13 @@
-use Rattle.std.proofs.Common.{◌≡◌, ℕ, ◌≤◌, List, [], ◌∷◌, length, inl, inr, refl, ap, subst, ◌∙◌, arith, length-take}
+use Rattle.std.proofs.Common.{◌≡◌, ℕ, List, [], ◌∷◌, length, inl, inr, refl, ap, subst, ◌∙◌, arith, length-take}
 use Rattle.std.proofs.Math.Nat.{min-eq_right}
 use Rattle.std.proofs.lemmas.Bool.{cases_lt}
 use Rattle.std.proofs.lemmas.List.{take_all, take_at}
 use Rattle.wtf8.specs.Form.{IsClean}
 use Rattle.wtf8.specs.Surrogates.{AreScalar}
 use Rattle.wtf8.specs.Unicode.{units}
-use Rattle.wtf8.specs.View.{view_points, view_units}
-use Rattle.wtf8.specs.declared.strings.view.Wtf8.{Wtf8}
-use Rattle.wtf8.proofs.lemmas.codec.Readings.{clean-first, clean-rest, lists_have_lengths, units-cons_one, units-cons_two}
-use Rattle.wtf8_c.proofs.Walks.{few_points}
+use Rattle.wtf8.specs.View.{view_points}
+use Rattle.wtf8.proofs.lemmas.codec.Readings.{clean-first, clean-rest, units-cons_one, units-cons_two}
+use Rattle.wtf8_c.proofs.Walks.{few_points, few_units}
 use Rattle.wtf8_c.proofs.points_out.copy_part.Goals as goal
 
 -- code points none of whose units is a surrogate are their units
@@ -20,10 +19,6 @@ points_are_units (p ∷ c) h s = elim (cases_lt p 0x10000) [
       one ∙ ap (λ u. p ∷ u) (points_are_units c (clean-rest p c h) (subst AreScalar one s).1)
   | inr m ↦ absurd ((subst AreScalar (units-cons_two p c m) s).0 (omega (arith, m, clean-first p c h), omega (arith, m, clean-first p c h)))
 ]
-
--- a view has no more units than bytes
-few_units : (v : Wtf8) → length (view_units v) ≤ length v.bytes.now
-few_units v = omega (arith, (lists_have_lengths (view_points v)).units_least, ap length v.well_formed.encoded)
 
 pub write_units-n-requires : goal.write_units-n-requires
 write_units-n-requires c = omega (arith, few_units c.args.part, c.requires.short)
