@@ -1,3 +1,4 @@
+pub mod BorderLemmas
 pub mod MarkLemmas
 pub mod PositionLemmas
 pub mod ReadingLemmas

@@ -1,5 +1,6 @@
 // Where code units occur in a string. Its units are decoded on the stack, part by part.
 ghost use Rattle.std.specs.Prelude.{◌≡◌, ◌↔◌, ◌++◌, ◌≤◌, ◌<◌, ◌^◌, ℕ, length, take, IsTrue, IfSome, IfNone};
+ghost use Rattle.unit_text.specs.private.Search.{pattern_units};
 ghost use Rattle.unit_text.specs.Search.{FindsFirst, FindsFirstBelow, FindsLastBelow, IsFirstIndex, IsLastIndex, OccursAt};
 ghost use Rattle.wtf8.specs.UnitMark.{IsMarkOf};
 ghost use Rattle.wtf8.specs.UnitPosition.{DividesPair};
@@ -31,9 +32,29 @@ fn decode_part<'a>(view: Wtf8<'a>, block: &mut [u16]) -> (usize, Wtf8<'a>)
     (count, view.slice_from(position))
 }
 
+/// The code units that are searched for: `units`, and after them the `count` units of `after`.
+#[derive(Clone, Copy)]
+struct Pattern<'a> {
+    units: &'a [u16],
+    after: Wtf8<'a>,
+    count: usize,
+}
+
+fn pattern_of<'a>(units: &'a [u16]) -> Pattern<'a>
+    ensures units { pattern_units result ≡ units.now }
+    ensures slice { result.units.now ≡ units.now }
+    ensures count { result.count ≡ length (view_units result.after) }
+{
+    Pattern {
+        units,
+        after: Wtf8::from_str(""),
+        count: 0,
+    }
+}
+
 /// Whether the units of `front`, and after them those of `back`, begin with `units`.
 #[inline(always)]
-fn begins(front: &[u16], back: Wtf8<'_>, units: &[u16]) -> bool
+fn begins_with_units(front: &[u16], back: Wtf8<'_>, units: &[u16]) -> bool
     ensures { IsTrue result ↔ take (length units.now) (front.now ++ view_units back.entry) ≡ units.now }
 {
     let (first, rest) = units.split_at(front.len().min(units.len()));
@@ -41,16 +62,44 @@ fn begins(front: &[u16], back: Wtf8<'_>, units: &[u16]) -> bool
     own == first && back.starts_with_units(rest)
 }
 
-/// The first index of `block` at which its units, and after them those of `back`, begin with `units`.
-#[inline(always)]
-fn first_in_block(block: &[u16], back: Wtf8<'_>, units: &[u16]) -> Option<usize>
-    requires { 0 < length units.now }
-    ensures { FindsFirstBelow (block.now ++ view_units back.entry) units.now (length block.now) result }
+/// Whether the units of `front`, and after them those of `back`, begin with the pattern's, compared one by one.
+#[inline(never)]
+fn begins_one_by_one(front: &[u16], back: Wtf8<'_>, pattern: Pattern<'_>) -> bool
+    requires count { pattern.count ≡ length (view_units pattern.after) }
+    requires fits { length (pattern_units pattern) < 2 ^ 64 }
+    ensures { IsTrue result ↔ take (length (pattern_units pattern.entry)) (front.now ++ view_units back.entry) ≡ pattern_units pattern.entry }
 {
-    let first = units[0];
+    let own = front.iter().copied().chain(back.to_ill_formed_utf16());
+    let first = pattern.units.iter().copied();
+    let others = first.chain(pattern.after.to_ill_formed_utf16());
+    own.take(pattern.units.len() + pattern.count)
+        .cmp(others)
+        .is_eq()
+}
+
+/// Whether the units of `front`, and after them those of `back`, begin with the pattern's.
+#[inline(always)]
+fn begins(front: &[u16], back: Wtf8<'_>, pattern: Pattern<'_>) -> bool
+    requires count { pattern.count ≡ length (view_units pattern.after) }
+    requires fits { length (pattern_units pattern) < 2 ^ 64 }
+    ensures { IsTrue result ↔ take (length (pattern_units pattern.entry)) (front.now ++ view_units back.entry) ≡ pattern_units pattern.entry }
+{
+    begins_with_units(front, back, pattern.units)
+        && (pattern.count == 0 || begins_one_by_one(front, back, pattern))
+}
+
+/// The first index of `block` at which its units, and after them those of `back`, begin with the pattern's.
+#[inline(always)]
+fn first_in_block(block: &[u16], back: Wtf8<'_>, pattern: Pattern<'_>) -> Option<usize>
+    requires some { 0 < length pattern.units.now }
+    requires count { pattern.count ≡ length (view_units pattern.after) }
+    requires fits { length (pattern_units pattern) < 2 ^ 64 }
+    ensures { FindsFirstBelow (block.now ++ view_units back.entry) (pattern_units pattern.entry) (length block.now) result }
+{
+    let first = pattern.units[0];
     for index in 0..block.len() {
         let (_, front) = block.split_at(index);
-        if block[index] == first && begins(front, back, units) {
+        if block[index] == first && begins(front, back, pattern) {
             return Some(index);
         }
     }
@@ -58,19 +107,21 @@ fn first_in_block(block: &[u16], back: Wtf8<'_>, units: &[u16]) -> Option<usize>
 }
 
 #[inline(always)]
-fn first_by_parts<const N: usize>(view: Wtf8<'_>, units: &[u16]) -> Option<usize>
+fn first_by_parts<const N: usize>(view: Wtf8<'_>, pattern: Pattern<'_>) -> Option<usize>
     requires part { (4 ≤ N) × (N < 2 ^ 16) }
-    requires some { 0 < length units.now }
-    ensures { FindsFirst (view_units view.entry) units.now 0 result }
+    requires some { 0 < length pattern.units.now }
+    requires count { pattern.count ≡ length (view_units pattern.after) }
+    requires fits { length (pattern_units pattern) < 2 ^ 64 }
+    ensures { FindsFirst (view_units view.entry) (pattern_units pattern.entry) 0 result }
 {
     let mut block = [0; N];
     let mut rest = view;
     let mut passed = 0;
     // The string has no more units than bytes.
-    while units.len() <= rest.len() {
+    while pattern.units.len() <= rest.len() {
         let (count, after) = decode_part(rest, &mut block);
         prove!(view.len() <= usize::MAX);
-        if let Some(index) = first_in_block(&block[..count], after, units) {
+        if let Some(index) = first_in_block(&block[..count], after, pattern) {
             return Some(passed + index);
         }
         passed += count;
@@ -79,30 +130,46 @@ fn first_by_parts<const N: usize>(view: Wtf8<'_>, units: &[u16]) -> Option<usize
     None
 }
 
-/// The first index at which `units`, which are not empty, occur in those of a string. Linear in the length times the
-/// number of `units` at worst, if most parts of the string begin as they do; else linear in the length.
-pub(crate) fn first_index(view: Wtf8<'_>, units: &[u16]) -> Option<usize>
-    requires { 0 < length units.now }
-    ensures { FindsFirst (view_units view.entry) units.now 0 result }
+/// The first index at which the pattern occurs in a string.
+fn first_index(view: Wtf8<'_>, pattern: Pattern<'_>) -> Option<usize>
+    requires some { 0 < length pattern.units.now }
+    requires count { pattern.count ≡ length (view_units pattern.after) }
+    requires fits { length (pattern_units pattern) < 2 ^ 64 }
+    ensures { FindsFirst (view_units view.entry) (pattern_units pattern.entry) 0 result }
 {
     if view.len() <= SHORT_PART {
-        return first_by_parts::<SHORT_PART>(view, units);
+        return first_by_parts::<SHORT_PART>(view, pattern);
     }
-    first_by_parts::<PART>(view, units)
+    first_by_parts::<PART>(view, pattern)
 }
 
-/// The last index of `block` at which its units, and after them those of `back`, begin with `units`.
-#[inline(always)]
-fn last_in_block(block: &[u16], back: Wtf8<'_>, units: &[u16]) -> Option<usize>
-    requires { 0 < length units.now }
-    ensures { FindsLastBelow (block.now ++ view_units back.entry) units.now (length block.now) result }
+/// The first index at which the `count` units of `other`, which is not empty, occur in a string.
+fn first_of_string(view: Wtf8<'_>, other: Wtf8<'_>, count: usize) -> Option<usize>
+    requires some { 0 < length other.bytes.now }
+    requires count { count ≡ length (view_units other) }
+    ensures { FindsFirst (view_units view.entry) (view_units other.entry) 0 result }
 {
-    let first = units[0];
+    let mut block = [0; SHORT_PART];
+    let (first, after) = decode_part(other, &mut block);
+    let (units, _) = block.split_at(first);
+    let count = count - first;
+    first_index(view, Pattern { units, after, count })
+}
+
+/// The last index of `block` at which its units, and after them those of `back`, begin with the pattern's.
+#[inline(always)]
+fn last_in_block(block: &[u16], back: Wtf8<'_>, pattern: Pattern<'_>) -> Option<usize>
+    requires some { 0 < length pattern.units.now }
+    requires count { pattern.count ≡ length (view_units pattern.after) }
+    requires fits { length (pattern_units pattern) < 2 ^ 64 }
+    ensures { FindsLastBelow (block.now ++ view_units back.entry) (pattern_units pattern.entry) (length block.now) result }
+{
+    let first = pattern.units[0];
     let mut end = block.len();
     while 0 < end {
         let index = end - 1;
         let (_, front) = block.split_at(index);
-        if block[index] == first && begins(front, back, units) {
+        if block[index] == first && begins(front, back, pattern) {
             return Some(index);
         }
         end = index;
@@ -111,11 +178,13 @@ fn last_in_block(block: &[u16], back: Wtf8<'_>, units: &[u16]) -> Option<usize>
 }
 
 #[inline(always)]
-fn last_by_parts<const N: usize>(view: Wtf8<'_>, until: UnitMark, units: &[u16]) -> Option<usize>
+fn last_by_parts<const N: usize>(view: Wtf8<'_>, until: UnitMark, pattern: Pattern<'_>) -> Option<usize>
     requires part { (4 ≤ N) × (N < 2 ^ 16) }
     requires mark { IsMarkOf view until }
-    requires some { 0 < length units.now }
-    ensures { FindsLastBelow (view_units view.entry) units.now until.units result }
+    requires some { 0 < length pattern.units.now }
+    requires count { pattern.count ≡ length (view_units pattern.after) }
+    requires fits { length (pattern_units pattern) < 2 ^ 64 }
+    ensures { FindsLastBelow (view_units view.entry) (pattern_units pattern.entry) until.units result }
 {
     laws::law_marks();
     let mut block = [0; N];
@@ -126,7 +195,7 @@ fn last_by_parts<const N: usize>(view: Wtf8<'_>, until: UnitMark, units: &[u16])
         let front = view.slice_to(end.position);
         let count = front.slice_from_mark(begin).write_units(&mut block);
         let after = view.slice_from_mark(end);
-        if let Some(index) = last_in_block(&block[..count], after, units) {
+        if let Some(index) = last_in_block(&block[..count], after, pattern) {
             return Some(begin.units + index);
         }
         end = begin;
@@ -134,17 +203,32 @@ fn last_by_parts<const N: usize>(view: Wtf8<'_>, until: UnitMark, units: &[u16])
     None
 }
 
-/// The last index before the mark `end` at which `units`, which are not empty, occur in those of a string. As linear as
-/// `first_index`, in the units before the mark.
-pub(crate) fn last_index(view: Wtf8<'_>, end: UnitMark, units: &[u16]) -> Option<usize>
+/// The last index before the mark `end` at which the pattern occurs in a string.
+fn last_index(view: Wtf8<'_>, end: UnitMark, pattern: Pattern<'_>) -> Option<usize>
     requires mark { IsMarkOf view end }
-    requires some { 0 < length units.now }
-    ensures { FindsLastBelow (view_units view.entry) units.now end.units result }
+    requires some { 0 < length pattern.units.now }
+    requires count { pattern.count ≡ length (view_units pattern.after) }
+    requires fits { length (pattern_units pattern) < 2 ^ 64 }
+    ensures { FindsLastBelow (view_units view.entry) (pattern_units pattern.entry) end.units result }
 {
     if view.len() <= SHORT_PART {
-        return last_by_parts::<SHORT_PART>(view, end, units);
+        return last_by_parts::<SHORT_PART>(view, end, pattern);
     }
-    last_by_parts::<PART>(view, end, units)
+    last_by_parts::<PART>(view, end, pattern)
+}
+
+/// The last index before the mark `end` at which the `count` units of `other`, which is not empty, occur in a string.
+fn last_of_string(view: Wtf8<'_>, end: UnitMark, other: Wtf8<'_>, count: usize) -> Option<usize>
+    requires mark { IsMarkOf view end }
+    requires some { 0 < length other.bytes.now }
+    requires count { count ≡ length (view_units other) }
+    ensures { FindsLastBelow (view_units view.entry) (view_units other.entry) end.units result }
+{
+    let mut block = [0; SHORT_PART];
+    let (first, after) = decode_part(other, &mut block);
+    let (units, _) = block.split_at(first);
+    let count = count - first;
+    last_index(view, end, Pattern { units, after, count })
 }
 
 impl<A: Allocator> IndexedBuf<A> {
@@ -163,7 +247,7 @@ impl<A: Allocator> IndexedBuf<A> {
             return Some(from);
         }
         if let Some(rest) = self.units_from(from).as_wtf8() {
-            let index = first_index(rest, units)?;
+            let index = first_index(rest, pattern_of(units))?;
             return Some(from + index);
         }
         // The first unit is the trail of a pair, after which a code point begins.
@@ -179,22 +263,23 @@ impl<A: Allocator> IndexedBuf<A> {
         ensures some { IfSome result (λ k. IsFirstIndex self.now.units other.now.units from k) }
         ensures none { IfNone result ((k : ℕ) → from ≤ k → ¬ (OccursAt self.now.units other.now.units k)) }
     {
+        let last = self.unit_len().checked_sub(other.unit_len())?;
+        if last < from {
+            return None;
+        }
         let view = other.as_wtf8();
         if view.is_empty() {
-            return self.find_units(from, &[]);
+            return Some(from);
         }
-        let mut block = [0; SHORT_PART];
-        let (count, _) = decode_part(view, &mut block);
-        prove!(self.unit_len() <= usize::MAX);
-        let (head, _) = block.split_at(count);
-        let mut begin = from;
-        while let Some(index) = self.find_units(begin, head) {
-            if self.starts_with_at(index, other) {
-                return Some(index);
-            }
-            begin = index + 1;
+        if let Some(rest) = self.units_from(from).as_wtf8() {
+            let index = first_of_string(rest, view, other.unit_len())?;
+            return Some(from + index);
         }
-        None
+        // The first unit is the trail of a pair, after which a code point begins.
+        if self.starts_with_at(from, other) {
+            return Some(from);
+        }
+        self.find(from + 1, other)
     }
 
     /// The last index at or before `from` at which these code units occur, also inside a surrogate pair, or `None` if
@@ -216,7 +301,7 @@ impl<A: Allocator> IndexedBuf<A> {
         if mark.units < begin && self.starts_with_units_at(mark.units, units) {
             return Some(mark.units);
         }
-        last_index(marked.text.view, mark, units)
+        last_index(marked.text.view, mark, pattern_of(units))
     }
 
     /// The last index at or before `from` at which the code units of `other` occur, as `rfind_units` finds them. Units
@@ -225,24 +310,18 @@ impl<A: Allocator> IndexedBuf<A> {
         ensures some { IfSome result (λ k. IsLastIndex self.now.units other.now.units from k) }
         ensures none { IfNone result ((k : ℕ) → k ≤ from → ¬ (OccursAt self.now.units other.now.units k)) }
     {
-        let view = other.as_wtf8();
-        if view.is_empty() {
-            return self.rfind_units(from, &[]);
+        let last = self.unit_len().checked_sub(other.unit_len())?;
+        let begin = from.min(last);
+        if self.starts_with_at(begin, other) {
+            return Some(begin);
         }
-        let mut block = [0; SHORT_PART];
-        let (count, _) = decode_part(view, &mut block);
-        let (head, _) = block.split_at(count);
-        let mut begin = from;
-        while let Some(index) = self.rfind_units(begin, head) {
-            if self.starts_with_at(index, other) {
-                return Some(index);
-            }
-            if index == 0 {
-                return None;
-            }
-            begin = index - 1;
+        let marked = self.marked();
+        let mark = marked.mark_at(begin);
+        // If `begin` splits a pair, its lead is directly before.
+        if mark.units < begin && self.starts_with_at(mark.units, other) {
+            return Some(mark.units);
         }
-        None
+        last_of_string(marked.text.view, mark, other.as_wtf8(), other.unit_len())
     }
 
     /// Whether a cut before index `index` splits a surrogate pair: a lead is directly before it, and a trail at it.
