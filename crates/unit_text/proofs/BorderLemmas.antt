@@ -1,9 +1,9 @@
 -- Ends of a list that are fronts of another, and the longest of them, when an item is appended.
-use Rattle.std.proofs.Common.{◌≡◌, ◌≢◌, ℕ, ◌+◌, ◌-◌, ◌<◌, ◌≤◌, List, [], ◌∷◌, ◌++◌, length, take, drop, get_or, refl, sym, ap, subst, ◌∙◌, arith, inl, inr, append_assoc, append-nil, length-append, length-drop, length-take-le}
+use Rattle.std.proofs.Common.{◌≡◌, ◌≢◌, ℕ, ◌+◌, ◌-◌, ◌<◌, ◌≤◌, List, [], ◌∷◌, ◌++◌, length, take, drop, get_or, refl, sym, ap, subst, ◌∙◌, arith, inl, inr, append_assoc, append-nil, length-append, length-drop, length-take, length-take-le}
 use Rattle.std.proofs.Math.Seq.{drop-append_seam, take-append_seam}
 use Rattle.std.proofs.lemmas.Bool.{cases_eq, cases_lt}
 use Rattle.std.proofs.lemmas.List.{drop-append-le, take-append-drop, take_more}
-use Rattle.unit_text.specs.private.Borders.{EndsWithFront, IsLongestFront}
+use Rattle.unit_text.specs.private.Borders.{AreBorders, EndsWithFront, IsLongestFront}
 
 -- equal lists with one item more
 last_of : (a l : List ℕ) (y x : ℕ) → a ++ y ∷ [] ≡ l ++ x ∷ [] → (a ≡ l) × (y ≡ x)
@@ -19,7 +19,7 @@ module _ (s : List ℕ) where
   front_len l k h = omega (arith, ap length h.ends, length-append h.before (take k s), length-take-le k s h.within)
 
   -- a list that ends with an end of `s`'s fronts
-  ends_append : (l y : List ℕ) (m r : ℕ) → EndsWithFront l s m → EndsWithFront (take m s ++ y) s r → EndsWithFront (l ++ y) s r
+  pub ends_append : (l y : List ℕ) (m r : ℕ) → EndsWithFront l s m → EndsWithFront (take m s ++ y) s r → EndsWithFront (l ++ y) s r
   ends_append l y m r x z = record {
     before = x.before ++ z.before;
     within = z.within;
@@ -53,14 +53,14 @@ module _ (s : List ℕ) where
       }
 
   -- borders are shorter than the list
-  border_is_end : (l : List ℕ) (k : ℕ) → EndsWithFront (drop 1 l) s k → EndsWithFront l s k
+  pub border_is_end : (l : List ℕ) (k : ℕ) → EndsWithFront (drop 1 l) s k → EndsWithFront l s k
   border_is_end l k h = record {
     before = take 1 l ++ h.before;
     within = h.within;
     ends = append_assoc (take 1 l) h.before (take k s) ∙ ap (λ t. take 1 l ++ t) h.ends ∙ take-append-drop 1 l;
   }
 
-  end_is_border : (l : List ℕ) (k : ℕ) → k < length l → EndsWithFront l s k → EndsWithFront (drop 1 l) s k
+  pub end_is_border : (l : List ℕ) (k : ℕ) → k < length l → EndsWithFront l s k → EndsWithFront (drop 1 l) s k
   end_is_border l k short h =
       ends_between l (take 1 l) (drop 1 l) k (take-append-drop 1 l) h (omega (arith, short, length-drop 1 l))
 
@@ -127,7 +127,7 @@ module _ (s : List ℕ) where
   }
 
   -- an end that is at most an item longer than the end `b`
-  in_end : (l : List ℕ) (x b n : ℕ) → EndsWithFront l s b → EndsWithFront (l ++ x ∷ []) s n → n ≤ b + 1 → EndsWithFront (take b s ++ x ∷ []) s n
+  pub in_end : (l : List ℕ) (x b n : ℕ) → EndsWithFront l s b → EndsWithFront (l ++ x ∷ []) s n → n ≤ b + 1 → EndsWithFront (take b s ++ x ∷ []) s n
   in_end l x b n end h short =
       ends_between (l ++ x ∷ []) end.before (take b s ++ x ∷ []) n
       (sym (append_assoc end.before (take b s) (x ∷ [])) ∙ ap (λ t. t ++ x ∷ []) end.ends) h
@@ -145,8 +145,31 @@ module _ (s : List ℕ) where
     ];
   }
 
-  pub no_border_of_one : (x : ℕ) (l : List ℕ) → length l ≡ 0 → IsLongestFront l s 0
-  no_border_of_one x l none = record {
+  pub longest_of_none : (l : List ℕ) → length l ≡ 0 → IsLongestFront l s 0
+  longest_of_none l none = record {
     is_end = record { before = l; within = omega arith; ends = append-nil l };
-    longest = λ n more h. omega (arith, more, none, front_len l n h);
+    longest = λ n more h. absurd (omega (arith, more, none, front_len l n h));
   }
+
+module _ (s : List ℕ) where
+  -- an entry of a table
+  pub border_known : (borders : List ℕ) (count b r : ℕ) → AreBorders s borders count → 0 < b → b ≤ count → r ≡ get_or borders (b - 1) 0
+      → IsLongestFront (drop 1 (take b s)) s r
+  border_known borders count b r known some within same =
+      let one : b - 1 + 1 ≡ b = omega (arith, some) in
+      subst (λ n. IsLongestFront (drop 1 (take n s)) s r) one
+      (subst (IsLongestFront (drop 1 (take (b - 1 + 1) s)) s) (sym same) (known (b - 1) (omega (arith, some, within))))
+
+  pub border_shorter : (b r : ℕ) → 0 < b → IsLongestFront (drop 1 (take b s)) s r → r < b
+  border_shorter b r some h =
+      omega (arith, some, front_len s (drop 1 (take b s)) r h.is_end, length-drop 1 (take b s), length-take b s)
+
+  -- the next entry of a table
+  pub next_border : (len b r : ℕ) → 0 < len → len < length s → IsLongestFront (drop 1 (take len s)) s b
+      → IsLongestFront (take b s ++ get_or s len 0 ∷ []) s r → IsLongestFront (drop 1 (take (len + 1) s)) s r
+  next_border len b r some within known new =
+      let x = get_or s len 0 in
+      let longer : drop 1 (take len s) ++ x ∷ [] ≡ drop 1 (take (len + 1) s) =
+      sym (ap (drop 1) (take_more s len 0 within)
+      ∙ drop-append-le 1 (take len s) (x ∷ []) (omega (arith, some, within, length-take len s))) in
+      subst (λ l. IsLongestFront l s r) longer (longest_append s (drop 1 (take len s)) x b r known new)

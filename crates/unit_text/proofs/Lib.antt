@@ -1,5 +1,6 @@
 pub mod BorderLemmas
 pub mod MarkLemmas
+pub mod PartLemmas
 pub mod PositionLemmas
 pub mod ReadingLemmas
 pub mod SearchLemmas

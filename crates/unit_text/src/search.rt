@@ -1,5 +1,6 @@
 // Where code units occur in a string. Its units are decoded on the stack, part by part.
-ghost use Rattle.std.specs.Prelude.{◌≡◌, ◌↔◌, ◌++◌, ◌≤◌, ◌<◌, ◌^◌, ℕ, length, take, IsTrue, IfSome, IfNone};
+ghost use Rattle.std.specs.Prelude.{◌≡◌, ◌↔◌, ◌∷◌, [], ◌++◌, ◌+◌, ◌-◌, ◌≤◌, ◌<◌, ◌^◌, ℕ, length, take, IsTrue, IfSome, IfNone, IfOk, IfErr};
+ghost use Rattle.unit_text.specs.private.Borders.{AreBorders, EndsWithFront, IsLongestFront};
 ghost use Rattle.unit_text.specs.private.Search.{pattern_units};
 ghost use Rattle.unit_text.specs.Search.{FindsFirst, FindsFirstBelow, FindsLastBelow, IsFirstIndex, IsLastIndex, OccursAt};
 ghost use Rattle.wtf8.specs.UnitMark.{IsMarkOf};
@@ -88,24 +89,72 @@ fn begins(front: &[u16], back: Wtf8<'_>, pattern: Pattern<'_>) -> bool
         && (pattern.count == 0 || begins_one_by_one(front, back, pattern))
 }
 
-/// The first index of `block` at which its units, and after them those of `back`, begin with the pattern's.
+/// The length of the longest front of `units` with which the first `matched` of them and then `unit` end. `borders` has
+/// the longest borders of shorter fronts.
 #[inline(always)]
-fn first_in_block(block: &[u16], back: Wtf8<'_>, pattern: Pattern<'_>) -> Option<usize>
-    requires some { 0 < length pattern.units.now }
-    requires count { pattern.count ≡ length (view_units pattern.after) }
-    requires fits { length (pattern_units pattern) < 2 ^ 64 }
-    ensures { FindsFirstBelow (block.now ++ view_units back.entry) (pattern_units pattern.entry) (length block.now) result }
+fn extended(units: &[u16], borders: &[u16], matched: usize, unit: u16) -> usize
+    requires within { matched < length units.now }
+    requires room { matched ≤ length borders.now }
+    requires known { AreBorders units.now borders.now matched }
+    ensures { IsLongestFront (take matched units.now ++ unit ∷ []) units.now result }
 {
-    let first = pattern.units[0];
-    for index in 0..block.len() {
-        let (_, front) = block.split_at(index);
-        if block[index] == first && begins(front, back, pattern) {
-            return Some(index);
+    let mut border = matched;
+    while units[border] != unit {
+        if border == 0 {
+            return 0;
         }
+        border = usize::from(borders[border - 1]);
     }
-    None
+    border + 1
 }
 
+/// The longest borders of the fronts of at most `N` units: what a search keeps of the units that it has compared.
+#[inline(always)]
+fn borders_of<const N: usize>(units: &[u16]) -> [u16; N]
+    requires part { N < 2 ^ 16 }
+    requires within { length units.now ≤ N }
+    ensures len { length result ≡ N }
+    ensures borders { AreBorders units.now result (length units.now) }
+{
+    let mut borders = [0; N];
+    for len in 1..units.len() {
+        let border = usize::from(borders[len - 1]);
+        borders[len] = extended(units, &borders, border, units[len]) as u16;
+    }
+    borders
+}
+
+/// Looks for `front` and after it `tail` in a part of a string and the string `back` after it. The first `matched` units
+/// of `front` are before the part. Returns the index in the part where `front` ends if `tail` follows, else the number of
+/// first units of `front` with which the part ends.
+#[inline(always)]
+fn end_in_part(part: &[u16], back: Wtf8<'_>, front: &[u16], borders: &[u16], matched: usize, tail: Pattern<'_>) -> Result<usize, usize>
+    requires matched { matched < length front.now }
+    requires room { length front.now ≤ length borders.now }
+    requires known { AreBorders front.now borders.now (length front.now) }
+    requires count { tail.count ≡ length (view_units tail.after) }
+    requires fits { length (pattern_units tail) < 2 ^ 64 }
+    ensures ok { IfOk result (λ end. (length front.now ≤ matched + end) × (end ≤ length part.now)
+        × IsFirstIndex ((take matched front.now ++ part.now) ++ view_units back.entry) (front.now ++ pattern_units tail.entry) 0 (matched + end - length front.now)) }
+    ensures err { IfErr result (λ left. (left < length front.now) × (left ≤ matched + length part.now)
+        × EndsWithFront (take matched front.now ++ part.now) front.now left
+        × ((k : ℕ) → k < matched + length part.now - left → ¬ (OccursAt ((take matched front.now ++ part.now) ++ view_units back.entry) (front.now ++ pattern_units tail.entry) k))) }
+{
+    let mut reached = matched;
+    for index in 0..part.len() {
+        reached = extended(front, borders, reached, part[index]);
+        if reached == front.len() {
+            let (_, later) = part.split_at(index + 1);
+            if begins(later, back, tail) {
+                return Ok(index + 1);
+            }
+            reached = usize::from(borders[reached - 1]);
+        }
+    }
+    Err(reached)
+}
+
+/// Linear in the length of the string, but for what `begins` compares where the first `N` units of the pattern occur.
 #[inline(always)]
 fn first_by_parts<const N: usize>(view: Wtf8<'_>, pattern: Pattern<'_>) -> Option<usize>
     requires part { (4 ≤ N) × (N < 2 ^ 16) }
@@ -114,17 +163,28 @@ fn first_by_parts<const N: usize>(view: Wtf8<'_>, pattern: Pattern<'_>) -> Optio
     requires fits { length (pattern_units pattern) < 2 ^ 64 }
     ensures { FindsFirst (view_units view.entry) (pattern_units pattern.entry) 0 result }
 {
+    let (front, units) = pattern.units.split_at(pattern.units.len().min(N));
+    let tail = Pattern {
+        units,
+        after: pattern.after,
+        count: pattern.count,
+    };
+    let borders: [u16; N] = borders_of(front);
     let mut block = [0; N];
     let mut rest = view;
-    let mut passed = 0;
+    let mut begin = 0;
+    let mut matched = 0;
     // The string has no more units than bytes.
-    while pattern.units.len() <= rest.len() {
+    while front.len() - matched <= rest.len() {
         let (count, after) = decode_part(rest, &mut block);
         prove!(view.len() <= usize::MAX);
-        if let Some(index) = first_in_block(&block[..count], after, pattern) {
-            return Some(passed + index);
+        match end_in_part(&block[..count], after, front, &borders, matched, tail) {
+            Ok(end) => return Some(begin + (matched + end - front.len())),
+            Err(left) => {
+                begin += matched + count - left;
+                matched = left;
+            }
         }
-        passed += count;
         rest = after;
     }
     None
