@@ -4,3 +4,4 @@ pub mod Reading
 pub mod Search
 pub mod Types
 pub mod Written
+pub mod private

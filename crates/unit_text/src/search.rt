@@ -1,5 +1,7 @@
 // Where code units occur in a string. Its units are decoded on the stack, part by part.
-ghost use Rattle.std.specs.Prelude.{◌≡◌, ◌↔◌, ◌++◌, ◌≤◌, ◌<◌, ◌^◌, ℕ, length, take, IsTrue, IfSome, IfNone};
+ghost use Rattle.std.specs.Prelude.{◌≡◌, ◌↔◌, ◌∷◌, [], ◌++◌, ◌+◌, ◌-◌, ◌≤◌, ◌<◌, ◌^◌, ℕ, length, take, IsTrue, IfSome, IfNone, IfOk, IfErr};
+ghost use Rattle.unit_text.specs.private.Borders.{AreBorders, EndsWithFront, IsLongestFront};
+ghost use Rattle.unit_text.specs.private.Search.{pattern_units};
 ghost use Rattle.unit_text.specs.Search.{FindsFirst, FindsFirstBelow, FindsLastBelow, IsFirstIndex, IsLastIndex, OccursAt};
 ghost use Rattle.wtf8.specs.UnitMark.{IsMarkOf};
 ghost use Rattle.wtf8.specs.UnitPosition.{DividesPair};
@@ -31,9 +33,29 @@ fn decode_part<'a>(view: Wtf8<'a>, block: &mut [u16]) -> (usize, Wtf8<'a>)
     (count, view.slice_from(position))
 }
 
+/// The code units that are searched for: `units`, and after them the `count` units of `after`.
+#[derive(Clone, Copy)]
+struct Pattern<'a> {
+    units: &'a [u16],
+    after: Wtf8<'a>,
+    count: usize,
+}
+
+fn pattern_of<'a>(units: &'a [u16]) -> Pattern<'a>
+    ensures units { pattern_units result ≡ units.now }
+    ensures slice { result.units.now ≡ units.now }
+    ensures count { result.count ≡ length (view_units result.after) }
+{
+    Pattern {
+        units,
+        after: Wtf8::from_str(""),
+        count: 0,
+    }
+}
+
 /// Whether the units of `front`, and after them those of `back`, begin with `units`.
 #[inline(always)]
-fn begins(front: &[u16], back: Wtf8<'_>, units: &[u16]) -> bool
+fn begins_with_units(front: &[u16], back: Wtf8<'_>, units: &[u16]) -> bool
     ensures { IsTrue result ↔ take (length units.now) (front.now ++ view_units back.entry) ≡ units.now }
 {
     let (first, rest) = units.split_at(front.len().min(units.len()));
@@ -41,68 +63,173 @@ fn begins(front: &[u16], back: Wtf8<'_>, units: &[u16]) -> bool
     own == first && back.starts_with_units(rest)
 }
 
-/// The first index of `block` at which its units, and after them those of `back`, begin with `units`.
-#[inline(always)]
-fn first_in_block(block: &[u16], back: Wtf8<'_>, units: &[u16]) -> Option<usize>
-    requires { 0 < length units.now }
-    ensures { FindsFirstBelow (block.now ++ view_units back.entry) units.now (length block.now) result }
+/// Whether the units of `front`, and after them those of `back`, begin with the pattern's, compared one by one.
+#[inline(never)]
+fn begins_one_by_one(front: &[u16], back: Wtf8<'_>, pattern: Pattern<'_>) -> bool
+    requires count { pattern.count ≡ length (view_units pattern.after) }
+    requires fits { length (pattern_units pattern) < 2 ^ 64 }
+    ensures { IsTrue result ↔ take (length (pattern_units pattern.entry)) (front.now ++ view_units back.entry) ≡ pattern_units pattern.entry }
 {
-    let first = units[0];
-    for index in 0..block.len() {
-        let (_, front) = block.split_at(index);
-        if block[index] == first && begins(front, back, units) {
-            return Some(index);
-        }
-    }
-    None
+    let own = front.iter().copied().chain(back.to_ill_formed_utf16());
+    let first = pattern.units.iter().copied();
+    let others = first.chain(pattern.after.to_ill_formed_utf16());
+    own.take(pattern.units.len() + pattern.count)
+        .cmp(others)
+        .is_eq()
 }
 
+/// Whether the units of `front`, and after them those of `back`, begin with the pattern's.
 #[inline(always)]
-fn first_by_parts<const N: usize>(view: Wtf8<'_>, units: &[u16]) -> Option<usize>
-    requires part { (4 ≤ N) × (N < 2 ^ 16) }
-    requires some { 0 < length units.now }
-    ensures { FindsFirst (view_units view.entry) units.now 0 result }
+fn begins(front: &[u16], back: Wtf8<'_>, pattern: Pattern<'_>) -> bool
+    requires count { pattern.count ≡ length (view_units pattern.after) }
+    requires fits { length (pattern_units pattern) < 2 ^ 64 }
+    ensures { IsTrue result ↔ take (length (pattern_units pattern.entry)) (front.now ++ view_units back.entry) ≡ pattern_units pattern.entry }
 {
+    begins_with_units(front, back, pattern.units)
+        && (pattern.count == 0 || begins_one_by_one(front, back, pattern))
+}
+
+/// The length of the longest front of `units` with which the first `matched` of them and then `unit` end. `borders` has
+/// the longest borders of shorter fronts.
+#[inline(always)]
+fn extended(units: &[u16], borders: &[u16], matched: usize, unit: u16) -> usize
+    requires within { matched < length units.now }
+    requires room { matched ≤ length borders.now }
+    requires known { AreBorders units.now borders.now matched }
+    ensures { IsLongestFront (take matched units.now ++ unit ∷ []) units.now result }
+{
+    let mut border = matched;
+    while units[border] != unit {
+        if border == 0 {
+            return 0;
+        }
+        border = usize::from(borders[border - 1]);
+    }
+    border + 1
+}
+
+/// The longest borders of the fronts of at most `N` units: what a search keeps of the units that it has compared.
+#[inline(always)]
+fn borders_of<const N: usize>(units: &[u16]) -> [u16; N]
+    requires part { N < 2 ^ 16 }
+    requires within { length units.now ≤ N }
+    ensures len { length result ≡ N }
+    ensures borders { AreBorders units.now result (length units.now) }
+{
+    let mut borders = [0; N];
+    for len in 1..units.len() {
+        let border = usize::from(borders[len - 1]);
+        borders[len] = extended(units, &borders, border, units[len]) as u16;
+    }
+    borders
+}
+
+/// Looks for `front` and after it `tail` in a part of a string and the string `back` after it. The first `matched` units
+/// of `front` are before the part. Returns the index in the part where `front` ends if `tail` follows, else the number of
+/// first units of `front` with which the part ends.
+#[inline(always)]
+fn end_in_part(part: &[u16], back: Wtf8<'_>, front: &[u16], borders: &[u16], matched: usize, tail: Pattern<'_>) -> Result<usize, usize>
+    requires matched { matched < length front.now }
+    requires room { length front.now ≤ length borders.now }
+    requires known { AreBorders front.now borders.now (length front.now) }
+    requires count { tail.count ≡ length (view_units tail.after) }
+    requires fits { length (pattern_units tail) < 2 ^ 64 }
+    ensures ok { IfOk result (λ end. (length front.now ≤ matched + end) × (end ≤ length part.now)
+        × IsFirstIndex ((take matched front.now ++ part.now) ++ view_units back.entry) (front.now ++ pattern_units tail.entry) 0 (matched + end - length front.now)) }
+    ensures err { IfErr result (λ left. (left < length front.now) × (left ≤ matched + length part.now)
+        × EndsWithFront (take matched front.now ++ part.now) front.now left
+        × ((k : ℕ) → k < matched + length part.now - left → ¬ (OccursAt ((take matched front.now ++ part.now) ++ view_units back.entry) (front.now ++ pattern_units tail.entry) k))) }
+{
+    let mut reached = matched;
+    for index in 0..part.len() {
+        reached = extended(front, borders, reached, part[index]);
+        if reached == front.len() {
+            let (_, later) = part.split_at(index + 1);
+            if begins(later, back, tail) {
+                return Ok(index + 1);
+            }
+            reached = usize::from(borders[reached - 1]);
+        }
+    }
+    Err(reached)
+}
+
+/// Linear in the length of the string, but for what `begins` compares where the first `N` units of the pattern occur.
+#[inline(always)]
+fn first_by_parts<const N: usize>(view: Wtf8<'_>, pattern: Pattern<'_>) -> Option<usize>
+    requires part { (4 ≤ N) × (N < 2 ^ 16) }
+    requires some { 0 < length pattern.units.now }
+    requires count { pattern.count ≡ length (view_units pattern.after) }
+    requires fits { length (pattern_units pattern) < 2 ^ 64 }
+    ensures { FindsFirst (view_units view.entry) (pattern_units pattern.entry) 0 result }
+{
+    let (front, units) = pattern.units.split_at(pattern.units.len().min(N));
+    let tail = Pattern {
+        units,
+        after: pattern.after,
+        count: pattern.count,
+    };
+    let borders: [u16; N] = borders_of(front);
     let mut block = [0; N];
     let mut rest = view;
-    let mut passed = 0;
+    let mut begin = 0;
+    let mut matched = 0;
     // The string has no more units than bytes.
-    while units.len() <= rest.len() {
+    while front.len() - matched <= rest.len() {
         let (count, after) = decode_part(rest, &mut block);
         prove!(view.len() <= usize::MAX);
-        if let Some(index) = first_in_block(&block[..count], after, units) {
-            return Some(passed + index);
+        match end_in_part(&block[..count], after, front, &borders, matched, tail) {
+            Ok(end) => return Some(begin + (matched + end - front.len())),
+            Err(left) => {
+                begin += matched + count - left;
+                matched = left;
+            }
         }
-        passed += count;
         rest = after;
     }
     None
 }
 
-/// The first index at which `units`, which are not empty, occur in those of a string. Linear in the length times the
-/// number of `units` at worst, if most parts of the string begin as they do; else linear in the length.
-pub(crate) fn first_index(view: Wtf8<'_>, units: &[u16]) -> Option<usize>
-    requires { 0 < length units.now }
-    ensures { FindsFirst (view_units view.entry) units.now 0 result }
+/// The first index at which the pattern occurs in a string.
+fn first_index(view: Wtf8<'_>, pattern: Pattern<'_>) -> Option<usize>
+    requires some { 0 < length pattern.units.now }
+    requires count { pattern.count ≡ length (view_units pattern.after) }
+    requires fits { length (pattern_units pattern) < 2 ^ 64 }
+    ensures { FindsFirst (view_units view.entry) (pattern_units pattern.entry) 0 result }
 {
     if view.len() <= SHORT_PART {
-        return first_by_parts::<SHORT_PART>(view, units);
+        return first_by_parts::<SHORT_PART>(view, pattern);
     }
-    first_by_parts::<PART>(view, units)
+    first_by_parts::<PART>(view, pattern)
 }
 
-/// The last index of `block` at which its units, and after them those of `back`, begin with `units`.
-#[inline(always)]
-fn last_in_block(block: &[u16], back: Wtf8<'_>, units: &[u16]) -> Option<usize>
-    requires { 0 < length units.now }
-    ensures { FindsLastBelow (block.now ++ view_units back.entry) units.now (length block.now) result }
+/// The first index at which the `count` units of `other`, which is not empty, occur in a string.
+fn first_of_string(view: Wtf8<'_>, other: Wtf8<'_>, count: usize) -> Option<usize>
+    requires some { 0 < length other.bytes.now }
+    requires count { count ≡ length (view_units other) }
+    ensures { FindsFirst (view_units view.entry) (view_units other.entry) 0 result }
 {
-    let first = units[0];
+    let mut block = [0; SHORT_PART];
+    let (first, after) = decode_part(other, &mut block);
+    let (units, _) = block.split_at(first);
+    let count = count - first;
+    first_index(view, Pattern { units, after, count })
+}
+
+/// The last index of `block` at which its units, and after them those of `back`, begin with the pattern's.
+#[inline(always)]
+fn last_in_block(block: &[u16], back: Wtf8<'_>, pattern: Pattern<'_>) -> Option<usize>
+    requires some { 0 < length pattern.units.now }
+    requires count { pattern.count ≡ length (view_units pattern.after) }
+    requires fits { length (pattern_units pattern) < 2 ^ 64 }
+    ensures { FindsLastBelow (block.now ++ view_units back.entry) (pattern_units pattern.entry) (length block.now) result }
+{
+    let first = pattern.units[0];
     let mut end = block.len();
     while 0 < end {
         let index = end - 1;
         let (_, front) = block.split_at(index);
-        if block[index] == first && begins(front, back, units) {
+        if block[index] == first && begins(front, back, pattern) {
             return Some(index);
         }
         end = index;
@@ -111,11 +238,13 @@ fn last_in_block(block: &[u16], back: Wtf8<'_>, units: &[u16]) -> Option<usize>
 }
 
 #[inline(always)]
-fn last_by_parts<const N: usize>(view: Wtf8<'_>, until: UnitMark, units: &[u16]) -> Option<usize>
+fn last_by_parts<const N: usize>(view: Wtf8<'_>, until: UnitMark, pattern: Pattern<'_>) -> Option<usize>
     requires part { (4 ≤ N) × (N < 2 ^ 16) }
     requires mark { IsMarkOf view until }
-    requires some { 0 < length units.now }
-    ensures { FindsLastBelow (view_units view.entry) units.now until.units result }
+    requires some { 0 < length pattern.units.now }
+    requires count { pattern.count ≡ length (view_units pattern.after) }
+    requires fits { length (pattern_units pattern) < 2 ^ 64 }
+    ensures { FindsLastBelow (view_units view.entry) (pattern_units pattern.entry) until.units result }
 {
     laws::law_marks();
     let mut block = [0; N];
@@ -126,7 +255,7 @@ fn last_by_parts<const N: usize>(view: Wtf8<'_>, until: UnitMark, units: &[u16])
         let front = view.slice_to(end.position);
         let count = front.slice_from_mark(begin).write_units(&mut block);
         let after = view.slice_from_mark(end);
-        if let Some(index) = last_in_block(&block[..count], after, units) {
+        if let Some(index) = last_in_block(&block[..count], after, pattern) {
             return Some(begin.units + index);
         }
         end = begin;
@@ -134,17 +263,32 @@ fn last_by_parts<const N: usize>(view: Wtf8<'_>, until: UnitMark, units: &[u16])
     None
 }
 
-/// The last index before the mark `end` at which `units`, which are not empty, occur in those of a string. As linear as
-/// `first_index`, in the units before the mark.
-pub(crate) fn last_index(view: Wtf8<'_>, end: UnitMark, units: &[u16]) -> Option<usize>
+/// The last index before the mark `end` at which the pattern occurs in a string.
+fn last_index(view: Wtf8<'_>, end: UnitMark, pattern: Pattern<'_>) -> Option<usize>
     requires mark { IsMarkOf view end }
-    requires some { 0 < length units.now }
-    ensures { FindsLastBelow (view_units view.entry) units.now end.units result }
+    requires some { 0 < length pattern.units.now }
+    requires count { pattern.count ≡ length (view_units pattern.after) }
+    requires fits { length (pattern_units pattern) < 2 ^ 64 }
+    ensures { FindsLastBelow (view_units view.entry) (pattern_units pattern.entry) end.units result }
 {
     if view.len() <= SHORT_PART {
-        return last_by_parts::<SHORT_PART>(view, end, units);
+        return last_by_parts::<SHORT_PART>(view, end, pattern);
     }
-    last_by_parts::<PART>(view, end, units)
+    last_by_parts::<PART>(view, end, pattern)
+}
+
+/// The last index before the mark `end` at which the `count` units of `other`, which is not empty, occur in a string.
+fn last_of_string(view: Wtf8<'_>, end: UnitMark, other: Wtf8<'_>, count: usize) -> Option<usize>
+    requires mark { IsMarkOf view end }
+    requires some { 0 < length other.bytes.now }
+    requires count { count ≡ length (view_units other) }
+    ensures { FindsLastBelow (view_units view.entry) (view_units other.entry) end.units result }
+{
+    let mut block = [0; SHORT_PART];
+    let (first, after) = decode_part(other, &mut block);
+    let (units, _) = block.split_at(first);
+    let count = count - first;
+    last_index(view, end, Pattern { units, after, count })
 }
 
 impl<A: Allocator> IndexedBuf<A> {
@@ -163,7 +307,7 @@ impl<A: Allocator> IndexedBuf<A> {
             return Some(from);
         }
         if let Some(rest) = self.units_from(from).as_wtf8() {
-            let index = first_index(rest, units)?;
+            let index = first_index(rest, pattern_of(units))?;
             return Some(from + index);
         }
         // The first unit is the trail of a pair, after which a code point begins.
@@ -179,22 +323,23 @@ impl<A: Allocator> IndexedBuf<A> {
         ensures some { IfSome result (λ k. IsFirstIndex self.now.units other.now.units from k) }
         ensures none { IfNone result ((k : ℕ) → from ≤ k → ¬ (OccursAt self.now.units other.now.units k)) }
     {
+        let last = self.unit_len().checked_sub(other.unit_len())?;
+        if last < from {
+            return None;
+        }
         let view = other.as_wtf8();
         if view.is_empty() {
-            return self.find_units(from, &[]);
+            return Some(from);
         }
-        let mut block = [0; SHORT_PART];
-        let (count, _) = decode_part(view, &mut block);
-        prove!(self.unit_len() <= usize::MAX);
-        let (head, _) = block.split_at(count);
-        let mut begin = from;
-        while let Some(index) = self.find_units(begin, head) {
-            if self.starts_with_at(index, other) {
-                return Some(index);
-            }
-            begin = index + 1;
+        if let Some(rest) = self.units_from(from).as_wtf8() {
+            let index = first_of_string(rest, view, other.unit_len())?;
+            return Some(from + index);
         }
-        None
+        // The first unit is the trail of a pair, after which a code point begins.
+        if self.starts_with_at(from, other) {
+            return Some(from);
+        }
+        self.find(from + 1, other)
     }
 
     /// The last index at or before `from` at which these code units occur, also inside a surrogate pair, or `None` if
@@ -216,7 +361,7 @@ impl<A: Allocator> IndexedBuf<A> {
         if mark.units < begin && self.starts_with_units_at(mark.units, units) {
             return Some(mark.units);
         }
-        last_index(marked.text.view, mark, units)
+        last_index(marked.text.view, mark, pattern_of(units))
     }
 
     /// The last index at or before `from` at which the code units of `other` occur, as `rfind_units` finds them. Units
@@ -225,24 +370,18 @@ impl<A: Allocator> IndexedBuf<A> {
         ensures some { IfSome result (λ k. IsLastIndex self.now.units other.now.units from k) }
         ensures none { IfNone result ((k : ℕ) → k ≤ from → ¬ (OccursAt self.now.units other.now.units k)) }
     {
-        let view = other.as_wtf8();
-        if view.is_empty() {
-            return self.rfind_units(from, &[]);
+        let last = self.unit_len().checked_sub(other.unit_len())?;
+        let begin = from.min(last);
+        if self.starts_with_at(begin, other) {
+            return Some(begin);
         }
-        let mut block = [0; SHORT_PART];
-        let (count, _) = decode_part(view, &mut block);
-        let (head, _) = block.split_at(count);
-        let mut begin = from;
-        while let Some(index) = self.rfind_units(begin, head) {
-            if self.starts_with_at(index, other) {
-                return Some(index);
-            }
-            if index == 0 {
-                return None;
-            }
-            begin = index - 1;
+        let marked = self.marked();
+        let mark = marked.mark_at(begin);
+        // If `begin` splits a pair, its lead is directly before.
+        if mark.units < begin && self.starts_with_at(mark.units, other) {
+            return Some(mark.units);
         }
-        None
+        last_of_string(marked.text.view, mark, other.as_wtf8(), other.unit_len())
     }
 
     /// Whether a cut before index `index` splits a surrogate pair: a lead is directly before it, and a trail at it.

@@ -1,62 +1,66 @@
-use Rattle.std.proofs.Common.{◌≡◌, ◌∙◌, ◌++◌, ap, arith, length, take, drop, length-append, length-drop, length-take-le}
+use Rattle.std.proofs.Common.{◌≡◌, ◌∙◌, ◌+◌, ◌-◌, ◌++◌, ap, sym, subst, arith, append_assoc, length, take, drop, length-append, length-take-le, take-append-drop}
 use Rattle.wtf8.specs.View.{view_units}
-use Rattle.unit_text.proofs.SearchLemmas.{first_in_whole, none_in_whole, rest_of_part}
-use Rattle.unit_text.proofs.search.first_by_parts.Goals.{After-decode_part-count}
+use Rattle.unit_text.specs.Search.{IsFirstIndex}
+use Rattle.unit_text.specs.private.Search.{pattern_units}
+use Rattle.unit_text.proofs.PartLemmas.{left_after}
+use Rattle.unit_text.proofs.SearchLemmas.{NoneBelow, first_in_whole, none_in_whole}
+use Rattle.unit_text.proofs.search.first_by_parts.Goals.{After-decode_part-count, After-split_at}
 use Rattle.unit_text.proofs.search.first_by_parts.Goals as goal
 
--- the part and the units after it are those that are left
-whole : (g : _) (c : After-decode_part-count g) → take c.decode_part-count.result.0 c.decode_part-count.new.block ++ view_units c.decode_part-count.result.1
-    ≡ drop c.loop-view.passed (view_units c.args.view)
-whole g c = c.decode_part-count.ensures.units ∙ c.loop-view.invariant.left
+-- the part, the units that were matched before it, and the units after it
+whole : (g : _) (c : After-decode_part-count g) → (take c.loop-matched.matched c.split_at.result.0.now
+    ++ take c.decode_part-count.result.0 c.decode_part-count.new.block) ++ view_units c.decode_part-count.result.1
+    ≡ drop c.loop-matched.begin (view_units c.args.view)
+whole g c =
+    let first = take c.loop-matched.matched c.split_at.result.0.now in
+    append_assoc first (take c.decode_part-count.result.0 c.decode_part-count.new.block) (view_units c.decode_part-count.result.1)
+    ∙ ap (λ t. first ++ t) c.decode_part-count.ensures.units ∙ c.loop-matched.invariant.left
 
-pub returns-in-Some : goal.returns-in-Some
-returns-in-Some g c =
-    let i = c.loop-view.invariant in
-    first_in_whole (view_units c.args.view) c.args.units.now c.loop-view.passed i.within c.in-Some.index
-    (rw (whole g (goal.at.returns-in-Some g c).After-decode_part-count) at c.in-Some.ensures.0) i.none
+-- the pattern, divided after its first units
+divided : (g : _) (c : After-split_at g) → c.split_at.result.0.now ++ (c.split_at.result.1.now ++ view_units c.args.pattern.after)
+    ≡ pattern_units c.args.pattern
+divided g c =
+    let units = c.args.pattern.units.now in
+    let n = c.min.result in
+    let after = view_units c.args.pattern.after in
+    sym (append_assoc c.split_at.result.0.now c.split_at.result.1.now after)
+    ∙ ap (λ t. t ++ after) (ap (λ t. t ++ c.split_at.result.1.now) c.split_at.ensures.front
+    ∙ ap (λ t. take n units ++ t) c.split_at.ensures.back ∙ take-append-drop n units)
 
-pub overflow_add-result : goal.overflow_add-result
-overflow_add-result g c =
+pub returns-in-Ok : goal.returns-in-Ok
+returns-in-Ok g c =
+    let i = c.loop-matched.invariant in
+    let n = c.loop-matched.matched + c.in-Ok.end - length c.split_at.result.0.now in
+    let pattern = pattern_units c.args.pattern in
+    let found = subst (λ p. IsFirstIndex (drop c.loop-matched.begin (view_units c.args.view)) p 0 n)
+    (divided g (goal.at.returns-in-Ok g c).After-split_at)
+    (rw (whole g (goal.at.returns-in-Ok g c).After-decode_part-count) at c.in-Ok.ensures.ok.2) in
+    first_in_whole (view_units c.args.view) pattern c.loop-matched.begin i.within n found i.none
+
+pub loop-matched-preserved : goal.loop-matched-preserved
+loop-matched-preserved g c =
     let part = c.decode_part-count in
+    let i = c.loop-matched.invariant in
     let u = view_units c.args.view in
-    let own = take part.result.0 part.new.block in
-    omega (
+    let front = c.split_at.result.0.now in
+    let seen = take c.loop-matched.matched front ++ take part.result.0 part.new.block in
+    let all = whole g (goal.at.loop-matched-preserved g c).After-decode_part-count in
+    let n = c.loop-matched.matched + part.result.0 in
+    let own = length-take-le part.result.0 part.new.block part.ensures.within in
+    let count : n ≡ length seen = omega (
       arith,
-      c.loop-view.invariant.within,
-      c.in-Some.ensures.1,
-      ap length (whole g (goal.at.overflow_add-result g c).After-decode_part-count),
-      length-append own (view_units part.result.1),
-      length-drop c.loop-view.passed u,
-      c.len.ensures.at_least_units,
-    )
-
-pub overflow_add-passed : goal.overflow_add-passed
-overflow_add-passed g c =
-    let part = c.decode_part-count in
-    let u = view_units c.args.view in
-    let own = take part.result.0 part.new.block in
-    omega (
-      arith,
-      c.loop-view.invariant.within,
-      ap length (whole g (goal.at.overflow_add-passed g c).After-decode_part-count),
-      length-append own (view_units part.result.1),
-      length-take-le part.result.0 part.new.block part.ensures.within,
-      length-drop c.loop-view.passed u,
-      c.len.ensures.at_least_units,
-    )
-
-pub loop-view-preserved : goal.loop-view-preserved
-loop-view-preserved g c =
-    let part = c.decode_part-count in
-    let i = c.loop-view.invariant in
-    let u = view_units c.args.view in
-    let own = take part.result.0 part.new.block in
-    let all = whole g (goal.at.loop-view-preserved g c).After-decode_part-count in
-    let count = length-take-le part.result.0 part.new.block part.ensures.within in
+      own,
+      length-append (take c.loop-matched.matched front) (take part.result.0 part.new.block),
+      length-take-le c.loop-matched.matched front (omega (arith, i.shorter)),
+    ) in
+    let left = left_after seen front (view_units part.result.1) u c.loop-matched.begin c.in-Err.left n count c.in-Err.ensures.err.2 all i.within in
+    let none : NoneBelow (drop c.loop-matched.begin u) (pattern_units c.args.pattern) (n - c.in-Err.left) =
+    subst (λ p. NoneBelow (drop c.loop-matched.begin u) p (n - c.in-Err.left)) (divided g (goal.at.loop-matched-preserved g c).After-split_at)
+    (λ k below. rw all at (c.in-Err.ensures.err.3 k (omega (arith, below, own)))) in
     record {
       block = omega (arith, part.auto.block, i.block);
-      within = omega (arith, i.within, ap length all, length-append own (view_units part.result.1), count, length-drop c.loop-view.passed u);
-      left = rest_of_part own (view_units part.result.1) u c.loop-view.passed part.result.0 all count;
-      none = none_in_whole u c.args.units.now c.loop-view.passed i.within part.result.0
-          (λ k below. rw all at (c.in_default.ensures k (omega (arith, below, count)))) i.none;
+      shorter = c.in-Err.ensures.err.0;
+      within = left.1;
+      left = left.0;
+      none = none_in_whole u (pattern_units c.args.pattern) c.loop-matched.begin i.within (n - c.in-Err.left) none i.none;
     }

@@ -1,5 +1,6 @@
 use Rattle.std.proofs.Common.{◌≡◌, ◌+◌, ◌∙◌, ◌++◌, ap, sym, subst, arith, length, take, drop, length-append, length-drop, length-take}
 use Rattle.wtf8.specs.View.{view_units, view_form}
+use Rattle.unit_text.specs.private.Search.{pattern_units}
 use Rattle.unit_text.proofs.SearchLemmas.{NoneBetween, from_first, last_in_whole, mark_in_reach, none_in_longer}
 use Rattle.unit_text.proofs.search.last_by_parts.Goals.{After-last_in_block}
 use Rattle.unit_text.proofs.search.last_by_parts.Goals as goal
@@ -71,9 +72,9 @@ returns-in-Some g c =
     let own = take c.write_units-count.result c.write_units-count.new.out in
     let until = c.args.until.units in
     let i = c.loop-end.invariant in
-    last_in_whole u c.args.units.now c.mark_back-begin.result.units (length own) until c.mark_back-begin.ensures.mark.units_within c.in-Some.index
+    last_in_whole u (pattern_units c.args.pattern) c.mark_back-begin.result.units (length own) until c.mark_back-begin.ensures.mark.units_within c.in-Some.index
     (rw (whole g after) at c.in-Some.ensures) (omega (arith, reached g after, i.order))
-    (subst (λ k. NoneBetween u c.args.units.now k until) (sym (reached g after)) i.none)
+    (subst (λ k. NoneBetween u (pattern_units c.args.pattern) k until) (sym (reached g after)) i.none)
 
 pub loop-end-preserved : goal.loop-end-preserved
 loop-end-preserved g c =
@@ -86,6 +87,6 @@ loop-end-preserved g c =
       block = omega (arith, c.write_units-count.ensures.len, i.block);
       mark = c.mark_back-begin.ensures.mark;
       order = omega (arith, reached g after, i.order);
-      none = none_in_longer u c.args.units.now c.mark_back-begin.result.units (length own) until c.mark_back-begin.ensures.mark.units_within
-          (rw (whole g after) at c.in_default.ensures) (subst (λ k. NoneBetween u c.args.units.now k until) (sym (reached g after)) i.none);
+      none = none_in_longer u (pattern_units c.args.pattern) c.mark_back-begin.result.units (length own) until c.mark_back-begin.ensures.mark.units_within
+          (rw (whole g after) at c.in_default.ensures) (subst (λ k. NoneBetween u (pattern_units c.args.pattern) k until) (sym (reached g after)) i.none);
     }

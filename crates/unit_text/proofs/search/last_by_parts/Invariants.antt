@@ -1,16 +1,17 @@
 use Rattle.std.proofs.Common.{◌≡◌, ◌≤◌, length}
 use Rattle.wtf8.specs.UnitMark.{IsMarkOf}
 use Rattle.wtf8.specs.View.{view_units}
+use Rattle.unit_text.specs.private.Search.{pattern_units}
 use Rattle.unit_text.proofs.SearchLemmas.{NoneBetween}
 use Rattle.unit_text.proofs.search.last_by_parts.Given as goal
 
--- `units` do not occur from the mark `end` on
+-- the pattern does not occur from the mark `end` on
 abbrev pub invariant-loop-end : goal.invariant-loop-end
 invariant-loop-end g l = record {
   block : length l.block ≡ g.row.N;
   mark : IsMarkOf l.view l.end;
   order : l.end.units ≤ l.fn.until.units;
-  none : NoneBetween (view_units l.view) l.units l.end.units l.fn.until.units;
+  none : NoneBetween (view_units l.view) (pattern_units l.pattern) l.end.units l.fn.until.units;
 }
 
 abbrev pub decreases-loop-end : goal.decreases-loop-end

@@ -3,7 +3,7 @@ use Rattle.std.proofs.lemmas.Bool.{false≢true}
 use Rattle.std.specs.Cmp.Lexicographic.{bytes_decides}
 use Rattle.wtf8.specs.View.{view_units}
 use Rattle.wtf8.proofs.lemmas.comparing.Parts.{begins_equal, begins_unequal}
-use Rattle.unit_text.proofs.search.begins.Goals as goal
+use Rattle.unit_text.proofs.search.begins_with_units.Goals as goal
 
 pub returns-then-eq : goal.returns-then-eq
 returns-then-eq c =
