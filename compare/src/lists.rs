@@ -18,7 +18,7 @@ use crate::script::Call;
 /// The name of a list, and the function that makes its scripts.
 pub type List = (&'static str, fn() -> Vec<Vec<Call>>);
 
-pub const LISTS: [List; 45] = [
+pub const LISTS: [List; 46] = [
     ("worked examples", worked::scripts),
     ("examples", examples::all),
     ("code points at edges", generate::edge_calls),
@@ -78,6 +78,7 @@ pub const LISTS: [List; 45] = [
         indexed::up_to_three_units,
     ),
     ("pushes of up to three units", indexed::divided),
+    ("units replaced everywhere", indexed::replacements),
     ("the indexed string about marks", indexed::about_marks),
 ];
 

@@ -110,6 +110,7 @@ pub enum Opcode {
     IntoBuf = 153,
     IndexedPushUnitSlice = 154,
     IndexedShrinkToFit = 155,
+    IndexedReplaceUnits = 156,
 }
 
 /// The first opcode of a call on texts. `javascript/text_calls.js` makes these calls.
@@ -181,7 +182,7 @@ pub const CALLS: [(Opcode, &[Kind]); 52] = [
 ];
 
 /// The calls on the indexed string with the kinds of their operands, in the order of the opcodes.
-pub const INDEXED_CALLS: [(Opcode, &[Kind]); 28] = [
+pub const INDEXED_CALLS: [(Opcode, &[Kind]); 29] = [
     (Opcode::IndexedNew, &[]),
     (Opcode::IndexedWithCapacity, &[Number]),
     (Opcode::IndexedFromUnits, &[Units]),
@@ -210,6 +211,7 @@ pub const INDEXED_CALLS: [(Opcode, &[Kind]); 28] = [
     (Opcode::IntoBuf, &[Register]),
     (Opcode::IndexedPushUnitSlice, &[Register, Number, Number]),
     (Opcode::IndexedShrinkToFit, &[]),
+    (Opcode::IndexedReplaceUnits, &[Number, Number, Units]),
 ];
 
 /// The number of calls, the first ones, among which the random scripts of the fixed list choose.

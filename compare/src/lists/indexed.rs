@@ -66,6 +66,16 @@ fn copied(begin: usize, end: usize, after: &[u16]) -> Call {
     Call::new(Opcode::CopyUnits, operands)
 }
 
+/// The units from one index to another, replaced by others.
+fn replaced(begin: usize, end: usize, units: &[u16]) -> Call {
+    let operands = vec![
+        Operand::Number(begin as u16),
+        Operand::Number(end as u16),
+        Operand::Units(units.to_vec()),
+    ];
+    Call::new(Opcode::IndexedReplaceUnits, operands)
+}
+
 fn units_from(index: usize, steps: &[Step]) -> Call {
     let operands = vec![
         Operand::Number(index as u16),
@@ -202,12 +212,65 @@ pub fn about_marks() -> Vec<Vec<Call>> {
     scripts
 }
 
-/// Some of `about_marks`, and texts whose units are counted, for the fixed list.
+/// Some of `about_marks`, texts whose units are counted, and some of `replacements`, for the fixed list.
 pub fn chosen() -> Vec<Vec<Call>> {
     let kinds = [KINDS[2], KINDS[4]].into_iter();
     let grown = kinds.map(|kind| grown_and_cut(kind, SPACING + 1, true));
     let cut = [true, false].map(cut_and_grown_by_letters);
-    grown.chain(counted()).chain(cut).collect()
+    let replaced = JOINING.map(replaced_everywhere);
+    let about_marks = [KINDS[2], KINDS[4]].map(replaced_about_marks);
+    let scripts = grown.chain(counted()).chain(cut);
+    scripts.chain(replaced).chain(about_marks).collect()
+}
+
+/// What is put in place of units: nothing, a letter, halves of pairs, and both in either order.
+const PUT: [&[u16]; 6] = [
+    &[],
+    &[0x61],
+    &[0xD83D],
+    &[0xDCA9],
+    &[0xDCA9, 0xD83D],
+    &[0xD83D, 0xDCA9],
+];
+
+/// Every list of up to three units, in which each part is replaced by each list of `PUT`, and long strings in which units
+/// about marks are.
+pub fn replacements() -> Vec<Vec<Call>> {
+    let lists = unit_lists(3);
+    let short = lists.iter().map(|units| replaced_everywhere(units));
+    short.chain(KINDS.map(replaced_about_marks)).collect()
+}
+
+fn replaced_everywhere(units: &[u16]) -> Vec<Call> {
+    let mut calls = vec![from_units(0, units)];
+    for begin in 0..=units.len() {
+        for end in begin..=units.len() + 1 {
+            for put in PUT {
+                calls.extend(on(0, &[Opcode::FromBuf]));
+                calls.push(replaced(begin, end, put));
+            }
+        }
+    }
+    calls.push(replaced(1, 0, &[]));
+    calls.extend(on(2, &[Opcode::IntoBuf, Opcode::IntoString]));
+    calls
+}
+
+/// A marked string of some hundred units of a kind, in which units before, at and after a mark are inserted, removed and
+/// replaced, read about each mark after each change.
+fn replaced_about_marks(kind: &[u16]) -> Vec<Call> {
+    let length = 2 * SPACING + 40;
+    let mut calls = string_in(0, &string_of(kind, length));
+    calls.extend(indexed(true));
+    for index in [1, SPACING - 1, SPACING, SPACING + 1, 2 * SPACING + 1] {
+        calls.push(replaced(index, index, &[0xDCA9, 0x61, 0xD83D]));
+        calls.extend(reads_about(SPACING));
+        calls.push(replaced(index, index + 1, &[]));
+        calls.push(replaced(index - 1, index + 2, &[0xE9]));
+        calls.extend(reads_about(2 * SPACING));
+    }
+    calls.extend(on(2, &[Opcode::IntoBuf, Opcode::IntoString]));
+    calls
 }
 
 /// Code points about U+10000, the first of two units, and of each encoded length.
@@ -358,7 +421,7 @@ pub fn random_script(random: &mut Random) -> Vec<Call> {
 fn random_calls(random: &mut Random, length: &mut usize) -> Vec<Call> {
     let index = index_about(random, *length);
     let register = random.below(4) as u8;
-    match random.below(33) {
+    match random.below(35) {
         0 => vec![call(Opcode::MarkUnits)],
         1 => vec![call(Opcode::IndexedClone)],
         2..=9 => appending(random, length),
@@ -381,6 +444,7 @@ fn random_calls(random: &mut Random, length: &mut usize) -> Vec<Call> {
         23..=25 => vec![number(Opcode::PositionAt, index)],
         26..=28 => vec![number(Opcode::UnitBefore, position_about(random, index))],
         29 => vec![call(Opcode::IndexedShrinkToFit)],
+        30 | 31 => vec![replacing(random, length, index)],
         _ => vec![number(Opcode::IndexedUnitAt, index)],
     }
 }
@@ -449,6 +513,20 @@ fn appending(random: &mut Random, length: &mut usize) -> Vec<Call> {
         _ => 1,
     };
     vec![call]
+}
+
+/// A call that inserts, removes or replaces units. Changes `length` as it does.
+fn replacing(random: &mut Random, length: &mut usize, index: usize) -> Call {
+    let end = match random.below(3) {
+        0 => index,
+        _ => end_after(random, index, *length),
+    };
+    let count = random.below(12) as usize;
+    let units = runs(random, count);
+    if index <= end && end <= *length {
+        *length = *length + index + units.len() - end;
+    }
+    replaced(index, end, &units)
 }
 
 /// A call that truncates the string, mostly not far from its end.
@@ -543,6 +621,8 @@ pub fn worked() -> Vec<Vec<Call>> {
             call(Opcode::IndexedShrinkToFit),
             number(Opcode::IndexedUnitAt, 2),
         ]),
+        after(vec![replaced(2, 2, &[0x62]), replaced(2, 3, &[])]),
+        after(vec![replaced(0, 3, &[0xD83D]), replaced(1, 2, &[])]),
         after(vec![copied(1, 2, &[0x62])]),
         after(vec![copied(1, 4, &[])]),
         after(vec![units_from(2, &[Step::Next, Step::SizeHint])]),

@@ -9,7 +9,7 @@ use crate::recorder::write_hash_input;
 use crate::stop::{Stop, done, indexed_made};
 use crate::tape::Tape;
 use crate::views::{write_all_units, write_made_text, write_slice, zeros_before_units};
-use std::alloc::Global;
+use std::alloc::{AllocError, Global};
 use std::mem;
 use unit_text::IndexedBuf;
 use wtf8::{Wtf8, Wtf8Buf};
@@ -41,6 +41,7 @@ impl Machine {
             ChangeIndexed::PushWtf8 => return self.push_to_indexed(tape),
             ChangeIndexed::PushUnitSlice => return self.push_slice_to_indexed(tape),
             ChangeIndexed::Cut(call) => return cut(&mut self.indexed, call, tape),
+            ChangeIndexed::ReplaceUnits => return replace(&mut self.indexed, tape),
             ChangeIndexed::Mark => self.indexed.mark_units(tape.alloc),
             ChangeIndexed::ShrinkToFit => self.indexed.shrink_to_fit(),
         }
@@ -226,6 +227,31 @@ fn truncate_units(string: &mut IndexedBuf<Global>, tape: &mut Tape<'_>) -> Resul
     }
     string.truncate_units(count);
     Ok(())
+}
+
+/// `insert_units`, `remove_units` or `replace_units`.
+fn replace(string: &mut IndexedBuf<Global>, tape: &mut Tape<'_>) -> Result<(), Stop> {
+    let (begin, end) = tape.reader.range();
+    let units = tape.reader.counted_units(tape.alloc);
+    if end < begin || string.unit_len() < end {
+        return Err(Stop::Refused);
+    }
+    done(replace_part(string, (begin, end), units.as_slice()))
+}
+
+/// The call that replaces the units from one index to another by others.
+fn replace_part(
+    string: &mut IndexedBuf<Global>,
+    (begin, end): (usize, usize),
+    units: &[u16],
+) -> Result<(), AllocError> {
+    if begin == end {
+        return string.insert_units(begin, units);
+    }
+    if units.is_empty() {
+        return string.remove_units(begin, end);
+    }
+    string.replace_units(begin, end, units)
 }
 
 /// `slice_units`: writes the slice, and appends it to a string.

@@ -318,6 +318,9 @@ pub enum ChangeIndexed {
     PushUnitSlice,
     /// A call that truncates the string.
     Cut(CutIndexed),
+    /// Two numbers, units: `replace_units` from one index to another by these units; `insert_units` if the numbers are
+    /// equal, else `remove_units` if there are no units.
+    ReplaceUnits,
     /// Makes the string keep marks from now on (`mark_units`).
     Mark,
     /// `shrink_to_fit`.
@@ -597,6 +600,7 @@ impl ChangeIndexed {
             143 => ChangeIndexed::Cut(CutIndexed::Clear),
             154 => ChangeIndexed::PushUnitSlice,
             155 => ChangeIndexed::ShrinkToFit,
+            156 => ChangeIndexed::ReplaceUnits,
             _ => return None,
         };
         Some(call)

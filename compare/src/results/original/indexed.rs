@@ -68,6 +68,7 @@ impl Machine {
                 self.cut_indexed(front);
             }
             Opcode::IndexedClear => self.cut_indexed(Some(Wtf8Buf::new())),
+            Opcode::IndexedReplaceUnits => self.replace_units(reader),
             Opcode::IndexedPushSlice => self.push_indexed_slice(reader),
             Opcode::IndexedUnitAt => {
                 let unit = self.indexed.to_ill_formed_utf16().nth(reader.number());
@@ -124,6 +125,18 @@ impl Machine {
             }
             None => self.line("refused"),
         }
+    }
+
+    /// Makes the string of all units anew, as the crate changes none in the middle.
+    fn replace_units(&mut self, reader: &mut Reader<'_>) {
+        let (begin, end) = (reader.number(), reader.number());
+        let units = reader.units();
+        let mut all = self.indexed_units();
+        if all.get(begin..end).is_none() {
+            return self.line("refused");
+        }
+        all.splice(begin..end, units);
+        self.put_indexed(Wtf8Buf::from_ill_formed_utf16(&all));
     }
 
     fn indexed_units(&self) -> Vec<u16> {
