@@ -50,8 +50,9 @@ RESULTS = [
         """
         set_units set_utf8 set_string reserve_bytes mark push_unit push_code_point push_units push_latin1 push_utf8
         push_utf8_part push_string push_slice position_at unit_at next_surrogate next_code_point previous_code_point
-        truncate_bytes truncate_units pop slice_units insert_units remove_units replace_units copy_code_points copy_units copy_slice copy_utf8 copy_lossy
-        compare_units compare_code_points compare_with_units find find_units rfind rfind_units
+        truncate_bytes truncate_units pop slice_units copy_code_points copy_units copy_slice copy_utf8 copy_lossy
+        compare_units compare_code_points compare_with_units find find_units rfind rfind_units insert_units remove_units
+        replace_units
         """,
     ),
 ]
