@@ -55,8 +55,8 @@ RESULTS = [
         push_units push_latin1 push_utf8 push_utf8_part push_utf8_lossy push_utf8_lossy_part push_string push_slice
         utf8_unit_len position_at unit_at next_surrogate next_code_point previous_code_point code_point_before
         truncate_bytes truncate_units pop slice_units insert_units remove_units replace_units copy_code_points
-        copy_units copy_slice copy_utf8 copy_lossy copy_latin1 compare_units compare_code_points
-        compare_with_units find find_units rfind rfind_units
+        copy_units copy_slice copy_utf8 copy_lossy copy_latin1 compare_units compare_code_points compare_with_units find
+        find_units rfind rfind_units
         """,
     ),
 ]

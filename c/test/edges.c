@@ -1741,6 +1741,89 @@ static void searches(void) {
     wtf8_free(&p.string);
 }
 
+/* Replaces units by the call that has the fewest arguments for it. */
+static wtf8_result edit(wtf8_string *string, size_t begin, size_t end, const uint16_t *units, size_t n) {
+    if (begin == end) return wtf8_insert_units(string, begin, units, n);
+    return n > 0 ? wtf8_replace_units(string, begin, end, units, n) : wtf8_remove_units(string, begin, end);
+}
+
+/* Units are replaced in strings of each length up to 70 from each index on, with pairs cut and joined at both ends: with
+ * memory, with each request refused and no spare capacity, and with each refused and room for just the new bytes. A call is
+ * refused just if its bytes do not fit, and then leaves the string. */
+static void edits(void) {
+    static const uint16_t kinds[] = {'a', 0xE9, 0x3042, 0xD83D, 0xDCA9, 0xDCA9}, both[] = {0xDC00, 'b', 0xD800};
+    static const uint16_t wide[40] = {0xDC00, 0x3042, 0xD83D, 0xDCA9, 0x3042, 0x3042, 0xE9};
+    static const size_t counts[] = {0, 1, 2, 3, 7, 33};
+    static const struct {
+        const uint16_t *units;
+        size_t n;
+    } lists[] = {{NULL, 0}, {both + 1, 1}, {both, 1}, {both + 2, 1}, {both, 3}, {wide, 40}};
+    enum { LISTS = sizeof lists / sizeof lists[0], COUNTS = sizeof counts / sizeof counts[0], SHORT = 70 };
+    static struct pair p, q;
+    state = 5;
+    for (size_t n = 0; n <= SHORT; n++) {
+        for (size_t i = 0; i < n; i++) p.units[i] = kinds[below(6)];
+        for (size_t part = 0; part < (n + 1) * COUNTS; part++) {
+            size_t begin = part / COUNTS, end = begin + counts[part % COUNTS];
+            for (size_t k = 0; end <= n && k < LISTS; k++) {
+                for (int way = 0; way < 3; way++) {
+                    p.n = n;
+                    must(wtf8_set_units(&p.string, p.units, n) == WTF8_OK, "a string to edit");
+                    memcpy(q.units, p.units, 2 * n);
+                    q.n = n;
+                    splice(&q, begin, end, lists[k].units, lists[k].n);
+                    size_t bytes = byte_len(&p), more = byte_len(&q);
+                    if (way > 0) wtf8_shrink(&p.string);
+                    if (way == 2 && bytes < more) must(wtf8_reserve_bytes(&p.string, more - bytes) == WTF8_OK, "room");
+                    if (begin % 2 == 1) wtf8_mark(&p.string);
+                    int fits = more <= wtf8_capacity(&p.string);
+                    must(way < 2 || fits, "room for an edit");
+                    if (way > 0) refuse_after = 0;
+                    wtf8_result code = edit(&p.string, begin, end, lists[k].units, lists[k].n);
+                    refuse_after = -1;
+                    must(code == (way == 0 || fits ? WTF8_OK : WTF8_NO_MEMORY), "an edit");
+                    must_have(&p.string, code == WTF8_OK ? q.units : p.units, code == WTF8_OK ? q.n : n, "edited units");
+                    must(wtf8_byte_len(&p.string) == (code == WTF8_OK ? more : bytes), "the length after an edit");
+                }
+            }
+        }
+        must(wtf8_set_units(&p.string, p.units, n) == WTF8_OK, "a string to edit");
+        must(wtf8_insert_units(&p.string, n + 1, both, 3) == WTF8_BAD_POSITION &&
+                 wtf8_remove_units(&p.string, n, n + 1) == WTF8_BAD_POSITION &&
+                 wtf8_replace_units(&p.string, 1, 0, both, 3) == WTF8_BAD_POSITION &&
+                 wtf8_remove_units(&p.string, SIZE_MAX, 0) == WTF8_BAD_POSITION,
+             "an edit past the end");
+        must_have(&p.string, p.units, n, "a string without an edit");
+    }
+    wtf8_free(&p.string);
+}
+
+/* A long string with marks, in which units are replaced about its marks. */
+static void marked_edits(void) {
+    static const uint16_t kinds[] = {'a', 0x3042, 0xD83D, 0xDCA9}, both[] = {0xDC00, 'b', 0xD800};
+    enum { LONG = 700 };
+    static struct pair p;
+    state = 6;
+    for (size_t at = 0; at <= LONG; at += 1 + below(9)) {
+        p.n = LONG;
+        for (size_t i = 0; i < LONG; i++) p.units[i] = kinds[below(4)];
+        must(wtf8_set_units(&p.string, p.units, LONG) == WTF8_OK, "a long string to edit");
+        wtf8_mark(&p.string);
+        for (size_t k = 0; k < 3; k++) {
+            size_t begin = at <= p.n ? at : p.n, end = begin + below(140);
+            if (end > p.n) end = p.n;
+            must(edit(&p.string, begin, end, both, k) == WTF8_OK, "an edit of a long string");
+            splice(&p, begin, end, both, k);
+            must_have(&p.string, p.units, p.n, "a long string that was edited");
+            for (size_t i = 0; i < p.n; i += 1 + below(40)) {
+                uint16_t unit = 7;
+                must(wtf8_unit_at(&p.string, i, &unit) == WTF8_OK && unit == p.units[i], "a unit after an edit");
+            }
+        }
+    }
+    wtf8_free(&p.string);
+}
+
 /* Functions with a context: what was used before them, and how often each was called. */
 struct counted {
     wtf8_memory used;
@@ -1847,6 +1930,8 @@ int main(void) {
     structs();
     texts_of_codes();
     searches();
+    edits();
+    marked_edits();
     memory_with_context();
     printf("edges: %ld requests, no difference\n", requests);
     return 0;

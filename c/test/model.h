@@ -6,6 +6,7 @@
 
 #include <stddef.h>
 #include <stdint.h>
+#include <string.h>
 
 enum { MOST = 800 };
 
@@ -105,6 +106,14 @@ static inline size_t encode(uint32_t c, uint8_t *to) {
     if (c < 0x10000) { to[0] = (uint8_t)(0xE0 | c >> 12); to[1] = (uint8_t)(0x80 | (c >> 6 & 63)); to[2] = (uint8_t)(0x80 | (c & 63)); return 3; }
     to[0] = (uint8_t)(0xF0 | c >> 18); to[1] = (uint8_t)(0x80 | (c >> 12 & 63)); to[2] = (uint8_t)(0x80 | (c >> 6 & 63)); to[3] = (uint8_t)(0x80 | (c & 63));
     return 4;
+}
+
+/* Replaces the units from `begin` to before `end` by others. */
+static inline void splice(struct pair *p, size_t begin, size_t end, const uint16_t *units, size_t n) {
+    memmove(p->units + begin + n, p->units + end, 2 * (p->n - end));
+    if (n > 0) memcpy(p->units + begin, units, 2 * n);
+    p->n += n;
+    p->n -= end - begin;
 }
 
 static inline size_t byte_len(const struct pair *p) {

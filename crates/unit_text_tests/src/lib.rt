@@ -6,6 +6,8 @@ mod calls;
 #[cfg(test)]
 mod conversions;
 #[cfg(test)]
+mod editing;
+#[cfg(test)]
 mod indexed;
 #[cfg(test)]
 mod indexed_memory;

@@ -1,5 +1,5 @@
 -- Bytes with others in their middle: the gap, and the form that is written there.
-use Rattle.wtf8.proofs.Common.{◌≡◌, ℕ, ◌+◌, ◌-◌, ◌≤◌, ◌∙◌, List, [], ◌++◌, length, take, drop, arith, ap, sym, subst, refl, append_assoc, append-nil}
+use Rattle.wtf8.proofs.Common.{◌≡◌, ℕ, ◌+◌, ◌≤◌, ◌∙◌, List, [], ◌++◌, length, take, drop, arith, ap, sym, subst, refl, append_assoc, append-nil}
 use Rattle.wtf8.proofs.Common.{take_at, drop_at, drop-drop, drop_all, length-take-le, length-append, IsForm, All, IsUnit, All-drop, take-append-drop}
 use Rattle.wtf8.proofs.Common.{◌*◌, units, bytes, form_of, IsWellFormed, MeetsAsPair}
 use Rattle.wtf8.proofs.Common.{Option, Some, None, IfSome, option_to_list, All-nil, All-cons, Result, Ok, Err, OnOk, OnErr, IsOk, UnitString}

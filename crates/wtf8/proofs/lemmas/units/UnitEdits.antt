@@ -1,5 +1,5 @@
 -- Cuts at a number of units, where other units may be put.
-use Rattle.wtf8.proofs.Common.{◌≡◌, ℕ, ◌+◌, ◌-◌, ◌≤◌, ◌∙◌, List, [], ◌∷◌, ◌++◌, length, take, drop, arith, ap, sym, subst, append_assoc, append-nil}
+use Rattle.wtf8.proofs.Common.{◌≡◌, ℕ, ◌+◌, ◌-◌, ◌≤◌, ◌∙◌, List, [], ◌∷◌, ◌++◌, length, arith, ap, sym, subst, append_assoc, append-nil}
 use Rattle.wtf8.proofs.Common.{length-append, bytes, encoding, units, IsClean, IsLead, IsTrail, form_of, IsWellFormed, inl, inr, IsForm, cases_lt, DividesPair}
 use Rattle.wtf8.specs.UnitMark.{IsMark, RoundsDownTo}
 use Rattle.wtf8.specs.private.Cuts.{CutsBefore, CutsAfter}

@@ -1,8 +1,14 @@
-use Rattle.std.proofs.Common.{◌≡◌, ◌≤◌, ◌-◌, ◌+◌, ◌/◌, ◌++◌, ◌∙◌, take, drop, sym, ap, subst, arith, length, length-append, length-drop, length-take-le, IfSome, ℕ, List}
-use Rattle.std.specs.Prelude.{vec_capacity}
-use Rattle.wtf8.specs.Editing.{spliced}
+use Rattle.std.proofs.Common.{◌≤◌, ◌++◌, drop, ap, arith, length}
 use Rattle.wtf8.specs.UnitString.{UnitString}
-use Rattle.wtf8.specs.View.{view_units}
-use Rattle.unit_text.specs.Marks.{AreKept, spacing}
-use Rattle.unit_text.proofs.EditLemmas.{AreKept-edited, length-spliced}
+use Rattle.unit_text.proofs.EditLemmas.{AreKept-edited}
 use Rattle.unit_text.proofs.indexed.IndexedBuf.replace_units.Goals as goal
+
+pub renew_after-requires : goal.renew_after-requires
+renew_after-requires g c =
+    let old = c.self.inside.text in
+    let new = c.replace_units_at.new.self in
+    let within : c.args.begin ≤ length old.units =
+    omega (arith, c.requires.order, c.requires.within, ap (λ (s : UnitString). length s.units) c.self.view_is) in
+    rw (c.new-text.ensures.bytes, c.new-text.ensures.units) (AreKept-edited c.law_marks.ensures.kept c.law_marks.ensures.cut old new
+    c.args.begin (c.args.units.now ++ drop c.args.end old.units) within c.in_ok-replace_units_at.ensures.ok c.self.inside.marks
+    c.self.invariant.1)

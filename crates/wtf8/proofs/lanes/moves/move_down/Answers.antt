@@ -1,4 +1,4 @@
-use Rattle.wtf8.proofs.Common.{◌≡◌, ◌+◌, ◌-◌, ◌≤◌, ◌∙◌, ◌++◌, [], ap, sym, subst, arith, length, length-drop, drop, take, drop-drop, refl, append-nil, take_all}
+use Rattle.wtf8.proofs.Common.{◌≡◌, ◌+◌, ◌-◌, ◌≤◌, ◌∙◌, ◌++◌, ap, sym, subst, arith, length, length-drop, drop, take, drop-drop, refl, append-nil, take_all}
 use Rattle.std.proofs.lemmas.Simd.{put_chunk_is, length-chunk}
 use Rattle.wtf8.proofs.lemmas.lanes.Moves.{MovedDown, moved_down, paste_is}
 use Rattle.wtf8.proofs.lanes.moves.move_down.Goals.{After-copy_within}

@@ -1,4 +1,4 @@
-use Rattle.wtf8.proofs.Common.{◌≡◌, ◌+◌, ◌-◌, ◌≤◌, ◌∙◌, ◌++◌, ap, sym, arith, length, length-drop, length-take-le, drop, take, drop-drop, refl, take-append-drop, append-nil, drop_all, take_all}
+use Rattle.wtf8.proofs.Common.{◌≡◌, ◌+◌, ◌-◌, ◌≤◌, ◌∙◌, ◌++◌, ap, sym, arith, length, length-drop, length-take-le, drop, take, drop-drop, refl, drop_all, take_all}
 use Rattle.std.proofs.lemmas.Simd.{put_chunk_is, length-chunk}
 use Rattle.wtf8.proofs.lemmas.lanes.Moves.{MovedUp, moved_up, paste_is}
 use Rattle.wtf8.proofs.lanes.moves.move_to_end.Goals.{After-copy_within}

@@ -1,4 +1,4 @@
-use Rattle.wtf8.proofs.Common.{◌≡◌, ◌+◌, ◌-◌, ◌*◌, ◌≤◌, ◌∙◌, ◌++◌, ap, sym, arith, rules, refl, length, length-append, length-drop, length-take-le, drop, take, ℕ, List, IsForm, false≢true}
+use Rattle.wtf8.proofs.Common.{◌≡◌, ◌+◌, ◌-◌, ◌≤◌, ◌∙◌, ◌++◌, ap, arith, rules, refl, length, length-append, length-drop, length-take-le, drop, take, ℕ, List, false≢true}
 use Rattle.std.proofs.lemmas.List.{with_items_is}
 use Rattle.wtf8.proofs.lemmas.strings.Editing.{encoded_bound, three_written}
 use Rattle.wtf8.proofs.lemmas.strings.PushedUnits.{are_units}

@@ -1,4 +1,4 @@
-use Rattle.wtf8.proofs.Common.{◌≡◌, ◌+◌, ◌-◌, ◌≤◌, ◌∙◌, ◌++◌, ap, sym, arith, length, length-take-le, length-drop, drop, take, refl, take_all, take_rest, rules, subst, IsForm, List, ℕ}
+use Rattle.wtf8.proofs.Common.{◌≡◌, ◌+◌, ◌-◌, ◌≤◌, ◌∙◌, ◌++◌, ap, sym, arith, length, length-take-le, length-drop, drop, take, take_all, take_rest, rules, subst, IsForm, List, ℕ}
 use Rattle.std.proofs.lemmas.Slice.{put_mid-paste}
 use borrow.Rule.Slice.PartMut.{put_mid}
 use Rattle.wtf8.specs.private.Cuts.{WritesForm}

@@ -1,4 +1,4 @@
-use Rattle.wtf8.proofs.Common.{◌≡◌, ◌∙◌, ◌++◌, ◌≤◌, ℕ, List, ap, sym, subst, arith, refl, rules, bytes, units, take, drop, option_to_list, IsForm, IsUnit, IsWellFormed, All, UnitString}
+use Rattle.wtf8.proofs.Common.{◌≡◌, ◌∙◌, ◌++◌, ℕ, List, ap, sym, arith, refl, bytes, take, drop, option_to_list, IsForm, IsUnit, All, UnitString}
 use Rattle.std.proofs.lemmas.List.Elements.{All-append}
 use Rattle.wtf8.specs.Editing.{spliced}
 use Rattle.wtf8.specs.private.EncodedBytes.{BecomesOrKeeps}

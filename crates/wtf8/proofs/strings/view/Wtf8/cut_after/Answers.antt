@@ -1,4 +1,4 @@
-use Rattle.wtf8.proofs.Common.{◌≡◌, ◌∙◌, ◌∷◌, ap, sym, arith, ℕ, List, length, length-drop, length-append, units, bytes, ◌+◌, ◌≤◌, IsWellFormed}
+use Rattle.wtf8.proofs.Common.{◌≡◌, ◌∙◌, ap, sym, arith, ℕ, List, length, length-drop, ◌+◌, ◌≤◌, IsWellFormed}
 use Rattle.wtf8.proofs.lemmas.strings.Positions.{cut_by, points_after}
 use Rattle.wtf8.proofs.lemmas.units.UnitCuts.{Divided, Undivided, trail_in_pair}
 use Rattle.wtf8.proofs.lemmas.units.UnitEdits.{cuts_after_none, cuts_after_pair, cuts_after_trail, divided_after_mark, undivided_at_mark}

@@ -1,1 +1,0 @@
-use Rattle.unit_text.proofs.marks.renew_after.Goals as goal
