@@ -228,17 +228,14 @@ fn first_after_decoding<const N: usize>(
     ensures { FindsFirst (view_units view.entry) (view_units other.entry) 0 result }
 {
     let mut block = [0; N];
-    let (first, after) = decode_part(other, &mut block);
-    let (units, _) = block.split_at(first);
-    let count = count - first;
-    first_index(
-        view,
-        Pattern {
-            units,
-            after,
-            count,
-        },
-    )
+    let (len, after) = decode_part(other, &mut block);
+    let (units, _) = block.split_at(len);
+    let pattern = Pattern {
+        units,
+        after,
+        count: count - len,
+    };
+    first_index(view, pattern)
 }
 
 /// The first index at which the `count` units of `other`, which is not empty, occur in a string.
@@ -334,18 +331,14 @@ fn last_after_decoding<const N: usize>(
     ensures { FindsLastBelow (view_units view.entry) (view_units other.entry) end.units result }
 {
     let mut block = [0; N];
-    let (first, after) = decode_part(other, &mut block);
-    let (units, _) = block.split_at(first);
-    let count = count - first;
-    last_index(
-        view,
-        end,
-        Pattern {
-            units,
-            after,
-            count,
-        },
-    )
+    let (len, after) = decode_part(other, &mut block);
+    let (units, _) = block.split_at(len);
+    let pattern = Pattern {
+        units,
+        after,
+        count: count - len,
+    };
+    last_index(view, end, pattern)
 }
 
 /// The last index before the mark `end` at which the `count` units of `other`, which is not empty, occur in a string.
@@ -366,8 +359,9 @@ fn last_of_string(view: Wtf8<'_>, end: UnitMark, other: Wtf8<'_>, count: usize) 
 
 impl<A: Allocator> IndexedBuf<A> {
     /// The first index at or after `from` at which these code units occur, also inside a surrogate pair, or `None` if
-    /// there is none. No units are found at `from`, but past the end nothing is. Does not allocate. Linear in the length
-    /// and the number of `units`; of more than 2,048 units the later ones are compared at each index at which these occur.
+    /// there is none. No units are found at `from`, but past the end nothing is. Does not allocate. Linear in the distance
+    /// to the index and the number of `units`; where the first 2,048 of more units occur, the others are compared until one
+    /// differs.
     pub fn find_units(&self, from: usize, units: &[u16]) -> Option<usize>
         ensures some { IfSome result (λ k. IsFirstIndex self.now.units units.now from k) }
         ensures none { IfNone result ((k : ℕ) → from ≤ k → ¬ (OccursAt self.now.units units.now k)) }
@@ -390,8 +384,8 @@ impl<A: Allocator> IndexedBuf<A> {
         self.find_units(from + 1, units)
     }
 
-    /// The first index at or after `from` at which the code units of `other` occur, as `find_units` finds them, but that
-    /// the first 2,048 bytes are the ones that count.
+    /// The first index at or after `from` at which the code units of `other` occur, as `find_units` finds them. Instead of
+    /// 2,048 units its first 2,048 bytes count.
     pub fn find<B: Allocator>(&self, from: usize, other: &IndexedBuf<B>) -> Option<usize>
         ensures some { IfSome result (λ k. IsFirstIndex self.now.units other.now.units from k) }
         ensures none { IfNone result ((k : ℕ) → from ≤ k → ¬ (OccursAt self.now.units other.now.units k)) }
