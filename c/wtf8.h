@@ -358,18 +358,18 @@ bool wtf8_starts_with_units(const wtf8_string *string, size_t index, const uint1
 
 /* Writes the first index at or after `from`, found by the marks, at which the units of `other` occur, also within a pair, to
  * `*index`. If `other` has no units they do at `from`, unless that is after the end. END leaves `*index`. Linear in the
- * distance to the index times the length of `other` at worst, in the distance alone if few parts begin as `other` does. Each
- * index at which only the first 64 bytes of `other` occur is found by the marks again. Codes: OK, END (they occur at no such
- * index). Since 0.2.0. */
+ * distance to the index and the length of `other`; where the first 2,048 bytes of a longer `other` occur, what follows them
+ * is compared, until it differs. Codes: OK, END (they occur at no such index). Since 0.2.0. */
 WTF8_CODE WTF8_WRITES(4)
 wtf8_result wtf8_find(const wtf8_string *string, size_t from, const wtf8_string *other, size_t *index);
 
-/* The same of `n` units, without a string of them. Since 0.2.0. */
+/* The same of `n` units, without a string of them; the first 2,048 units count as the bytes do there. Since 0.2.0. */
 WTF8_CODE WTF8_READS(3, 4) WTF8_WRITES(5)
 wtf8_result wtf8_find_units(const wtf8_string *string, size_t from, const uint16_t *units, size_t n, size_t *index);
 
 /* The last index at or before `from` at which the units of `other` occur; if `other` has none, `from` or the end, whichever
- * comes first. All else is as in wtf8_find, the distance from `from` or the end. Since 0.2.0. */
+ * comes first. All else is as in wtf8_find, but linear in the distance from `from` or the end times the length of `other` at
+ * worst, in the distance alone if few parts begin as `other` does. Since 0.2.0. */
 WTF8_CODE WTF8_WRITES(4)
 wtf8_result wtf8_rfind(const wtf8_string *string, size_t from, const wtf8_string *other, size_t *index);
 

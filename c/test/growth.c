@@ -6,7 +6,7 @@
 #include <string.h>
 #include <valgrind/callgrind.h>
 
-enum { UNITS = 100000, FEW = 12, POINTS = 3 * UNITS };
+enum { UNITS = 100000, FEW = 12, MANY = 99, POINTS = 3 * UNITS };
 
 static uint16_t units[UNITS], out[UNITS], other[FEW] = {'z', 'y', 'x', 'w'};
 static uint8_t text[POINTS], lossy[POINTS];
@@ -131,6 +131,18 @@ int main(int argc, char **argv) {
     must(answer == !is_marked, "whether it is Latin-1");
     COUNT(copy_latin1, (int)wtf8_copy_latin1(&same, lossy, POINTS, &len, NULL));
     COUNT_VOID(shrink, wtf8_shrink(&set));
+
+    /* Units that nearly occur everywhere, without marks. */
+    for (size_t i = 0; i < n; i++) out[i] = units[0];
+    wtf8_string alike = WTF8_EMPTY;
+    must(wtf8_set_units(&alike, out, n) == WTF8_OK, "units that are alike");
+    must(wtf8_set_units(&part, out, MANY) == WTF8_OK && wtf8_push_unit(&part, other[0]) == WTF8_OK, "many and another");
+    COUNT(find_at_worst, wtf8_find(&alike, 0, &part, &position));
+    must(answer == WTF8_END, "they do not occur");
+    out[MANY] = other[0];
+    COUNT(find_units_at_worst, wtf8_find_units(&alike, 0, out, MANY + 1, &position));
+    must(answer == WTF8_END, "they do not occur");
+    wtf8_free(&alike);
 
     /* Constant. */
     COUNT_VOID(clear, wtf8_clear(&same));

@@ -141,7 +141,7 @@ mark_in_reach u end size n m e some r = elim r [
   | inr one ↦ (omega (arith, e, one.0), omega (arith, e, one.0, some))
 ]
 
--- the units between two indexes, and those after the second
+-- the units between two indexes, and the units after the second
 pub from_first : (u : List ℕ) (p end : ℕ) → p ≤ end → end ≤ length u → drop p (take end u) ++ drop end u ≡ drop p u
 from_first u p end order within =
     sym (drop-append-le p (take end u) (drop end u) (omega (arith, order, within, length-take end u))) ∙ ap (drop p) (take-append-drop end u)

@@ -45,7 +45,7 @@ pub after_first : (r : Option ℕ) (s t : List ℕ) → 0 < length s → MatchOp
 after_first None s t n e = absurd (omega (arith, n, ap length e.0))
 after_first (Some x) s t n e = sym (ap (drop 1) e)
 
--- the units from index `b` on, at which `x` stands
+-- the units from index `b` on, of which `x` is the first
 pub drop_unit : (u : List ℕ) (b x : ℕ) → slice_get u b ≡ Some x → drop b u ≡ x ∷ drop (b + 1) u
 drop_unit u b x e =
     let next : suc b ≡ b + 1 = omega arith in

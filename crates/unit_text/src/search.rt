@@ -17,6 +17,9 @@ const PART: usize = 512;
 /// The same for shorter strings: fewer bytes to zero.
 const SHORT_PART: usize = 64;
 
+/// The same for searches for more units than `PART`, of which this number is kept with their borders.
+const LONG_PART: usize = 2048;
+
 /// Decodes the first code points of a string, at most a byte for each unit of `block`, to the front of that. Returns
 /// the number of their units and the rest of the string.
 #[inline(always)]
@@ -41,6 +44,7 @@ struct Pattern<'a> {
     count: usize,
 }
 
+/// The pattern of these units alone.
 fn pattern_of<'a>(units: &'a [u16]) -> Pattern<'a>
     ensures units { pattern_units result ≡ units.now }
     ensures slice { result.units.now ≡ units.now }
@@ -53,7 +57,7 @@ fn pattern_of<'a>(units: &'a [u16]) -> Pattern<'a>
     }
 }
 
-/// Whether the units of `front`, and after them those of `back`, begin with `units`.
+/// Whether the units of `front` and then of `back` begin with `units`.
 #[inline(always)]
 fn begins_with_units(front: &[u16], back: Wtf8<'_>, units: &[u16]) -> bool
     ensures { IsTrue result ↔ take (length units.now) (front.now ++ view_units back.entry) ≡ units.now }
@@ -63,7 +67,7 @@ fn begins_with_units(front: &[u16], back: Wtf8<'_>, units: &[u16]) -> bool
     own == first && back.starts_with_units(rest)
 }
 
-/// Whether the units of `front`, and after them those of `back`, begin with the pattern's, compared one by one.
+/// Whether the units of `front` and then of `back` begin with the pattern's, compared one by one.
 #[inline(never)]
 fn begins_one_by_one(front: &[u16], back: Wtf8<'_>, pattern: Pattern<'_>) -> bool
     requires count { pattern.count ≡ length (view_units pattern.after) }
@@ -78,7 +82,7 @@ fn begins_one_by_one(front: &[u16], back: Wtf8<'_>, pattern: Pattern<'_>) -> boo
         .is_eq()
 }
 
-/// Whether the units of `front`, and after them those of `back`, begin with the pattern's.
+/// Whether the units of `front` and then of `back` begin with the pattern's.
 #[inline(always)]
 fn begins(front: &[u16], back: Wtf8<'_>, pattern: Pattern<'_>) -> bool
     requires count { pattern.count ≡ length (view_units pattern.after) }
@@ -128,7 +132,14 @@ fn borders_of<const N: usize>(units: &[u16]) -> [u16; N]
 /// of `front` are before the part. Returns the index in the part where `front` ends if `tail` follows, else the number of
 /// first units of `front` with which the part ends.
 #[inline(always)]
-fn end_in_part(part: &[u16], back: Wtf8<'_>, front: &[u16], borders: &[u16], matched: usize, tail: Pattern<'_>) -> Result<usize, usize>
+fn end_in_part(
+    part: &[u16],
+    back: Wtf8<'_>,
+    front: &[u16],
+    borders: &[u16],
+    matched: usize,
+    tail: Pattern<'_>,
+) -> Result<usize, usize>
     requires matched { matched < length front.now }
     requires room { length front.now ≤ length borders.now }
     requires known { AreBorders front.now borders.now (length front.now) }
@@ -200,7 +211,31 @@ fn first_index(view: Wtf8<'_>, pattern: Pattern<'_>) -> Option<usize>
     if view.len() <= SHORT_PART {
         return first_by_parts::<SHORT_PART>(view, pattern);
     }
-    first_by_parts::<PART>(view, pattern)
+    if pattern.units.len() <= PART {
+        return first_by_parts::<PART>(view, pattern);
+    }
+    first_by_parts::<LONG_PART>(view, pattern)
+}
+
+fn first_after_decoding<const N: usize>(
+    view: Wtf8<'_>,
+    other: Wtf8<'_>,
+    count: usize,
+) -> Option<usize>
+    requires part { (4 ≤ N) × (N < 2 ^ 16) }
+    requires some { 0 < length other.bytes.now }
+    requires count { count ≡ length (view_units other) }
+    ensures { FindsFirst (view_units view.entry) (view_units other.entry) 0 result }
+{
+    let mut block = [0; N];
+    let (len, after) = decode_part(other, &mut block);
+    let (units, _) = block.split_at(len);
+    let pattern = Pattern {
+        units,
+        after,
+        count: count - len,
+    };
+    first_index(view, pattern)
 }
 
 /// The first index at which the `count` units of `other`, which is not empty, occur in a string.
@@ -209,14 +244,16 @@ fn first_of_string(view: Wtf8<'_>, other: Wtf8<'_>, count: usize) -> Option<usiz
     requires count { count ≡ length (view_units other) }
     ensures { FindsFirst (view_units view.entry) (view_units other.entry) 0 result }
 {
-    let mut block = [0; SHORT_PART];
-    let (first, after) = decode_part(other, &mut block);
-    let (units, _) = block.split_at(first);
-    let count = count - first;
-    first_index(view, Pattern { units, after, count })
+    if other.len() <= SHORT_PART {
+        return first_after_decoding::<SHORT_PART>(view, other, count);
+    }
+    if other.len() <= PART {
+        return first_after_decoding::<PART>(view, other, count);
+    }
+    first_after_decoding::<LONG_PART>(view, other, count)
 }
 
-/// The last index of `block` at which its units, and after them those of `back`, begin with the pattern's.
+/// The last index of `block` at which its units and then the units of `back` begin with the pattern's.
 #[inline(always)]
 fn last_in_block(block: &[u16], back: Wtf8<'_>, pattern: Pattern<'_>) -> Option<usize>
     requires some { 0 < length pattern.units.now }
@@ -238,7 +275,11 @@ fn last_in_block(block: &[u16], back: Wtf8<'_>, pattern: Pattern<'_>) -> Option<
 }
 
 #[inline(always)]
-fn last_by_parts<const N: usize>(view: Wtf8<'_>, until: UnitMark, pattern: Pattern<'_>) -> Option<usize>
+fn last_by_parts<const N: usize>(
+    view: Wtf8<'_>,
+    until: UnitMark,
+    pattern: Pattern<'_>,
+) -> Option<usize>
     requires part { (4 ≤ N) × (N < 2 ^ 16) }
     requires mark { IsMarkOf view until }
     requires some { 0 < length pattern.units.now }
@@ -277,6 +318,29 @@ fn last_index(view: Wtf8<'_>, end: UnitMark, pattern: Pattern<'_>) -> Option<usi
     last_by_parts::<PART>(view, end, pattern)
 }
 
+fn last_after_decoding<const N: usize>(
+    view: Wtf8<'_>,
+    end: UnitMark,
+    other: Wtf8<'_>,
+    count: usize,
+) -> Option<usize>
+    requires part { (4 ≤ N) × (N < 2 ^ 16) }
+    requires mark { IsMarkOf view end }
+    requires some { 0 < length other.bytes.now }
+    requires count { count ≡ length (view_units other) }
+    ensures { FindsLastBelow (view_units view.entry) (view_units other.entry) end.units result }
+{
+    let mut block = [0; N];
+    let (len, after) = decode_part(other, &mut block);
+    let (units, _) = block.split_at(len);
+    let pattern = Pattern {
+        units,
+        after,
+        count: count - len,
+    };
+    last_index(view, end, pattern)
+}
+
 /// The last index before the mark `end` at which the `count` units of `other`, which is not empty, occur in a string.
 fn last_of_string(view: Wtf8<'_>, end: UnitMark, other: Wtf8<'_>, count: usize) -> Option<usize>
     requires mark { IsMarkOf view end }
@@ -284,17 +348,20 @@ fn last_of_string(view: Wtf8<'_>, end: UnitMark, other: Wtf8<'_>, count: usize) 
     requires count { count ≡ length (view_units other) }
     ensures { FindsLastBelow (view_units view.entry) (view_units other.entry) end.units result }
 {
-    let mut block = [0; SHORT_PART];
-    let (first, after) = decode_part(other, &mut block);
-    let (units, _) = block.split_at(first);
-    let count = count - first;
-    last_index(view, end, Pattern { units, after, count })
+    if other.len() <= SHORT_PART {
+        return last_after_decoding::<SHORT_PART>(view, end, other, count);
+    }
+    if other.len() <= PART {
+        return last_after_decoding::<PART>(view, end, other, count);
+    }
+    last_after_decoding::<LONG_PART>(view, end, other, count)
 }
 
 impl<A: Allocator> IndexedBuf<A> {
     /// The first index at or after `from` at which these code units occur, also inside a surrogate pair, or `None` if
-    /// there is none. No units are found at `from`, but past the end nothing is. Does not allocate. Linear in the length
-    /// times the number of `units` at worst; linear in the length if the text rarely goes on as the units begin.
+    /// there is none. No units are found at `from`, but past the end nothing is. Does not allocate. Linear in the distance
+    /// to the index and the number of `units`; where the first 2,048 of more units occur, the others are compared until one
+    /// differs.
     pub fn find_units(&self, from: usize, units: &[u16]) -> Option<usize>
         ensures some { IfSome result (λ k. IsFirstIndex self.now.units units.now from k) }
         ensures none { IfNone result ((k : ℕ) → from ≤ k → ¬ (OccursAt self.now.units units.now k)) }
@@ -317,14 +384,13 @@ impl<A: Allocator> IndexedBuf<A> {
         self.find_units(from + 1, units)
     }
 
-    /// The first index at or after `from` at which the code units of `other` occur, as `find_units` finds them. Units
-    /// after the first 64 are compared as `starts_with_at` does.
+    /// The first index at or after `from` at which the code units of `other` occur, as `find_units` finds them. Instead of
+    /// 2,048 units its first 2,048 bytes count.
     pub fn find<B: Allocator>(&self, from: usize, other: &IndexedBuf<B>) -> Option<usize>
         ensures some { IfSome result (λ k. IsFirstIndex self.now.units other.now.units from k) }
         ensures none { IfNone result ((k : ℕ) → from ≤ k → ¬ (OccursAt self.now.units other.now.units k)) }
     {
-        let last = self.unit_len().checked_sub(other.unit_len())?;
-        if last < from {
+        if self.unit_len().checked_sub(other.unit_len())? < from {
             return None;
         }
         let view = other.as_wtf8();
@@ -364,14 +430,12 @@ impl<A: Allocator> IndexedBuf<A> {
         last_index(marked.text.view, mark, pattern_of(units))
     }
 
-    /// The last index at or before `from` at which the code units of `other` occur, as `rfind_units` finds them. Units
-    /// after the first 64 are compared as `starts_with_at` does.
+    /// The last index at or before `from` at which the code units of `other` occur, as `rfind_units` finds them.
     pub fn rfind<B: Allocator>(&self, from: usize, other: &IndexedBuf<B>) -> Option<usize>
         ensures some { IfSome result (λ k. IsLastIndex self.now.units other.now.units from k) }
         ensures none { IfNone result ((k : ℕ) → k ≤ from → ¬ (OccursAt self.now.units other.now.units k)) }
     {
-        let last = self.unit_len().checked_sub(other.unit_len())?;
-        let begin = from.min(last);
+        let begin = from.min(self.unit_len().checked_sub(other.unit_len())?);
         if self.starts_with_at(begin, other) {
             return Some(begin);
         }

@@ -22,6 +22,8 @@ mod marks;
 #[cfg(test)]
 mod memory;
 #[cfg(test)]
+mod periodic;
+#[cfg(test)]
 mod positions;
 #[cfg(test)]
 mod pushing;

@@ -380,7 +380,7 @@ fn are_all_found(alloc: Global, text: &[u16], n: usize) -> bool {
     true
 }
 
-/// Whether "b" is found after `n` units that repeat `kind`, and before as many.
+/// Whether "b" is found after `n` units that repeat `kind`, and before `n + 2` of them.
 fn is_found_between(alloc: Global, kind: &[u16; 6], n: usize) -> bool {
     let mut text = units_of(alloc, kind, n);
     let after = units_of(alloc, kind, n.saturating_add(2));

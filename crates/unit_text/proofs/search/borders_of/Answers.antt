@@ -1,4 +1,4 @@
-use Rattle.std.proofs.Common.{◌≡◌, ◌+◌, ◌-◌, ◌<◌, ◌≤◌, inl, inr, length, min, get_or, get_or-set_same, get_or-set_other, length-set, set, sym, ap, subst, ◌∙◌, arith, drop, take}
+use Rattle.std.proofs.Common.{◌+◌, ◌<◌, inl, inr, length, min, get_or, get_or-set_same, get_or-set_other, length-set, set, sym, subst, ◌∙◌, arith, drop, take}
 use Rattle.std.proofs.lemmas.Bool.{cases_eq}
 use Rattle.unit_text.specs.private.Borders.{IsLongestFront}
 use Rattle.unit_text.proofs.BorderLemmas.{border_known, border_shorter, next_border}

@@ -1,7 +1,6 @@
-use Rattle.std.proofs.Common.{◌≡◌, ◌∙◌, get_or, ◌+◌, ◌-◌, ◌<◌, ◌≤◌, ◌++◌, ℕ, List, ap, sym, subst, arith, length, length-take-le, take, drop}
+use Rattle.std.proofs.Common.{◌≡◌, ◌∙◌, get_or, ◌+◌, ◌-◌, ◌<◌, ◌≤◌, ◌++◌, ap, sym, subst, arith, length, length-take-le, take, drop}
 use Rattle.std.proofs.lemmas.Bool.{false≢true}
 use Rattle.wtf8.specs.View.{view_units}
-use Rattle.unit_text.specs.private.Borders.{IsLongestFront}
 use Rattle.unit_text.specs.private.Search.{pattern_units}
 use Rattle.unit_text.proofs.BorderLemmas.{border_known, border_shorter}
 use Rattle.unit_text.proofs.PartLemmas.{IsReached, found_in_part, none_in_part, not_followed, reached_after, reached_first, reached_len}

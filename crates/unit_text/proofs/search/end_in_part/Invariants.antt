@@ -1,4 +1,4 @@
-use Rattle.std.proofs.Common.{◌≤◌, ◌<◌, ◌++◌, length, take, drop}
+use Rattle.std.proofs.Common.{◌<◌, ◌++◌, length, take, drop}
 use Rattle.wtf8.specs.View.{view_units}
 use Rattle.unit_text.specs.private.Search.{pattern_units}
 use Rattle.unit_text.proofs.PartLemmas.{IsReached}

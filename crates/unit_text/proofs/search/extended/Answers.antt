@@ -1,5 +1,4 @@
-use Rattle.std.proofs.Common.{◌≡◌, ◌≢◌, ◌+◌, ◌-◌, ◌<◌, ◌≤◌, get_or, length, length-take-le, take, subst, arith}
-use Rattle.unit_text.specs.private.Borders.{IsLongestFront}
+use Rattle.std.proofs.Common.{◌≢◌, ◌<◌, get_or, length-take-le, take, subst, arith}
 use Rattle.unit_text.proofs.BorderLemmas.{IsCandidate, all_is_candidate, border_known, border_shorter, front_len, longest_more, longest_none, next_candidate}
 use Rattle.unit_text.proofs.search.extended.Goals as goal
 

@@ -4,7 +4,7 @@ use Rattle.unit_text.specs.private.Search.{pattern_units}
 use Rattle.unit_text.proofs.SearchLemmas.{NoneBelow}
 use Rattle.unit_text.proofs.search.first_by_parts.Given as goal
 
--- from index `begin` on the units are the first `matched` of `front` and those of `rest`, and nothing is found before
+-- from index `begin` on the units are the first `matched` of `front` and then the units of `rest`; none is found before
 abbrev pub invariant-loop-matched : goal.invariant-loop-matched
 invariant-loop-matched g l = record {
   block : length l.block ≡ g.row.N;

@@ -33,7 +33,7 @@ write_units-count-requires g c =
       c.loop-end.invariant.block,
     )
 
--- the block and the units after it are those from the mark `begin` on
+-- the block and the units after it are the units from the mark `begin` on
 whole : (g : _) (c : After-last_in_block g) → take c.write_units-count.result c.write_units-count.new.out ++ view_units c.slice_from_mark-after.result
     ≡ drop c.mark_back-begin.result.units (view_units c.args.view)
 whole g c =

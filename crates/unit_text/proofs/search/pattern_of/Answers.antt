@@ -1,4 +1,4 @@
-use Rattle.std.proofs.Common.{◌≡◌, ◌++◌, ◌∙◌, ap, sym, arith, length, append-nil}
+use Rattle.std.proofs.Common.{◌++◌, ◌∙◌, ap, sym, arith, length, append-nil}
 use Rattle.std.proofs.lemmas.List.{nil_from_length}
 use Rattle.wtf8.proofs.lemmas.codec.Readings.{lists_have_lengths}
 use Rattle.wtf8.specs.View.{view_units}
