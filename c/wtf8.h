@@ -344,7 +344,7 @@ WTF8_READS(2, 3)
 int32_t wtf8_compare_with_units(const wtf8_string *string, const uint16_t *units, size_t n);
 
 /* Whether `n` bytes are UTF-8, and the text is that of the string, without a string of it. Constant if `n` is another length
- * than the string's in bytes. */
+ * than the string's in bytes, else linear in what the two begin with alike. */
 WTF8_READS(2, 3)
 bool wtf8_equal_utf8(const wtf8_string *string, const uint8_t *text, size_t n);
 

@@ -3,12 +3,10 @@ ghost use Rattle.std.specs.Prelude.{◌≡◌, ◌⊎◌, ◌↔◌, [], IsTrue,
 ghost use Rattle.std.specs.Str.{chars, IsUtf8};
 ghost use Rattle.wtf8.specs.Order.{Before};
 ghost use Rattle.wtf8.specs.Unicode.{units};
-ghost use Rattle.wtf8.specs.View.{view_units};
 ghost use Rattle.wtf8_c.specs.Kept.{IsKept};
 
 use crate::codes::{AFTER, BEFORE, SAME, code_of_order};
 use crate::handle::Wtf8String;
-use wtf8::{Wtf8, from_utf8};
 
 /// Whether the units of the string are these.
 #[unsafe(no_mangle)]
@@ -25,7 +23,7 @@ pub extern "C" fn wtf8_equal_utf8(string: &mut Wtf8String, text: &[u8]) -> bool
     ensures equal { IsTrue result ↔ (IsUtf8 text.now × (string.old.buf.units ≡ units (chars text.now))) }
     ensures kept { IsKept string.old string.new }
 {
-    is_text(string.buffer().as_wtf8(), text)
+    string.buffer().as_wtf8().eq_utf8(text)
 }
 
 /// Compares the units of the string with these.
@@ -66,17 +64,4 @@ pub extern "C" fn wtf8_starts_with_units(
     ensures kept { IsKept string.old string.new }
 {
     string.buffer().starts_with_units_at(index, units)
-}
-
-/// Whether the bytes are UTF-8, and the text is that of the view.
-fn is_text(own: Wtf8<'_>, text: &[u8]) -> bool
-    ensures { IsTrue result ↔ (IsUtf8 text.now × (view_units own.entry ≡ units (chars text.now))) }
-{
-    if own.len() != text.len() {
-        return false;
-    }
-    match from_utf8(text) {
-        Ok(text) => own == Wtf8::from_str(text),
-        Err(_) => false,
-    }
 }

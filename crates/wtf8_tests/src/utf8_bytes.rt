@@ -109,6 +109,18 @@ fn is_text_twice(text: Wtf8<'_>) -> bool {
     }
 }
 
+/// Whether a view of the text is equal to it, and not to its front.
+fn equals_itself(view: Wtf8<'_>) -> bool {
+    let text = TEXT.as_bytes();
+    view.eq_utf8(text) && !view.eq_utf8(&text[..text.len().saturating_sub(1)])
+}
+
+/// Whether a string of a lone surrogate is equal to its bytes: they are no text.
+fn equals_surrogate(alloc: Global) -> bool {
+    let mut text = Wtf8Buf::new(alloc);
+    text.push_unit(0xD83D).is_ok() && text.as_wtf8().eq_utf8(b"\xED\xA0\xBD")
+}
+
 /// Whether a string of the text, followed by it once more, is the text twice.
 fn is_made_and_pushed(alloc: Global) -> bool {
     let Ok(mut text) = Wtf8Buf::from_utf8(alloc, TEXT.as_bytes()) else {
@@ -121,6 +133,8 @@ fn is_made_and_pushed(alloc: Global) -> bool {
 fn bytes_of_utf8_are_taken_and_others_told(rt: HostRuntime) -> Result<(), Failed> {
     let alloc = rt.alloc();
     expect(is_made_and_pushed(alloc), Wrong::Bytes)?;
+    expect(equals_itself(Wtf8::from_str(TEXT)), Wrong::Outcome)?;
+    expect(!equals_surrogate(alloc), Wrong::Outcome)?;
     let mut index = 0usize;
     for row in &NO_TEXTS {
         in_row(index, expect_told(alloc, row))?;

@@ -1,10 +1,14 @@
-// Strings compared with code units that are in no string: the string's units are decoded on the stack, part by part.
+// Strings compared with code units or a text that are in no string: of units the string's are decoded on the stack, part by
+// part.
 ghost use Rattle.std.specs.Cmp.Lexicographic.{slice_cmp};
 ghost use Rattle.std.specs.Ordering.{MatchOrdering, nat_cmp};
 ghost use Rattle.std.specs.Prelude.{◌≡◌, ◌↔◌, ◌++◌, ◌+◌, ◌^◌, ◌<◌, ◌≤◌, length, take, IsTrue};
+ghost use Rattle.std.specs.Str.{chars, IsUtf8};
 ghost use Rattle.wtf8.specs.Order.{Before};
+ghost use Rattle.wtf8.specs.Unicode.{units};
 ghost use Rattle.wtf8.specs.View.{view_units};
 
+use crate::lanes::memcmp;
 use crate::strings::view::Wtf8;
 use crate::units::unit_ends::POSITIONS;
 use crate::units::writing::decode_all;
@@ -108,6 +112,17 @@ impl<'a> Wtf8<'a> {
             return starts_by_parts::<SHORT_PART>(*self, units);
         }
         starts_by_parts::<PART>(*self, units)
+    }
+
+    /// Whether the bytes are UTF-8, and the text is that of the string. A surrogate is looked for only if the bytes are
+    /// equal. Does not allocate. Linear in the equal front, and constant if the lengths in bytes differ.
+    pub fn eq_utf8(&self, text: &[u8]) -> bool
+        ensures { IsTrue result ↔ (IsUtf8 text.now × (view_units self.now ≡ units (chars text.now))) }
+    {
+        if !memcmp::eq(self.bytes, text) {
+            return false;
+        }
+        self.as_str().is_some()
     }
 
     /// Whether the code units of the string are these. Does not allocate. Linear in the equal front.
