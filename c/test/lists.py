@@ -42,7 +42,7 @@ TEXTS = [
 def wrong_results():
     """The calls of the header whose result has another type in the module."""
     found = re.findall(r"^(?:WTF8_CODE )?(\w+|const char \*) ?(wtf8_\w+)\(", HEADER.read_text(), re.M)
-    if len(found) < 67:
+    if len(found) < 66:
         return [f"only {len(found)} calls in the header"]
     return [name for of, name in found if getattr(lib, name).restype is not TYPES[of]]
 

@@ -4,6 +4,7 @@ use Rattle.std.proofs.Common.{length-append, length-drop, take-add}
 use Rattle.std.proofs.lemmas.List.{drop-drop, drop_at, get_or-drop, get_or_append_left, take-append-le, take_all, take_at}
 use Rattle.std.proofs.lemmas.List.Elements.{All-append, All-from_get_or, All-get_or, All-head, All-tail}
 use Rattle.std.proofs.lemmas.Simd.{Each1-from_get_or, Each1-get_or}
+use Rattle.std.specs.List.{All}
 use Rattle.wtf8.specs.Form.{IsClean, IsForm, bytes}
 use Rattle.wtf8.specs.Unicode.{units}
 use Rattle.wtf8.proofs.lemmas.codec.Readings.{same_form, units-cons_one}
@@ -19,13 +20,16 @@ clean-latin1 (p ∷ q ∷ u) a =
     let low = All-head (λ n. n ≤ 0xFF) p (q ∷ u) a in
     (omega (arith, low), λ s. omega (arith, low, s.0), clean-latin1 (q ∷ u) (All-tail (λ n. n ≤ 0xFF) p (q ∷ u) a))
 
-units-latin1 : (u : List ℕ) → AreLatin1 u → units u ≡ u
-units-latin1 [] a = refl
-units-latin1 (p ∷ u) a =
-    units-cons_one p u (omega (arith, All-head (λ n. n ≤ 0xFF) p u a)) ∙ ap (λ v. p ∷ v) (units-latin1 u (All-tail (λ n. n ≤ 0xFF) p u a))
+-- code points below 10000 are their units
+pub units-low : (u : List ℕ) → All (λ p. p < 0x10000) u → units u ≡ u
+units-low [] a = refl
+units-low (p ∷ u) a =
+    units-cons_one p u (All-head (λ p. p < 0x10000) p u a) ∙ ap (λ v. p ∷ v) (units-low u (All-tail (λ p. p < 0x10000) p u a))
 
 pub form_of_latin1 : (u : List ℕ) → AreLatin1 u → IsForm (bytes u) u
-form_of_latin1 u a = record { points = u; reads = record { clean = clean-latin1 u a; same_units = units-latin1 u a }; encoded = refl }
+form_of_latin1 u a =
+    let low = All-from_get_or (λ p. p < 0x10000) u 0 (λ i l. omega (arith, All-get_or (λ n. n ≤ 0xFF) u i 0 l a)) in
+    record { points = u; reads = record { clean = clean-latin1 u a; same_units = units-low u low }; encoded = refl }
 
 -- a string that has one byte for each unit is ASCII
 pub ascii_by_length : {w u : List ℕ} → IsForm w u → length w ≡ length u → AreAscii u

@@ -13,7 +13,7 @@ use Rattle.wtf8.proofs.lemmas.codec.Encoding.{length-encoding_bounds, bytes-appe
 use Rattle.wtf8.proofs.lemmas.codec.Readings.{clean-front, lists_have_lengths, nil_from_bytes, reads_same, units-pushed}
 use Rattle.wtf8.proofs.lemmas.strings.Positions.{shorter_is_prefix, back_reads}
 use Rattle.wtf8.proofs.lemmas.units.UnitMarks.{boundary_is_mark}
-use Rattle.wtf8_c.specs.Walks.{IsPointBetween, ArePointsBetween, EndsWithPoint}
+use Rattle.wtf8_c.specs.Walks.{IsPointBetween, ArePointsBetween}
 
 -- the first code point of those after a boundary
 pub first_after : {u v : List ℕ} {k : ℕ} (b : IsBack u k v) (p : ℕ) (rest : List ℕ) → b.back ≡ p ∷ rest
@@ -96,12 +96,6 @@ last_of {w} {u} {begin} {p} f q =
       q.ends.front_len,
     ) in
     whole ∙ ap (λ c. pushed ++ c) (nil_from_bytes q.back count) ∙ append-nil pushed
-
--- the reading of a string ends with the code point before its end
-pub ends_with : {w u : List ℕ} {begin len p : ℕ} → IsForm w u → IsPointBetween u begin len p → len ≡ length w → EndsWithPoint u p
-ends_with {w} {u} {begin} {len} {p} f q e =
-    let at_end = subst (λ k. IsPointBetween u begin k p) e q in
-    record { front = at_end.front; reads = subst (λ c. Reads c u) (last_of f at_end) f.reads }
 
 -- the units before the last code point
 pub record IsBeforeLast (u : List ℕ) (p n : ℕ) (c : List ℕ) : Type 0 where

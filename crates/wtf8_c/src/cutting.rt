@@ -1,8 +1,8 @@
 // Calls that shorten a string, and that copy or append a part of one.
-ghost use Rattle.std.specs.Prelude.{◌≡◌, [], ◌∷◌, ◌++◌, ◌⊎◌, ◌<◌, ◌≤◌, ◌↔◌, IsTrue, IsSome, IsOk, OnOk, OnErr, length, take, drop};
+ghost use Rattle.std.specs.Prelude.{◌≡◌, [], ◌∷◌, ◌++◌, ◌⊎◌, ◌<◌, ◌≤◌, ◌↔◌, IsTrue, IsOk, OnOk, OnErr, length, take, drop};
 ghost use Rattle.wtf8.specs.Appending.{AppendsUnits, KeepsContents, HasRoomFor, FitWithin};
 ghost use Rattle.wtf8.specs.Position.{IsBoundary, IsFront};
-ghost use Rattle.wtf8.specs.UnitPosition.{DividesPair, units_of_slice};
+ghost use Rattle.wtf8.specs.UnitPosition.{units_of_slice};
 ghost use Rattle.wtf8_c.specs.Halves.{AreHalves};
 ghost use Rattle.wtf8_c.specs.Kept.{IsKept};
 
@@ -171,12 +171,11 @@ pub extern "C" fn wtf8_push_slice(
 }
 
 /// The part of the buffer's string from unit `begin` to before unit `end`.
-pub(crate) fn slice_of(buf: &IndexedBuf<Global>, begin: usize, end: usize) -> UnitSlice<'_>
+fn slice_of(buf: &IndexedBuf<Global>, begin: usize, end: usize) -> UnitSlice<'_>
     requires order { begin ≤ end }
     requires within { end ≤ length buf.now.units }
     ensures units { units_of_slice result ≡ drop begin (take end buf.now.units) }
     ensures halves { AreHalves result }
-    ensures trail { begin < end → (IsSome result.trail ↔ DividesPair buf.now.units begin) }
 {
     buf.slice_units(begin, end)
 }

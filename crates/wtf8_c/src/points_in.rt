@@ -1,5 +1,5 @@
 // Arrays of code points, which are appended.
-ghost use Rattle.std.specs.Prelude.{◌≡◌, ◌*◌, ◌≤◌, ◌⊎◌, ◌↔◌, length, take, IsTrue, IsOk, OnOk, OnErr};
+ghost use Rattle.std.specs.Prelude.{◌≡◌, ◌*◌, ◌<◌, ◌≤◌, ◌⊎◌, ◌↔◌, length, take, IsFalse, IsTrue, IsOk, OnOk, OnErr};
 ghost use Rattle.std.specs.List.{All};
 ghost use Rattle.wtf8.specs.Appending.{AppendsUnits, KeepsContents, HasRoomFor};
 ghost use Rattle.wtf8.specs.Unicode.{IsCodePoint, units};
@@ -12,7 +12,7 @@ use unit_text::IndexedBuf;
 /// The number of code points that are made units at a time, on the stack.
 const CHUNK: usize = 128;
 
-/// The most units of as many code points.
+/// The most units that these have.
 const CHUNK_UNITS: usize = 2 * CHUNK;
 
 /// Appends code points, surrogates too, if none is greater than 10FFFF.
@@ -32,16 +32,15 @@ pub extern "C" fn wtf8_push_code_points(string: &mut Wtf8String, points: &[u32])
     code_of(push_points(string.buffer(), points))
 }
 
-/// Whether each number is a code point.
+/// Whether each number is a code point. All are looked at, several at a time.
 fn are_code_points(points: &[u32]) -> bool
     ensures { IsTrue result ↔ All IsCodePoint points.now }
 {
+    let mut are = true;
     for at in 0..points.len() {
-        if 0x10FFFF < points[at] {
-            return false;
-        }
+        are = are & (points[at] <= 0x10FFFF);
     }
-    true
+    are
 }
 
 /// Appends code points. If memory is refused, the string is unchanged.
@@ -81,6 +80,42 @@ fn push_chunk(buf: &mut IndexedBuf<Global>, points: &[u32]) -> Result<(), AllocE
 
 /// Writes the units of code points at the front of an array, and returns their number.
 fn write_units_of(points: &[u32], block: &mut [u16; CHUNK_UNITS]) -> usize
+    requires short { length points.now ≤ CHUNK }
+    requires points { All IsCodePoint points.now }
+    ensures units { take result block.new ≡ units points.now }
+    ensures within { result ≤ 2 * length points.now }
+{
+    if has_pair(points) {
+        return write_pairs(points, block);
+    }
+    narrow(points, block);
+    points.len()
+}
+
+/// Whether a code point has two units. All are looked at, several at a time.
+fn has_pair(points: &[u32]) -> bool
+    ensures { IsFalse result → All (λ p. p < 0x10000) points.now }
+{
+    let mut found = false;
+    for at in 0..points.len() {
+        found = found | (0x10000 <= points[at]);
+    }
+    found
+}
+
+/// Writes code points of one unit each at the front of an array.
+fn narrow(points: &[u32], block: &mut [u16; CHUNK_UNITS])
+    requires short { length points.now ≤ CHUNK }
+    requires low { All (λ p. p < 0x10000) points.now }
+    ensures { take (length points.now) block.new ≡ points.now }
+{
+    for at in 0..points.len() {
+        block[at] = points[at] as u16;
+    }
+}
+
+/// The same of code points that may have two units.
+fn write_pairs(points: &[u32], block: &mut [u16; CHUNK_UNITS]) -> usize
     requires short { length points.now ≤ CHUNK }
     requires points { All IsCodePoint points.now }
     ensures units { take result block.new ≡ units points.now }

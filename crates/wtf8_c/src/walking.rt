@@ -1,21 +1,19 @@
 // Calls that walk over a string, code point by code point.
-ghost use Rattle.std.specs.Prelude.{◌≡◌, ◌⊎◌, ◌+◌, ◌-◌, ◌<◌, ◌≤◌, ◌↔◌, None, IfSome, IsNone, length, take};
+ghost use Rattle.std.specs.Prelude.{◌≡◌, ◌⊎◌, ◌+◌, ◌-◌, ◌<◌, ◌≤◌, ◌↔◌, IfSome, IsNone, IsTrue, length, slice_index, take};
 ghost use Rattle.wtf8.specs.CodePoint.{number};
 ghost use Rattle.wtf8.specs.Form.{encoding};
 ghost use Rattle.wtf8.specs.Position.{IsBoundary};
 ghost use Rattle.wtf8.specs.SurrogatePosition.{IsNextSurrogate, IsTextFrom};
+ghost use Rattle.wtf8.specs.Unicode.{IsLead, IsTrail};
 ghost use Rattle.wtf8.specs.View.{view_units};
-ghost use Rattle.wtf8.specs.UnitPosition.{units_of_slice};
-ghost use Rattle.wtf8_c.specs.Halves.{AreHalves};
 ghost use Rattle.wtf8_c.specs.Walks.{EndsWithPoint, IsPointBetween};
 ghost use Rattle.wtf8_c.specs.Kept.{IsKept};
 
 use crate::codes::{BAD_POSITION, END, OK};
-use crate::cutting::slice_of;
 use crate::handle::Wtf8String;
 use std::alloc::Global;
 use unit_text::IndexedBuf;
-use wtf8::{CodePoint, UnitSlice, Wtf8};
+use wtf8::{CodePoint, Wtf8};
 
 /// Writes the code point after `position` to `code_point`, and moves `position` past it.
 #[unsafe(no_mangle)]
@@ -98,43 +96,52 @@ pub extern "C" fn wtf8_code_point_before(
     if index == 0 {
         return END;
     }
-    *code_point = last_point(front_of(buf, index));
+    *code_point = last_point(buf, index);
     OK
 }
 
-/// The units of the buffer before `index`. No pair is divided at their start.
-fn front_of(buf: &IndexedBuf<Global>, index: usize) -> UnitSlice<'_>
+/// The last code point of the units before `index`.
+fn last_point(buf: &IndexedBuf<Global>, index: usize) -> u32
     requires some { 0 < index }
     requires within { index ≤ length buf.now.units }
-    ensures units { units_of_slice result ≡ take index buf.now.units }
-    ensures halves { AreHalves result }
-    ensures trail { result.trail ≡ None }
+    ensures { EndsWithPoint (take index buf.now.units) result }
 {
-    slice_of(buf, 0, index)
-}
-
-/// The last code point of a slice with units, at whose start no pair is divided.
-fn last_point(front: UnitSlice<'_>) -> u32
-    requires halves { AreHalves front }
-    requires trail { front.trail ≡ None }
-    requires some { 0 < length (units_of_slice front) }
-    ensures { EndsWithPoint (units_of_slice front.entry) result }
-{
-    match front.lead {
-        Some(lead) => u32::from(lead),
-        None => last_of(front.whole).to_u32(),
+    let last = unit_of(buf, index - 1);
+    if index == 1 {
+        return u32::from(last);
     }
+    if !is_trail(last) {
+        return u32::from(last);
+    }
+    let before = unit_of(buf, index - 2);
+    if !is_lead(before) {
+        return u32::from(last);
+    }
+    0x10000 + (u32::from(before) - 0xD800) * 0x400 + (u32::from(last) - 0xDC00)
 }
 
-/// The last code point of a view, which has one.
-fn last_of(text: Wtf8<'_>) -> CodePoint
-    requires { 0 < length (view_units text) }
-    ensures { EndsWithPoint (view_units text.entry) (number result) }
+#[inline(always)]
+fn is_lead(unit: u16) -> bool
+    ensures { IsTrue result ↔ IsLead unit }
 {
-    let len = text.len();
-    match code_point_before(text, len) {
-        Some((last, _)) => last,
-        None => CodePoint::from_unit(0),
+    0xD800 <= unit && unit < 0xDC00
+}
+
+#[inline(always)]
+fn is_trail(unit: u16) -> bool
+    ensures { IsTrue result ↔ IsTrail unit }
+{
+    0xDC00 <= unit && unit < 0xE000
+}
+
+/// The unit at an index of the buffer, which must be less than the length.
+fn unit_of(buf: &IndexedBuf<Global>, index: usize) -> u16
+    requires { index < length buf.now.units }
+    ensures { result ≡ slice_index buf.now.units index }
+{
+    match buf.unit_at(index) {
+        Some(unit) => unit,
+        None => 0,
     }
 }
 

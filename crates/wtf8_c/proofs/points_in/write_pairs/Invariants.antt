@@ -1,6 +1,6 @@
 use Rattle.std.proofs.Common.{◌≡◌, ◌*◌, ◌≤◌, length, take}
 use Rattle.wtf8.specs.Unicode.{units}
-use Rattle.wtf8_c.proofs.points_in.write_units_of.Given as goal
+use Rattle.wtf8_c.proofs.points_in.write_pairs.Given as goal
 
 -- the units of the code points before `at` are written
 abbrev pub invariant-loop-at : goal.invariant-loop-at
