@@ -14,7 +14,7 @@ use Rattle.unit_text.specs.Marks.{AreKept, AreMarks, IsKept, spacing}
 
 -- kept marks before unit `begin` are still kept after the units from there on were replaced
 module _ (stay : MarksStay) (cut : MarksStayInFront) (old new : UnitString) (begin : ℕ) (rest : List ℕ) (within : begin ≤ length old.units)
-      (e : new.units ≡ take begin old.units ++ rest) where
+    (e : new.units ≡ take begin old.units ++ rest) where
   IsKept-edited : (n : ℕ) (mark : UnitMark) → n < begin → IsKept old.bytes old.units n mark → IsKept new.bytes new.units n mark
   IsKept-edited n mark l k =
       let u = take begin old.units in

@@ -63,12 +63,7 @@ fn splice(alloc: Global, units: &[u16], (begin, end): (usize, usize), new: &[u16
 }
 
 /// Whether a marked buffer of the units has the right ones after its units from `begin` to before `end` were replaced.
-fn is_spliced(
-    alloc: Global,
-    units: &[u16],
-    (begin, end): (usize, usize),
-    new: &[u16],
-) -> bool {
+fn is_spliced(alloc: Global, units: &[u16], (begin, end): (usize, usize), new: &[u16]) -> bool {
     let mut buf = buf_of(alloc, units);
     buf.mark_units(alloc);
     if end < begin || buf.unit_len() < end {
@@ -81,8 +76,8 @@ fn is_spliced(
 /// Whether a marked buffer of units that repeat `kind` finds its units after edits about its marks.
 fn is_marked_anew(alloc: Global, kind: &[u16; 6]) -> bool {
     let units = units_of(alloc, kind, 400);
-    for begin in [0, 1, 127, 128, 129, 130, 256, 399, 400] {
-        for count in [0, 1, 2, 140] {
+    for begin in [0usize, 1, 127, 128, 129, 130, 256, 399, 400] {
+        for count in [0usize, 1, 2, 140] {
             let end = begin.saturating_add(count).min(400);
             let new = [0xDC00, 0x3042, 0xD800];
             if !is_spliced(alloc, &units, (begin, end), &new)

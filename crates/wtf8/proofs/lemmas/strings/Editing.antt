@@ -27,8 +27,8 @@ writes_none old at v = record {
 }
 
 module _ {old now : List ℕ} {at to read : ℕ} {v : List ℕ} (u : All IsUnit v) (m : WritesForm old at v read now to)
-      (room : (w : List ℕ) → IsForm w v → at + length w ≤ length old) (piece : List ℕ) (n : ℕ)
-      (form : (w : List ℕ) → IsForm w (drop n (drop read v)) → IsForm (piece ++ w) (drop read v)) where
+    (room : (w : List ℕ) → IsForm w v → at + length w ≤ length old) (piece : List ℕ) (n : ℕ)
+    (form : (w : List ℕ) → IsForm w (drop n (drop read v)) → IsForm (piece ++ w) (drop read v)) where
   more_form : (w : List ℕ) → IsForm w (drop (read + n) v) → IsForm ((m.front ++ piece) ++ w) v
   more_form w f = subst (λ z. IsForm z v) (sym (append_assoc m.front piece w))
       (m.rest (piece ++ w) (form w (subst (IsForm w) (sym (drop-drop n read v)) f)))

@@ -130,12 +130,12 @@ rounded_in_order {w} {u} {k} {l} {m} {n} {begin} {end} f x y first last h = (mar
     fewer = elim last [
       | inl e ↦ omega (arith, e, h, below)
       | inr e ↦ elim first [
-          | inl d ↦ elim (cases_lt begin end) [
-              | inl less ↦ omega (arith, less, e.0, below)
-              | inr same ↦
-                  let at : m ≡ end = omega (arith, d, same, h) in
-                  absurd (mark_divides_none w u k m f x (subst (DividesPair u) (sym at) e.1))
-            ]
-          | inr d ↦ omega (arith, d.0, e.0, h)
+        | inl d ↦ elim (cases_lt begin end) [
+          | inl less ↦ omega (arith, less, e.0, below)
+          | inr same ↦
+              let at : m ≡ end = omega (arith, d, same, h) in
+              absurd (mark_divides_none w u k m f x (subst (DividesPair u) (sym at) e.1))
         ]
+        | inr d ↦ omega (arith, d.0, e.0, h)
+      ]
     ]
