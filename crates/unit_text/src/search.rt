@@ -102,6 +102,10 @@ fn extended(units: &[u16], borders: &[u16], matched: usize, unit: u16) -> usize
     requires known { AreBorders units.now borders.now matched }
     ensures { IsLongestFront (take matched units.now ++ unit ∷ []) units.now result }
 {
+    // Most units are not the first.
+    if matched == 0 && unit != units[0] {
+        return 0;
+    }
     let mut border = matched;
     while units[border] != unit {
         if border == 0 {
