@@ -325,8 +325,8 @@ bool wtf8_is_utf8(const wtf8_string *string);
 /* Whether each unit is ASCII, below 80. Constant: such a string has one byte for each unit. Since 0.2.0. */
 bool wtf8_is_ascii(const wtf8_string *string);
 
-/* Whether each unit is at most FF, so that wtf8_copy_latin1 gives its text. Linear in the length up to the first that is
- * not. Since 0.2.0. */
+/* Whether each unit is at most FF, so that wtf8_copy_latin1 gives its text. Constant in ASCII, else linear in the length up to
+ * the first that is not. Since 0.2.0. */
 bool wtf8_is_latin1(const wtf8_string *string);
 
 /* Whether two strings have the same units. Linear in the shorter length, constant if the lengths in bytes differ. */
