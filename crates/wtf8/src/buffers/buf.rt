@@ -24,7 +24,6 @@ use crate::codec::code_point::CodePoint;
 use crate::codec::encoding;
 use crate::from_utf16::transcode;
 use crate::lanes::search;
-use crate::strings::editing;
 use crate::strings::lossy::{self, replace_surrogates};
 use crate::strings::utf8_prefix::Utf8Prefix;
 use crate::strings::view::Wtf8;
