@@ -122,8 +122,7 @@ public:
     }
     /* At most `n` units from `begin` on, as std::u16string has it. */
     WTF8_NODISCARD string substr(size_t begin = 0, size_t n = npos) const {
-        size_t len = unit_len(), most = begin <= len ? len - begin : 0;
-        return slice(begin, n < most ? begin + n : begin + most);
+        return slice(begin, end_of(begin, n));
     }
 
     string(const string &) = delete;
@@ -227,13 +226,13 @@ public:
     void truncate_units(size_t n) { check(wtf8_truncate_units(get(), n)); }
     void truncate_bytes(size_t position) { check(wtf8_truncate_bytes(get(), position)); }
 
-    /* Editing: units at any index, also inside a pair. */
+    /* Units in the middle, also inside a pair, as of std::u16string: `n` of them from `index` on, or as many as there are. */
     string &insert(size_t index, units_in units) {
         return done(wtf8_insert_units(get(), index, raw(units.data()), units.size()));
     }
-    string &erase(size_t begin, size_t end) { return done(wtf8_remove_units(get(), begin, end)); }
-    string &replace(size_t begin, size_t end, units_in units) {
-        return done(wtf8_replace_units(get(), begin, end, raw(units.data()), units.size()));
+    string &erase(size_t index = 0, size_t n = npos) { return done(wtf8_remove_units(get(), index, end_of(index, n))); }
+    string &replace(size_t index, size_t n, units_in units) {
+        return done(wtf8_replace_units(get(), index, end_of(index, n), raw(units.data()), units.size()));
     }
 
     /* Code points. If there is none, each returns false and leaves its arguments as they are. */
@@ -453,6 +452,11 @@ private:
     static uint16_t *raw(char16_t *at) { return reinterpret_cast<uint16_t *>(at); }
     static uint32_t *raw(char32_t *at) { return reinterpret_cast<uint32_t *>(at); }
 
+    /* The index after at most `n` units from `index` on, which is `index` if that is past the end. */
+    size_t end_of(size_t index, size_t n) const noexcept {
+        size_t left = index < unit_len() ? unit_len() - index : 0;
+        return index + (n < left ? n : left);
+    }
     /* The number of units of a part, or 0 if there is no such part. */
     size_t part_len(size_t begin, size_t end) const noexcept { return begin <= end && end <= unit_len() ? end - begin : 0; }
     string &done(wtf8_result code, size_t position = 0) { check(code, position); return *this; }

@@ -281,6 +281,13 @@ WTF8_TELLS_AFTER(pop, (wtf8_string *string, uint32_t *code_point), (string, code
 WTF8_TELLS_CODE(slice_units, (wtf8_string *into, const wtf8_string *string, size_t begin, size_t end),
            (into, string, begin, end), wtf8_changes(into); wtf8_asks(string))
 
+/* Editing. */
+WTF8_TELLS_CODE(insert_units, (wtf8_string *string, size_t index, const uint16_t *units, size_t n), (string, index, units, n),
+           wtf8_changes(string); wtf8_reads(units, n * 2))
+WTF8_TELLS_CODE(remove_units, (wtf8_string *string, size_t begin, size_t end), (string, begin, end), wtf8_changes(string))
+WTF8_TELLS_CODE(replace_units, (wtf8_string *string, size_t begin, size_t end, const uint16_t *units, size_t n),
+           (string, begin, end, units, n), wtf8_changes(string); wtf8_reads(units, n * 2))
+
 /* Copying out. */
 WTF8_TELLS_AFTER(copy_units, (const wtf8_string *string, uint16_t *out, size_t size, size_t *len), (string, out, size, len),
                  wtf8_asks(string); wtf8_may_write(out, size * 2); wtf8_may_write(len, sizeof *len),
@@ -374,6 +381,9 @@ WTF8_TELLS_AFTER(copy_latin1, (const wtf8_string *string, uint8_t *out, size_t s
 #define wtf8_truncate_bytes wtf8_told_truncate_bytes
 #define wtf8_pop wtf8_told_pop
 #define wtf8_slice_units wtf8_told_slice_units
+#define wtf8_insert_units wtf8_told_insert_units
+#define wtf8_remove_units wtf8_told_remove_units
+#define wtf8_replace_units wtf8_told_replace_units
 #define wtf8_copy_units wtf8_told_copy_units
 #define wtf8_copy_slice wtf8_told_copy_slice
 #define wtf8_copy_code_points wtf8_told_copy_code_points

@@ -81,6 +81,9 @@ def wrong_pairs():
                 for of in ranges
                 for part in (two, other)
             )
+            edited, begin = copy.copy(one), len(units) // 3
+            edited.replace(begin, at, other)
+            same = same and edited.units() == units[:begin] + others + units[at:]
             copied = copy.copy(one)
             copied += "x"
             if not same or copied == one or String.__hash__ is not None:
