@@ -141,7 +141,7 @@ static void no_utf8_after_wide_letters(void) {
     wtf8_free(&string);
 }
 
-/* Bytes, their text as CPython's bytes.decode("utf-8", "replace") gives it, and the number of bytes before those that its
+/* Bytes, their text as CPython's bytes.decode("utf-8", "replace") gives it, and the number of bytes before the ones that its
  * incremental decoder keeps for the next part, for which the text ends with U+FFFD. */
 static const struct {
     const char *bytes;

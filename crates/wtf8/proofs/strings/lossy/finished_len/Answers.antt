@@ -11,7 +11,7 @@ returns-then-is_unfinished-clause-all c =
     let some = c.loop-at-test.true in
     let is : IsUnfinished (drop at w) = rw take_rest at (c.is_unfinished.ensures.0 c.if-is_unfinished.true) in
     let last = λ (k : ℕ). begins_last w at k c.if-text-at-ge192.true (omega (arith, within, some))
-        (λ j l m. c.loop-at.invariant.later j (omega (arith, l)) m) in
+    (λ j l m. c.loop-at.invariant.later j (omega (arith, l)) m) in
     record { within = omega (arith, within); rest = λ _. is; only = last }
 
 pub returns-then-text-at-ge192-clause-all : goal.returns-then-text-at-ge192-clause-all
