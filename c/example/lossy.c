@@ -5,21 +5,16 @@
 // Appends what the stream has left, with one U+FFFD for each part that is not UTF-8.
 static wtf8_result push_stream(wtf8_string *s, FILE *stream) {
     uint8_t bytes[8];
-    size_t left = 0, read, used, bad;
+    size_t left = 0, read, used;
     do {
         read = fread(bytes + left, 1, sizeof bytes - left, stream);
-        const uint8_t *part = bytes;
         left += read;
-        do {
-            wtf8_result code = wtf8_push_utf8_part(s, part, left, &used, &bad);
-            if (code == WTF8_OK && bad > 0) code = wtf8_push_code_point(s, 0xFFFD);
-            if (code != WTF8_OK) return code;
-            part += used + bad;
-            left -= used + bad;
-        } while (bad > 0);
-        memmove(bytes, part, left); // the front of a code point waits for the rest
+        wtf8_result code = wtf8_push_utf8_lossy_part(s, bytes, left, &used);
+        if (code != WTF8_OK) return code;
+        left -= used;
+        memmove(bytes, bytes + used, left); // the front of a code point waits for the rest
     } while (read > 0);
-    return left > 0 ? wtf8_push_code_point(s, 0xFFFD) : WTF8_OK;
+    return wtf8_push_utf8_lossy(s, bytes, left);
 }
 
 int main(void) {
