@@ -60,7 +60,7 @@ static BEGINS: [usize; 2] = [0, 7];
 /// The index from which and up to which they are searched for, inside a pair in some of the texts.
 const MIDDLE: usize = 351;
 
-/// An index that stands for none.
+/// What the table has where there is no index.
 const NONE: usize = 999;
 
 /// For each rule the text is the first 700 units of its word, "b" and the first 100. For each number of units and each
