@@ -137,6 +137,23 @@ module _ (a part back front tail : List ℕ) where
       (reached_skipped n (i + 1) some (omega (arith, within)) (λ k after below. apart k (omega (arith, after)) (omega (arith, below)))
       (reached_after i 0 0 (omega (arith, within)) some r none))
 
+  -- units from `i` to `j` that are not the first are passed if nothing is reached
+  pub reached_later : (i j m : ℕ) → 0 < length front → i ≤ j → j ≤ length part → (0 < m → j ≡ i)
+      → ((k : ℕ) → i ≤ k → k < j → get_or part k 0 ≢ get_or front 0 0)
+      → IsReached (a ++ take i part) (drop i part ++ back) front tail m
+      → IsReached (a ++ take j part) (drop j part ++ back) front tail m
+  reached_later i j m some after within kept apart r =
+      let At : ℕ → Type 0 = λ k. IsReached (a ++ take k part) (drop k part ++ back) front tail m in
+      let sum : i + (j - i) ≡ j = omega (arith, after) in
+      elim (cases_lt 0 m) [
+        | inl more ↦ subst At (sym (kept more)) r
+        | inr none ↦
+            let zero_m : m ≡ 0 = omega (arith, none) in
+            subst At sum (subst (IsReached (a ++ take (i + (j - i)) part) (drop (i + (j - i)) part ++ back) front tail) (sym zero_m)
+            (reached_skipped (j - i) i some (omega (arith, after, within)) (λ k from below. apart k from (omega (arith, below, after)))
+            (subst (IsReached (a ++ take i part) (drop i part ++ back) front tail) zero_m r)))
+      ]
+
   pub found_in_part : (i n : ℕ) → i ≤ length part → n ≡ length a + i - length front
       → IsReached (a ++ take i part) (drop i part ++ back) front tail (length front) → take (length tail) (drop i part ++ back) ≡ tail
       → IsFirstIndex ((a ++ part) ++ back) (front ++ tail) 0 n
