@@ -1,11 +1,11 @@
 -- A search in a part of a text: how much of a front the part has reached.
-use Rattle.std.proofs.Common.{◌≡◌, ℕ, ◌+◌, ◌-◌, ◌<◌, ◌≤◌, List, [], ◌∷◌, ◌++◌, length, take, drop, get_or, sym, ap, subst, ◌∙◌, arith, inl, inr, append_assoc, append-nil, length-append, length-drop, length-take-le, suc}
+use Rattle.std.proofs.Common.{◌≡◌, ◌≢◌, zero, ℕ, ◌+◌, ◌-◌, ◌<◌, ◌≤◌, List, [], ◌∷◌, ◌++◌, length, take, drop, get_or, sym, ap, subst, ◌∙◌, arith, inl, inr, append_assoc, append-nil, length-append, length-drop, length-take-le, suc}
 use Rattle.std.proofs.Math.Seq.{drop-append_seam, drop-cons, take-append_seam, take-append-add}
 use Rattle.std.proofs.lemmas.Bool.{cases_eq, cases_lt}
 use Rattle.std.proofs.lemmas.List.{append_cancel_left, drop-append-le, take-append-drop, take-append-le, take-take, take_all, take_more}
 use Rattle.unit_text.specs.Search.{OccursAt, IsFirstIndex}
 use Rattle.unit_text.specs.private.Borders.{EndsWithFront, IsLongestFront}
-use Rattle.unit_text.proofs.BorderLemmas.{end_is_border, border_is_end, ends_append, ends_between, ends_trans, front_len, in_end}
+use Rattle.unit_text.proofs.BorderLemmas.{all_is_candidate, longest_none, end_is_border, border_is_end, ends_append, ends_between, ends_trans, front_len, in_end}
 use Rattle.unit_text.proofs.SearchLemmas.{NoneBelow, occurs_there, rest_of_part}
 
 -- the text `l` and `y` after it, in which `front` and `tail` after it are searched for
@@ -119,6 +119,40 @@ module _ (a part back front tail : List ℕ) where
       subst (λ t. IsReached t later front tail r) (seen_next i within)
       (reached_next (a ++ take i part) later front tail (get_or part i 0) m r short
       (subst (λ t. IsReached (a ++ take i part) t front tail m) (left_next i within) old) longest)
+
+  -- units that are not the first leave nothing reached
+  pub reached_skipped : (n i : ℕ) → 0 < length front → i + n ≤ length part
+      → ((k : ℕ) → i ≤ k → k < i + n → get_or part k 0 ≢ get_or front 0 0)
+      → IsReached (a ++ take i part) (drop i part ++ back) front tail 0
+      → IsReached (a ++ take (i + n) part) (drop (i + n) part ++ back) front tail 0
+  reached_skipped zero i some within apart r =
+      let same : i ≡ i + 0 = omega arith in
+      subst (λ k. IsReached (a ++ take k part) (drop k part ++ back) front tail 0) same r
+  reached_skipped (suc n) i some within apart r =
+      let same : i + 1 + n ≡ i + suc n = omega arith in
+      let x = get_or part i 0 in
+      let here : get_or front 0 0 ≢ x = λ e. apart i (omega arith) (omega arith) (sym e) in
+      let none = longest_none front (take 0 front) x (all_is_candidate front 0 x (omega arith)) here in
+      subst (λ k. IsReached (a ++ take k part) (drop k part ++ back) front tail 0) same
+      (reached_skipped n (i + 1) some (omega (arith, within)) (λ k after below. apart k (omega (arith, after)) (omega (arith, below)))
+      (reached_after i 0 0 (omega (arith, within)) some r none))
+
+  -- units from `i` to `j` that are not the first are passed if nothing is reached
+  pub reached_later : (i j m : ℕ) → 0 < length front → i ≤ j → j ≤ length part → (0 < m → j ≡ i)
+      → ((k : ℕ) → i ≤ k → k < j → get_or part k 0 ≢ get_or front 0 0)
+      → IsReached (a ++ take i part) (drop i part ++ back) front tail m
+      → IsReached (a ++ take j part) (drop j part ++ back) front tail m
+  reached_later i j m some after within kept apart r =
+      let At : ℕ → Type 0 = λ k. IsReached (a ++ take k part) (drop k part ++ back) front tail m in
+      let sum : i + (j - i) ≡ j = omega (arith, after) in
+      elim (cases_lt 0 m) [
+        | inl more ↦ subst At (sym (kept more)) r
+        | inr none ↦
+            let zero_m : m ≡ 0 = omega (arith, none) in
+            subst At sum (subst (IsReached (a ++ take (i + (j - i)) part) (drop (i + (j - i)) part ++ back) front tail) (sym zero_m)
+            (reached_skipped (j - i) i some (omega (arith, after, within)) (λ k from below. apart k from (omega (arith, below, after)))
+            (subst (IsReached (a ++ take i part) (drop i part ++ back) front tail) zero_m r)))
+      ]
 
   pub found_in_part : (i n : ℕ) → i ≤ length part → n ≡ length a + i - length front
       → IsReached (a ++ take i part) (drop i part ++ back) front tail (length front) → take (length tail) (drop i part ++ back) ≡ tail

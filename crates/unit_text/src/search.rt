@@ -1,5 +1,5 @@
 // Where code units occur in a string. Its units are decoded on the stack, part by part.
-ghost use Rattle.std.specs.Prelude.{◌≡◌, ◌↔◌, ◌∷◌, [], ◌++◌, ◌+◌, ◌-◌, ◌≤◌, ◌<◌, ◌^◌, ℕ, length, take, IsTrue, IfSome, IfNone, IfOk, IfErr};
+ghost use Rattle.std.specs.Prelude.{◌≡◌, ◌≢◌, slice_index, ◌↔◌, ◌∷◌, [], ◌++◌, ◌+◌, ◌-◌, ◌≤◌, ◌<◌, ◌^◌, ℕ, length, take, IsTrue, IfSome, IfNone, IfOk, IfErr};
 ghost use Rattle.unit_text.specs.private.Borders.{AreBorders, EndsWithFront, IsLongestFront};
 ghost use Rattle.unit_text.specs.private.Search.{pattern_units};
 ghost use Rattle.unit_text.specs.Search.{FindsFirst, FindsFirstBelow, FindsLastBelow, IsFirstIndex, IsLastIndex, OccursAt};
@@ -102,10 +102,6 @@ fn extended(units: &[u16], borders: &[u16], matched: usize, unit: u16) -> usize
     requires known { AreBorders units.now borders.now matched }
     ensures { IsLongestFront (take matched units.now ++ unit ∷ []) units.now result }
 {
-    // Most units are not the first.
-    if matched == 0 && unit != units[0] {
-        return 0;
-    }
     let mut border = matched;
     while units[border] != unit {
         if border == 0 {
@@ -132,6 +128,22 @@ fn borders_of<const N: usize>(units: &[u16]) -> [u16; N]
     borders
 }
 
+/// The first index at or after `from` at which `unit` is, or else the length; `from` itself if units are reached.
+#[inline(always)]
+fn next_start(part: &[u16], from: usize, unit: u16, reached: usize) -> usize
+    requires { from ≤ length part.now }
+    ensures after { from ≤ result }
+    ensures within { result ≤ length part.now }
+    ensures kept { 0 < reached → result ≡ from }
+    ensures passed { (k : ℕ) → from ≤ k → k < result → slice_index part.now k ≢ unit }
+{
+    let mut index = from;
+    while reached == 0 && index < part.len() && part[index] != unit {
+        index += 1;
+    }
+    index
+}
+
 /// Looks for `front` and after it `tail` in a part of a string and the string `back` after it. The first `matched` units
 /// of `front` are before the part. Returns the index in the part where `front` ends if `tail` follows, else the number of
 /// first units of `front` with which the part ends.
@@ -155,8 +167,10 @@ fn end_in_part(
         × EndsWithFront (take matched front.now ++ part.now) front.now left
         × ((k : ℕ) → k < matched + length part.now - left → ¬ (OccursAt ((take matched front.now ++ part.now) ++ view_units back.entry) (front.now ++ pattern_units tail.entry) k))) }
 {
+    let first = front[0];
     let mut reached = matched;
-    for index in 0..part.len() {
+    let mut index = 0;
+    while index < part.len() {
         reached = extended(front, borders, reached, part[index]);
         if reached == front.len() {
             let (_, later) = part.split_at(index + 1);
@@ -165,6 +179,7 @@ fn end_in_part(
             }
             reached = usize::from(borders[reached - 1]);
         }
+        index = next_start(part, index + 1, first, reached);
     }
     Err(reached)
 }

@@ -3,12 +3,13 @@ use Rattle.std.proofs.lemmas.Bool.{false≢true}
 use Rattle.wtf8.specs.View.{view_units}
 use Rattle.unit_text.specs.private.Search.{pattern_units}
 use Rattle.unit_text.proofs.BorderLemmas.{border_known, border_shorter}
-use Rattle.unit_text.proofs.PartLemmas.{IsReached, found_in_part, none_in_part, not_followed, reached_after, reached_first, reached_len}
+use Rattle.unit_text.proofs.PartLemmas.{IsReached, found_in_part, none_in_part, not_followed, reached_after, reached_first, reached_later, reached_len}
 use Rattle.unit_text.proofs.search.end_in_part.Goals.{After-extended-reached, then-reached-front+else-begins, else-reached-front}
 use Rattle.unit_text.proofs.search.end_in_part.Goals as goal
 
 pub loop-index-init : goal.loop-index-init
 loop-index-init c = record {
+  within = omega arith;
   shorter = c.requires.matched;
   reached = reached_first c.args.part.now (view_units c.args.back) c.args.front.now (pattern_units c.args.tail) c.args.matched
       (omega (arith, c.requires.matched));
@@ -50,12 +51,16 @@ loop-index-preserved c =
     let tail = pattern_units c.args.tail in
     let i = c.loop-index.index + 1 in
     let reached = next (goal.at.loop-index-preserved c).After-extended-reached in
-    let seen = take c.args.matched front ++ take i part in
+    let before = take c.args.matched front in
+    let seen = before ++ take i part in
     let later = drop i part ++ back in
+    let some : 0 < length front = omega (arith, c.requires.matched) in
+    let start = c.next_start-index.ensures in
+    let from = reached_later before part back front tail i c.next_start-index.result c.if-reached-front.reached some start.after start.within
+    start.kept start.passed in
     elim c.if-reached-front.branch [
       | then-reached-front+else-begins w ↦
           let n = length front in
-          let some : 0 < n = omega (arith, c.requires.matched) in
           let whole = subst (IsReached seen later front tail) w.if-reached-front.true reached in
           let apart : ¬ (take (length tail) later ≡ tail) =
           λ b. false≢true (sym w.if-begins.false ∙ w.begins.ensures.1
@@ -63,13 +68,15 @@ loop-index-preserved c =
           let longest = border_known front c.args.borders.now n n w.from-reached.result c.requires.known some (omega arith)
           (w.from-reached.ensures ∙ ap (λ r. get_or c.args.borders.now (r - 1) 0) w.if-reached-front.true) in
           record {
+            within = start.within;
             shorter = omega (arith, w.reached-is, border_shorter front n w.from-reached.result some longest);
-            reached = subst (IsReached seen later front tail) (sym w.reached-is)
-                (not_followed seen later front tail w.from-reached.result some whole apart longest);
+            reached = from (subst (IsReached seen later front tail) (sym w.reached-is)
+                (not_followed seen later front tail w.from-reached.result some whole apart longest));
           }
       | else-reached-front w ↦ record {
+        within = start.within;
         shorter = omega (arith, w.reached-is, w.if-reached-front.false, c.extended-reached.ensures.is_end.within);
-        reached = subst (IsReached seen later front tail) (sym w.reached-is) reached;
+        reached = from (subst (IsReached seen later front tail) (sym w.reached-is) reached);
       }
     ]
 

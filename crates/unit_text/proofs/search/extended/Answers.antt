@@ -1,4 +1,4 @@
-use Rattle.std.proofs.Common.{◌≢◌, ◌<◌, get_or, length-take-le, take, sym, subst, arith}
+use Rattle.std.proofs.Common.{◌≢◌, ◌<◌, get_or, length-take-le, take, subst, arith}
 use Rattle.unit_text.proofs.BorderLemmas.{IsCandidate, all_is_candidate, border_known, border_shorter, front_len, longest_more, longest_none, next_candidate}
 use Rattle.unit_text.proofs.search.extended.Goals as goal
 
@@ -54,11 +54,3 @@ returns c =
     longest_more units (take c.args.matched units) c.args.unit b c.loop-border.invariant
     (omega (arith, within, front_len units (take c.args.matched units) b c.loop-border.invariant.is_end, length-take-le c.args.matched units (omega (arith, within))))
     c.loop-border-test.false
-
-pub returns-then-unit-units : goal.returns-then-unit-units
-returns-then-unit-units c =
-    let units = c.args.units.now in
-    let first = take c.args.matched units in
-    let all = all_is_candidate units c.args.matched c.args.unit (omega (arith, c.requires.within)) in
-    longest_none units first c.args.unit (subst (IsCandidate units first c.args.unit) c.if-matched-eq0.true all)
-    (λ e. c.if-unit-units.true (sym e))
