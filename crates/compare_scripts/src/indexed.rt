@@ -9,7 +9,7 @@ use crate::recorder::write_hash_input;
 use crate::stop::{Stop, done, indexed_made};
 use crate::tape::Tape;
 use crate::views::{write_all_units, write_made_text, write_slice, zeros_before_units};
-use std::alloc::{AllocError, Global};
+use std::alloc::Global;
 use std::mem;
 use unit_text::IndexedBuf;
 use wtf8::{Wtf8, Wtf8Buf};
@@ -233,25 +233,26 @@ fn truncate_units(string: &mut IndexedBuf<Global>, tape: &mut Tape<'_>) -> Resul
 fn replace(string: &mut IndexedBuf<Global>, tape: &mut Tape<'_>) -> Result<(), Stop> {
     let (begin, end) = tape.reader.range();
     let units = tape.reader.counted_units(tape.alloc);
-    if end < begin || string.unit_len() < end {
-        return Err(Stop::Refused);
-    }
-    done(replace_part(string, (begin, end), units.as_slice()))
+    replace_part(string, begin, end, units.as_slice())
 }
 
 /// The call that replaces the units from one index to another by others.
 fn replace_part(
     string: &mut IndexedBuf<Global>,
-    (begin, end): (usize, usize),
+    begin: usize,
+    end: usize,
     units: &[u16],
-) -> Result<(), AllocError> {
+) -> Result<(), Stop> {
+    if end < begin || string.unit_len() < end {
+        return Err(Stop::Refused);
+    }
     if begin == end {
-        return string.insert_units(begin, units);
+        return done(string.insert_units(begin, units));
     }
     if units.is_empty() {
-        return string.remove_units(begin, end);
+        return done(string.remove_units(begin, end));
     }
-    string.replace_units(begin, end, units)
+    done(string.replace_units(begin, end, units))
 }
 
 /// `slice_units`: writes the slice, and appends it to a string.
