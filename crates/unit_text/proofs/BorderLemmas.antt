@@ -145,12 +145,6 @@ module _ (s : List ℕ) where
     ];
   }
 
-  pub longest_of_none : (l : List ℕ) → length l ≡ 0 → IsLongestFront l s 0
-  longest_of_none l none = record {
-    is_end = record { before = l; within = omega arith; ends = append-nil l };
-    longest = λ n more h. absurd (omega (arith, more, none, front_len l n h));
-  }
-
 module _ (s : List ℕ) where
   -- an entry of a table
   pub border_known : (borders : List ℕ) (count b r : ℕ) → AreBorders s borders count → 0 < b → b ≤ count → r ≡ get_or borders (b - 1) 0

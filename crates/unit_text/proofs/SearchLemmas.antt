@@ -1,19 +1,15 @@
 -- Occurrences of units in a part of a list and in the whole.
 use Rattle.std.proofs.Common.{◌≡◌, ℕ, ◌+◌, ◌-◌, ◌<◌, ◌≤◌, List, [], ◌∷◌, ◌++◌, length, take, drop, get_or, refl, sym, ap, subst, ◌∙◌, arith, inl, inr, length-append, length-drop, length-take}
 use Rattle.std.proofs.Math.Arith.{lt_of_le-ne}
-use Rattle.std.proofs.Math.Seq.{drop-append_seam, take-append_seam}
+use Rattle.std.proofs.Math.Seq.{drop-append_seam}
 use Rattle.std.proofs.lemmas.Bool.{cases_lt}
-use Rattle.std.proofs.lemmas.List.{take-take, take-append-drop, drop-append-le, drop-drop, get_or-drop, get_or-take, get_or_append_left}
+use Rattle.std.proofs.lemmas.List.{take-append-drop, drop-append-le, drop-drop, get_or-drop, get_or-take, get_or_append_left}
 use Rattle.wtf8.specs.UnitMark.{RoundsDownTo}
-use Rattle.unit_text.specs.Search.{OccursAt, IsFirstIndex, IsLastIndex}
+use Rattle.unit_text.specs.Search.{OccursAt, IsFirstIndex}
 
 -- `s` occurs in `u` at no index below `end`
 abbrev pub NoneBelow : List ℕ → List ℕ → ℕ → Type 0
 NoneBelow u s end = (k : ℕ) → k < end → ¬ (OccursAt u s k)
-
-pub NoneBelow-suc : (u s : List ℕ) (index : ℕ) → NoneBelow u s index → ¬ (OccursAt u s index) → NoneBelow u s (index + 1)
-NoneBelow-suc u s index none here k below there =
-    none k (lt_of_le-ne (omega (arith, below)) (λ same. here (subst (OccursAt u s) same there))) there
 
 -- a list occurs where the units from there on begin with it
 pub occurs_there : (u s : List ℕ) (k : ℕ) → k ≤ length u → take (length s) (drop k u) ≡ s → OccursAt u s k
@@ -78,23 +74,6 @@ module _ (u s : List ℕ) (p : ℕ) (within : p ≤ length u) where
   pub none_of_rest : ((k : ℕ) → 0 ≤ k → ¬ (OccursAt (drop p u) s k)) → (k : ℕ) → p ≤ k → ¬ (OccursAt u s k)
   none_of_rest none k after there = none (k - p) (omega arith) (occurs_in_rest k after there)
 
--- a list that does not occur at index `p` is found from there on exactly if it is from `p + 1` on
-module _ (u s : List ℕ) (p : ℕ) (absent : ¬ (take (length s) (drop p u) ≡ s)) where
-  after_absent : (k : ℕ) → p ≤ k → OccursAt u s k → p + 1 ≤ k
-  after_absent k after there =
-      let later : p < k = lt_of_le-ne after (λ same. absent (subst (λ i. take (length s) (drop i u) ≡ s) (sym same) there.there)) in
-      omega (arith, later)
-
-  pub none_from_next : ((k : ℕ) → p + 1 ≤ k → ¬ (OccursAt u s k)) → (k : ℕ) → p ≤ k → ¬ (OccursAt u s k)
-  none_from_next none k after there = none k (after_absent k after there) there
-
-  pub first_from_next : (k : ℕ) → IsFirstIndex u s (p + 1) k → IsFirstIndex u s p k
-  first_from_next k f = record {
-    after = omega (arith, f.after);
-    occurs = f.occurs;
-    no_earlier = λ j after below there. f.no_earlier j (after_absent j after there) below there;
-  }
-
 -- `k` is the last index below `end` at which `s` occurs in `u`
 abbrev IsLastBelow : List ℕ → List ℕ → ℕ → ℕ → Type 0
 IsLastBelow u s end k = OccursAt u s k × (k < end) × ((j : ℕ) → k < j → j < end → ¬ (OccursAt u s j))
@@ -102,13 +81,6 @@ IsLastBelow u s end k = OccursAt u s k × (k < end) × ((j : ℕ) → k < j → 
 -- `s` occurs in `u` at no index from `begin` to before `end`
 abbrev pub NoneBetween : List ℕ → List ℕ → ℕ → ℕ → Type 0
 NoneBetween u s begin end = (k : ℕ) → begin ≤ k → k < end → ¬ (OccursAt u s k)
-
-NoneBetween-append : (u s : List ℕ) (begin middle end : ℕ) → NoneBetween u s begin middle → NoneBetween u s middle end
-    → NoneBetween u s begin end
-NoneBetween-append u s begin middle end front back k after below there = elim (cases_lt k middle) [
-  | inl h ↦ front k after h there
-  | inr h ↦ back k h below there
-]
 
 pub NoneBetween-suc : (u s : List ℕ) (begin next end : ℕ) → next ≡ begin + 1 → NoneBetween u s next end → ¬ (OccursAt u s begin)
     → NoneBetween u s begin end
@@ -149,69 +121,6 @@ from_first u p end order within =
 pub some_in : (l : List ℕ) → ¬ (l ≡ []) → 0 < length l
 some_in [] h = absurd (h refl)
 some_in (p ∷ l) h = omega arith
-
--- A list found by its first part.
-
-module _ (u head rest other : List ℕ) (whole : head ++ rest ≡ other) where
-  part_occurs : (k : ℕ) → OccursAt u other k → OccursAt u head k
-  part_occurs k o =
-      let long : length head ≤ length other = omega (arith, ap length whole, length-append head rest) in
-      record {
-        within = omega (arith, o.within, long);
-        there = sym (take-take (length head) (length other) (drop k u) long) ∙ ap (take (length head)) (o.there ∙ sym whole)
-            ∙ take-append_seam head rest;
-      }
-
-  none_after_first : (begin index : ℕ) → IsFirstIndex u head begin index → NoneBetween u other begin index
-  none_after_first begin index f j after below there = f.no_earlier j after below (part_occurs j there)
-
-  pub whole_is_first : (from begin index : ℕ) → from ≤ begin → NoneBetween u other from begin → IsFirstIndex u head begin index
-      → take (length other) (drop index u) ≡ other → IsFirstIndex u other from index
-  whole_is_first from begin index order before f there = record {
-    after = omega (arith, order, f.after);
-    occurs = occurs_there u other index (omega (arith, f.occurs.within)) there;
-    no_earlier = NoneBetween-append u other from begin index before (none_after_first begin index f);
-  }
-
-  pub none_to_next : (from begin index : ℕ) → NoneBetween u other from begin → IsFirstIndex u head begin index
-      → ¬ (take (length other) (drop index u) ≡ other) → NoneBetween u other from (index + 1)
-  none_to_next from begin index before f absent =
-      NoneBetween-append u other from index (index + 1)
-      (NoneBetween-append u other from begin index before (none_after_first begin index f))
-      (λ j after below there. absent (subst (λ i. take (length other) (drop i u) ≡ other) (omega (arith, after, below)) there.there))
-
-  pub none_from : (from begin : ℕ) → NoneBetween u other from begin → ((k : ℕ) → begin ≤ k → ¬ (OccursAt u head k))
-      → (k : ℕ) → from ≤ k → ¬ (OccursAt u other k)
-  none_from from begin before none k after there = elim (cases_lt k begin) [
-    | inl h ↦ before k after h there
-    | inr h ↦ none k h (part_occurs k there)
-  ]
-
-  none_before_last : (begin index : ℕ) → IsLastIndex u head begin index → NoneBetween u other (index + 1) (begin + 1)
-  none_before_last begin index f j after below there = f.no_later j (omega (arith, after)) (omega (arith, below)) (part_occurs j there)
-
-  pub whole_is_last : (from begin index : ℕ) → begin ≤ from → NoneBetween u other (begin + 1) (from + 1) → IsLastIndex u head begin index
-      → take (length other) (drop index u) ≡ other → IsLastIndex u other from index
-  whole_is_last from begin index order later f there = record {
-    before = omega (arith, order, f.before);
-    occurs = occurs_there u other index (omega (arith, f.occurs.within)) there;
-    no_later = λ j after below. NoneBetween-append u other (index + 1) (begin + 1) (from + 1) (none_before_last begin index f) later j
-        (omega (arith, after)) (omega (arith, below));
-  }
-
-  pub none_from_last : (from begin index : ℕ) → NoneBetween u other (begin + 1) (from + 1) → IsLastIndex u head begin index
-      → ¬ (take (length other) (drop index u) ≡ other) → NoneBetween u other index (from + 1)
-  none_from_last from begin index later f absent =
-      NoneBetween-append u other index (index + 1) (from + 1)
-      (λ j after below there. absent (subst (λ i. take (length other) (drop i u) ≡ other) (omega (arith, after, below)) there.there))
-      (NoneBetween-append u other (index + 1) (begin + 1) (from + 1) (none_before_last begin index f) later)
-
-  pub none_to : (from begin : ℕ) → NoneBetween u other (begin + 1) (from + 1) → ((k : ℕ) → k ≤ begin → ¬ (OccursAt u head k))
-      → (k : ℕ) → k ≤ from → ¬ (OccursAt u other k)
-  none_to from begin later none k before there = elim (cases_lt begin k) [
-    | inl h ↦ later k (omega (arith, h)) (omega (arith, before)) there
-    | inr h ↦ none k h (part_occurs k there)
-  ]
 
 -- the units after the first part of a list
 pub rest_of_part : (a x u : List ℕ) (p n : ℕ) → a ++ x ≡ drop p u → length a ≡ n → x ≡ drop (p + n) u
