@@ -104,6 +104,11 @@ int main(int argc, char **argv) {
     COUNT_OK(push_slice, wtf8_push_slice(&part, &same, index, index + FEW));
     COUNT_OK(reserve_bytes, wtf8_reserve_bytes(&s, 99));
 
+    /* Linear in what they are given and the bytes after it. */
+    COUNT_OK(insert_units, wtf8_insert_units(&s, n - FEW, units, FEW));
+    COUNT_OK(replace_units, wtf8_replace_units(&s, n - FEW, n, other, FEW));
+    COUNT_OK(remove_units, wtf8_remove_units(&s, n - FEW, n));
+
     /* Linear in what they hand out. */
     COUNT_OK(copy_slice, wtf8_copy_slice(&same, index, index + FEW, out, FEW, &len));
     COUNT_OK(slice_units, wtf8_slice_units(&part, &same, index, index + FEW));
