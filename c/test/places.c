@@ -122,6 +122,30 @@ static void ask(const wtf8_string *string, size_t place) {
     must(position == after_surrogate && unit == surrogate, "the first surrogate");
 }
 
+/* Takes units out of the string of the list and puts them in again: the one at `place`, and all after the middle. */
+static void edit(wtf8_string *string, const wtf8_string *of, uint64_t hash, size_t place) {
+    size_t n = list.n, middle = place < n ? place : n / 2, end = place < n ? place + 1 : n;
+    must(wtf8_set_string(string, of) == WTF8_OK && wtf8_remove_units(string, middle, end) == WTF8_OK, "remove_units");
+    must(wtf8_unit_len(string) == n - (end - middle), "the length without some units");
+    must(wtf8_starts_with_units(string, 0, list.units, middle), "the units before the removed ones");
+    must(wtf8_starts_with_units(string, middle, list.units + end, n - end), "the units after the removed ones");
+    must(wtf8_insert_units(string, middle, list.units + middle, end - middle) == WTF8_OK, "insert_units");
+    must_be_list(string, hash, "a string with units inserted");
+    must(wtf8_replace_units(string, middle, n, list.units, middle) == WTF8_OK, "replace_units");
+    must(wtf8_replace_units(string, middle, 2 * middle, list.units + middle, n - middle) == WTF8_OK, "replace_units again");
+    must_be_list(string, hash, "a string with units replaced");
+}
+
+/* Finds the unit at `place`, and the units from there on. */
+static void find(const wtf8_string *string, size_t place) {
+    size_t first = 0, index = SPARE;
+    if (place >= list.n) return;
+    while (list.units[first] != list.units[place]) first++;
+    must(wtf8_find_units(string, 0, list.units + place, 1, &index) == WTF8_OK && index == first, "find_units of a unit");
+    must(wtf8_find_units(string, place, list.units + place, list.n - place, &index) == WTF8_OK && index == place, "find_units at an index");
+    must(wtf8_rfind_units(string, place, list.units + place, 1, &index) == WTF8_OK && index == place, "rfind_units of a unit");
+}
+
 static void units(size_t place) {
     static wtf8_string new, set, roomy;
     uint64_t hash = hash_of(&list, 1, 2);
@@ -147,6 +171,8 @@ static void units(size_t place) {
     }
     wtf8_clear(&roomy);
     must(wtf8_push_string(&roomy, &new) == WTF8_OK && wtf8_equal(&roomy, &new), "push_string");
+    edit(&roomy, &new, hash, place);
+    find(&new, place);
     if (after_surrogate == 0) {
         must(wtf8_set_utf8(&set, bytes, len, NULL) == WTF8_OK, "set_utf8");
         must_be_list(&set, hash, "a string set to a text");
@@ -154,17 +180,27 @@ static void units(size_t place) {
         must(wtf8_push_utf8(&roomy, bytes, len, NULL) == WTF8_OK, "push_utf8");
         must_be_list(&roomy, hash, "a pushed text");
         must(wtf8_equal_utf8(&new, bytes, len) && wtf8_hash_utf8(bytes, len, 1, 2) == hash, "equal_utf8, hash_utf8");
+        size_t count = SPARE;
+        must(wtf8_utf8_unit_len(bytes, len, &count, NULL) == WTF8_OK && count == n, "utf8_unit_len");
     }
     size_t latin = 0;
     while (latin < n && list.units[latin] < 0x100) {
         out_bytes[latin] = (uint8_t)list.units[latin];
         latin++;
     }
+    must(wtf8_is_latin1(&new) == (latin == n) && wtf8_is_ascii(&new) == (len == n), "is_latin1, is_ascii");
     if (latin == n) {
         wtf8_clear(&roomy);
         must(wtf8_push_latin1(&roomy, out_bytes, n) == WTF8_OK, "push_latin1");
         must_be_list(&roomy, hash, "a pushed text of Latin-1");
+        must(wtf8_set_latin1(&set, out_bytes, n) == WTF8_OK, "set_latin1");
+        must_be_list(&set, hash, "a string set to a text of Latin-1");
     }
+    size_t count = SPARE, valid = SPARE;
+    guard();
+    wtf8_result code = wtf8_copy_latin1(&new, out_bytes, n, &count, &valid);
+    must(latin == n ? code == WTF8_OK && count == n : code == WTF8_NOT_LATIN1 && valid == latin, "copy_latin1");
+    for (size_t i = 0; i < n + GUARD; i++) must(out_bytes[i] == (latin == n && i < n ? list.units[i] : 0x5A), "the bytes of Latin-1");
 }
 
 /* What a walk over UTF-8 finds: how many bytes at the front are right, and how many after them are wrong together, or 0 if
@@ -194,8 +230,26 @@ static const char *const sequences[] = {
     "\xE1", "\xF0\x90", "\xF4"};
 enum { SEQUENCES = sizeof sequences / sizeof sequences[0] };
 
+/* Writes a text with U+FFFD for each part that is not UTF-8, an unfinished end too, and returns its length. */
+static size_t replaced(const uint8_t *of, size_t n, uint8_t *to) {
+    size_t size = 0;
+    for (size_t at = 0, wrong; at < n; at += wrong) {
+        size_t right = right_bytes(of + at, n - at, &wrong);
+        memcpy(to + size, of + at, right);
+        size += right, at += right;
+        if (at < n && wrong == 0) wrong = n - at;
+        if (at < n) size += encode(0xFFFD, to + size);
+    }
+    return size;
+}
+
 static void text(const uint8_t *of, size_t n) {
     static wtf8_string string, part;
+    static uint8_t with_replacement[6 * MOST];
+    size_t size = replaced(of, n, with_replacement);
+    wtf8_clear(&part);
+    must(wtf8_push_utf8_lossy(&part, of, n) == WTF8_OK && wtf8_byte_len(&part) == size, "push_utf8_lossy");
+    must(wtf8_equal_utf8(&part, with_replacement, size), "a text with replacement");
     size_t wrong, right = right_bytes(of, n, &wrong), used = 77, bad = 77, valid = 77;
     texts++;
     wtf8_clear(&string);
