@@ -1,7 +1,9 @@
 /* Makes a string of a text again ("in"), anew ("new") or of its bytes in UTF-8 ("text"), copies its units ("out") or its
  * code points ("points") out, empties it and appends an equal one ("append") or its units ("push"), compares it with an
  * equal one by bytes ("equal"), by units ("order") or as a front ("prefix"), or with its units ("same", "with"), hashes
- * these ("hashed"), asks for its length ("length"), for the unit in the middle ("unit"), its position ("at") or the
+ * these ("hashed"), finds its last 12 units ("find"), inserts 12 in the middle and removes them ("edit"), appends its bytes
+ * but the last one to an empty string with U+FFFD for what is no UTF-8 ("lossy"), copies its text in Latin-1 out ("latin1"),
+ * asks for its length ("length"), for the unit in the middle ("unit"), its position ("at") or the
  * index of that ("before"), or whether a string ("starts") or an array ("begins") of 12 units stands there, copies 64
  * units from there ("part") or appends them to an empty string ("slice"), or walks a step, from the start again after the
  * end ("next"), or back ("back"). "marked" before one of these marks the string. The input says which, for which text or
@@ -30,10 +32,11 @@ static void fill(const char *text, uint16_t *units, size_t n) {
     else for (size_t i = 0; i < n; i++) units[i] = unit_of(text, i);
 }
 
-enum call { IN, OUT, APPEND, EQUAL, ORDER, LENGTH, UNIT, PART, PUSH, SAME, WITH, AT, BEFORE, STARTS, BEGINS, SLICE, NEXT, BACK, PREFIX, HASHED, POINTS, TEXT, NEW };
+enum call { IN, OUT, APPEND, EQUAL, ORDER, LENGTH, UNIT, PART, PUSH, SAME, WITH, AT, BEFORE, STARTS, BEGINS, SLICE, NEXT, BACK, PREFIX, HASHED, POINTS, TEXT,
+            FIND, EDIT, LOSSY, LATIN1, NEW };
 static const char *const names[] = {"in", "out", "append", "equal", "order", "length", "unit", "part", "push", "same", "with",
                                     "at", "before", "starts", "begins", "slice", "next", "back", "prefix", "hashed", "points", "text",
-                                    "new"};
+                                    "find", "edit", "lossy", "latin1", "new"};
 
 /* A loop of its own, so that nothing but the call is in it. */
 #define REPEAT(is_bad) for (size_t i = 0; i < rounds; i++) if (is_bad) bad++; break
@@ -78,6 +81,14 @@ int main(void) {
         case TEXT:
             bad += wtf8_copy_utf8(&string, bytes, sizeof bytes, &len) != WTF8_OK;
             REPEAT(wtf8_set_utf8(&string, bytes, len, NULL) != WTF8_OK);
+        case FIND: REPEAT(count < 12 || wtf8_find_units(&string, 0, units + count - 12, 12, &at) != WTF8_OK || at != count - 12);
+        case EDIT:
+            bad += wtf8_reserve_bytes(&string, 99) != WTF8_OK;
+            REPEAT(wtf8_insert_units(&string, count / 2, units, 12) + wtf8_remove_units(&string, count / 2, count / 2 + 12) != WTF8_OK);
+        case LOSSY:
+            bad += wtf8_copy_utf8(&string, bytes, sizeof bytes, &len) != WTF8_OK;
+            REPEAT((wtf8_clear(&part), wtf8_push_utf8_lossy(&part, bytes, len - 1) != WTF8_OK));
+        case LATIN1: REPEAT(wtf8_copy_latin1(&string, bytes, sizeof bytes, &len, NULL) != WTF8_OK);
         case SAME: REPEAT(!wtf8_equal_units(&string, units, count));
         case WITH: REPEAT(wtf8_compare_with_units(&string, units, count) != 0);
         case AT: REPEAT(wtf8_position_at(&string, count / 2, &at) != WTF8_OK);
