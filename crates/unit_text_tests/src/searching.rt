@@ -308,7 +308,10 @@ fn units_and_strings_are_found(rt: HostRuntime) {
     let mut number = 0usize;
     for row in &ROWS {
         assert!(rt; is_row_right(rt.alloc(), row), "row {number}");
-        assert!(rt; is_row_right_of_text(rt.alloc(), row), "row {number} of a text");
+        assert!(rt;
+            is_row_right_of_text(rt.alloc(), row),
+            "row {number} of a text"
+        );
         number = number.wrapping_add(1);
     }
 }

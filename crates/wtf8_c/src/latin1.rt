@@ -82,10 +82,7 @@ fn high_count(bytes: &[u8]) -> usize
 
 /// Appends the code points of at most `N` bytes.
 #[inline(always)]
-fn push_chunk<const N: usize>(
-    buf: &mut IndexedBuf<Global>,
-    bytes: &[u8],
-) -> Result<(), AllocError>
+fn push_chunk<const N: usize>(buf: &mut IndexedBuf<Global>, bytes: &[u8]) -> Result<(), AllocError>
     requires part { N < 2 ^ 16 }
     requires within { length bytes.now ≤ N }
     ensures ok { OnOk result (AppendsUnits buf.old bytes.now buf.new) }
