@@ -426,16 +426,17 @@ wtf8_result wtf8_slice_units(wtf8_string *into, const wtf8_string *string, size_
  * capacity is never refused, and each makes at most one request, but for marks: those after the index are made anew.
  */
 
-/* Inserts `n` units before the one at `index`. Codes: OK, NO_MEMORY, BAD_POSITION (`index` is greater than the length). */
+/* Inserts `n` units before the one at `index`. Codes: OK, NO_MEMORY, BAD_POSITION (`index` is greater than the length).
+ * Since 0.2.0. */
 WTF8_CODE WTF8_CHANGES(1) WTF8_READS(3, 4)
 wtf8_result wtf8_insert_units(wtf8_string *string, size_t index, const uint16_t *units, size_t n);
 
 /* Removes the units from `begin` to before `end`. Codes: OK, NO_MEMORY, BAD_POSITION (`begin` is greater than `end`, or
- * `end` than the length). */
+ * `end` than the length). Since 0.2.0. */
 WTF8_CODE WTF8_CHANGES(1)
 wtf8_result wtf8_remove_units(wtf8_string *string, size_t begin, size_t end);
 
-/* Replaces the units from `begin` to before `end` by `n` units. Codes: as of wtf8_remove_units. */
+/* Replaces the units from `begin` to before `end` by `n` units. Codes: as of wtf8_remove_units. Since 0.2.0. */
 WTF8_CODE WTF8_CHANGES(1) WTF8_READS(4, 5)
 wtf8_result wtf8_replace_units(wtf8_string *string, size_t begin, size_t end, const uint16_t *units, size_t n);
 
