@@ -174,7 +174,7 @@ impl<A: Allocator> UnitText<A> {
         self.buf.push_unit(unit)
     }
 
-    /// Appends code units. If memory is refused, the text is unchanged; no units are never refused.
+    /// Appends code units. If memory is refused, the text is unchanged; an empty list is never refused.
     pub fn push_units(&mut self, units: &[u16]) -> Result<(), AllocError>
         ensures ok { OnOk result (self.new ≡ self.old ++ units.now) }
         ensures err { OnErr result (self.new ≡ self.old) }

@@ -42,11 +42,11 @@ pub(crate) const SAME: i32 = 0;
 pub(crate) const AFTER: i32 = 1;
 
 /// The code of a call that fails only if memory is refused.
-pub(crate) fn code_of(asked: Result<(), AllocError>) -> i32
-    ensures ok { result ≡ OK ↔ IsOk asked }
-    ensures memory { result ≡ NO_MEMORY ↔ IsErr asked }
+pub(crate) fn code_of(outcome: Result<(), AllocError>) -> i32
+    ensures ok { result ≡ OK ↔ IsOk outcome }
+    ensures memory { result ≡ NO_MEMORY ↔ IsErr outcome }
 {
-    match asked {
+    match outcome {
         Ok(()) => OK,
         Err(_) => NO_MEMORY,
     }

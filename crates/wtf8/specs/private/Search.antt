@@ -37,12 +37,12 @@ pub record IsMismatch (w v : List ℕ) (i : ℕ) : Type 0 where
   pub differ_there : i < length w → i < length v → slice_index w i ≢ slice_index v i
 
 -- Bit `k` of the mask is set if the unit `k` is not ASCII.
-abbrev pub IsLetterMask : ℕ → List ℕ → Type 0
-IsLetterMask bits u = bits ≡ mask_l (map (leb 0x80) u)
+abbrev pub IsNonAsciiMask : ℕ → List ℕ → Type 0
+IsNonAsciiMask bits u = bits ≡ mask_l (map (leb 0x80) u)
 
 -- The unit is not ASCII, and below the surrogates.
-abbrev pub IsLetter : ℕ → Type 0
-IsLetter n = (0x80 ≤ n) × (n < 0xD800)
+abbrev pub IsTwoOrThreeBytes : ℕ → Type 0
+IsTwoOrThreeBytes n = (0x80 ≤ n) × (n < 0xD800)
 
 -- The numbers of the two lists at index `i` differ.
 abbrev pub DifferAt : List ℕ → List ℕ → ℕ → Type 0

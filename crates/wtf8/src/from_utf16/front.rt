@@ -5,8 +5,8 @@ ghost use Rattle.wtf8.specs.UnitPosition.{DividesPair};
 ghost use Rattle.wtf8.specs.private.Prefixes.{ReadsOn};
 
 use crate::from_utf16::kernel::{self, MIN_SPARE};
-use crate::from_utf16::transcode::MOST_POINT_BYTES;
-use crate::from_utf16::{BLOCK_UNITS, HALF_BLOCK, Progress, QUARTER_BLOCK, TWO_BLOCKS, few};
+use crate::from_utf16::transcode::MAX_POINT_BYTES;
+use crate::from_utf16::{BLOCK_UNITS, HALF_BLOCK, Progress, QUARTER_BLOCK, TWO_BLOCKS, on_stack};
 use crate::lanes::ascii::{ascii_run_len, narrow_saturating};
 use std::simd::prelude::*;
 
@@ -63,7 +63,7 @@ fn write_run<const N: usize>(
     if to.at == from.at + N {
         return (end, to);
     }
-    few::write_point(v, to, out, end)
+    on_stack::write_point(v, to, out, end)
 }
 
 /// Writes blocks at index `len`, of units that begin with one that is not ASCII.
@@ -91,12 +91,12 @@ fn write_next(v: &[u16], from: Progress, out: &mut [u8], len: usize) -> (usize, 
 {
     let left = v.len() - from.at;
     if left < QUARTER_BLOCK || out.len() - len < MIN_SPARE {
-        return few::write_point(v, from, out, len);
+        return on_stack::write_point(v, from, out, len);
     }
     if 0x80 <= v[from.at] {
         if v[from.at + 1] < 0x80 || v[from.at + 2] < 0x80 {
             // ASCII that follows soon is most often a run.
-            return few::write_point(v, from, out, len);
+            return on_stack::write_point(v, from, out, len);
         }
         return write_blocks(v, from, out, len);
     }
@@ -130,7 +130,7 @@ pub fn encode_front(units: &[u16], out: &mut [u8]) -> EncodedFront
     ensures len { length out.new ≡ length out.old }
 {
     let least = if out.len() < MIN_SPARE {
-        MOST_POINT_BYTES
+        MAX_POINT_BYTES
     } else {
         MIN_SPARE
     };

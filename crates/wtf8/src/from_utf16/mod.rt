@@ -1,9 +1,9 @@
 // Encodes UTF-16 code units as WTF-8. In a string, by the units that are left:
 //
 //     4 to 31, a whole list of ASCII      `short_ascii`: two blocks, which may overlap
-//     at most 12, a whole list            `few`: on the stack, one code point at a time
-//     to 31, to 128 if no ASCII run       `few`, only of a new string: on the stack, as blocks
-//     32 or more, the first one ASCII     the ASCII run; then `letters` if few are not ASCII, one code point, or blocks
+//     at most 12, a whole list            `on_stack`: one code point at a time
+//     to 31, to 128 if no ASCII run       `on_stack`, only of a new string: as blocks
+//     32 or more, the first one ASCII     the ASCII run; then `sparse` if few are not ASCII, one code point, or blocks
 //     4 to 31, the first two ASCII        the ASCII run and the code point after it
 //     4 or more, others                   `kernel`: blocks, of which the last may have fewer units than the others
 //     at most 3                           `decode`, the plain form of the conversion: one code point at a time
@@ -11,13 +11,13 @@
 // In a slice `front` goes by the first four units alone.
 pub(crate) mod decode;
 pub(crate) mod encoded_len;
-pub(crate) mod few;
 pub(crate) mod front;
 pub(crate) mod kernel;
-pub(crate) mod letters;
+pub(crate) mod on_stack;
 pub(crate) mod room;
 pub(crate) mod short_ascii;
 pub(crate) mod shuffle_table;
+pub(crate) mod sparse;
 pub(crate) mod transcode;
 
 /// The number of units that are encoded together: the 16-bit lanes of a vector of 32 bytes, or of two of 16.

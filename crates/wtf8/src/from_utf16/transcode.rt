@@ -2,30 +2,30 @@
 // or one code point. `decode_utf16` decodes the last ones, fewer than `QUARTER_BLOCK`.
 ghost use Rattle.std.specs.Prelude.{◌≡◌, ℕ, List, [], ◌++◌, ◌+◌, ◌<◌, ◌≤◌, ◌⊎◌, length, take, drop, vec_capacity, IfOk, IsOk};
 ghost use Rattle.wtf8.specs.private.Prefixes.{IsKnownForm, IsReadTo, ReadsOn, HasRoomFrom};
-ghost use Rattle.wtf8.specs.private.Search.{IsLetterMask};
+ghost use Rattle.wtf8.specs.private.Search.{IsNonAsciiMask};
 
 use crate::codec::code_point::CodePoint;
 use crate::codec::encoding;
 use crate::from_utf16::kernel::{self, MIN_SPARE};
-use crate::from_utf16::letters::{LETTERS_SPARE, append_letters, is_letter};
 use crate::from_utf16::room::{Growth, make_room, may_be_ascii, reserve_ascii};
 use crate::from_utf16::short_ascii::{self, is_short_ascii};
+use crate::from_utf16::sparse::{SPARSE_SPARE, append_sparse, is_two_or_three_bytes};
 use crate::from_utf16::{
-    BLOCK_UNITS, HALF_BLOCK, Progress, QUARTER_BLOCK, TWO_BLOCKS, decode, few,
+    BLOCK_UNITS, HALF_BLOCK, Progress, QUARTER_BLOCK, TWO_BLOCKS, decode, on_stack,
 };
 use crate::lanes::ascii::{first_not_ascii, narrow_saturating};
 use crate::vec::spare_capacity;
 use std::alloc::{AllocError, Allocator};
 use std::simd::prelude::*;
 
-/// With at least this number of groups of letters among `TWO_BLOCKS` units, blocks are cheaper than runs; a group is units
-/// side by side that are not ASCII. With 3 in place of 2, an accent in 13 letters takes 1.3 to 1.5 of the time. If a pair
+/// With at least this number of groups of units side by side that are not ASCII, among `TWO_BLOCKS` units, blocks are
+/// cheaper than runs. With 3 in place of 2, an accent in 13 letters takes 1.3 to 1.5 of the time. If a pair
 /// counted as two, one in 23 units would take twice the time.
-const SOME_GROUPS: u32 = 2;
+const MIN_GROUPS_FOR_BLOCKS: u32 = 2;
 
 /// If at most this number of `TWO_BLOCKS` units are not ASCII, each is encoded by itself, at the index that their mask
 /// gives. With 4 in place of 3, two side by side after each 14 ASCII units take 1.4 to 1.6 of the time.
-const FEW_LETTERS: u32 = 3;
+const MAX_SPARSE: u32 = 3;
 
 /// The size in bytes of the kernel's scratch buffer while `TWO_BLOCKS` or more units are left: room for ten blocks.
 const SCRATCH_BYTES: usize = 512;
@@ -44,10 +44,10 @@ const STACK_UNITS: usize = 128;
 const STACK_BYTES: usize = 448;
 
 /// The most bytes of a code point.
-pub(crate) const MOST_POINT_BYTES: usize = 4;
+pub(crate) const MAX_POINT_BYTES: usize = 4;
 
 /// The most bytes that a code unit adds.
-const MOST_BYTES: usize = 3;
+const MAX_UNIT_BYTES: usize = 3;
 
 #[inline(always)]
 fn append_point<A: Allocator>(
@@ -63,7 +63,7 @@ fn append_point<A: Allocator>(
     ensures room { HasRoomFrom bytes.old v.now from.at from.is_utf8 → IsOk result }
     ensures capacity { vec_capacity bytes.old ≤ vec_capacity bytes.new }
 {
-    make_room(bytes, v, from.at, 0, MOST_POINT_BYTES, growth)?;
+    make_room(bytes, v, from.at, 0, MAX_POINT_BYTES, growth)?;
     let unit = v[from.at];
     if unit < 0x800 {
         // Letters of most alphabets: never a surrogate, and at most two bytes.
@@ -92,7 +92,7 @@ fn append_front<const N: usize, A: Allocator>(
     ensures order { IfOk result (λ r. (from.at ≤ r.0.at) × (r.0.at ≤ from.at + N)) }
     ensures read { IfOk result (λ r. ReadsOn bytes.old.items bytes.new.items v.now from.at from.is_utf8 r.0.at r.0.is_utf8) }
     ensures begins { take (length bytes.old.items) bytes.new.items ≡ bytes.old.items }
-    ensures letters { IfOk result (λ r. (r.1 ≡ 0) ⊎ IsLetterMask r.1 (take N (drop from.at v.now))) }
+    ensures non_ascii { IfOk result (λ r. (r.1 ≡ 0) ⊎ IsNonAsciiMask r.1 (take N (drop from.at v.now))) }
     ensures room { HasRoomFrom bytes.old v.now from.at from.is_utf8 → IsOk result }
     ensures capacity { vec_capacity bytes.old ≤ vec_capacity bytes.new }
 {
@@ -156,16 +156,16 @@ fn append_ascii_blocks<A: Allocator>(
     ensures order { IfOk result (λ r. (from.at ≤ r.0) × (r.0 ≤ r.1.at) × (r.1.at ≤ r.0 + TWO_BLOCKS) × (r.0 + TWO_BLOCKS ≤ length v.now)) }
     ensures read { IfOk result (λ r. ReadsOn bytes.old.items bytes.new.items v.now from.at from.is_utf8 r.1.at r.1.is_utf8) }
     ensures begins { take (length bytes.old.items) bytes.new.items ≡ bytes.old.items }
-    ensures letters { IfOk result (λ r. (r.2 ≡ 0) ⊎ IsLetterMask r.2 (take TWO_BLOCKS (drop r.0 v.now))) }
+    ensures non_ascii { IfOk result (λ r. (r.2 ≡ 0) ⊎ IsNonAsciiMask r.2 (take TWO_BLOCKS (drop r.0 v.now))) }
     ensures room { HasRoomFrom bytes.old v.now from.at from.is_utf8 → IsOk result }
     ensures capacity { vec_capacity bytes.old ≤ vec_capacity bytes.new }
 {
     let mut read = from;
     loop {
-        let (to, letters) = append_front::<TWO_BLOCKS, A>(bytes, v, read)?;
-        let is_full = letters == 0 && to.at != read.at;
+        let (to, non_ascii) = append_front::<TWO_BLOCKS, A>(bytes, v, read)?;
+        let is_full = non_ascii == 0 && to.at != read.at;
         if !is_full || v.len() - to.at < TWO_BLOCKS || 0x80 <= v[to.at] {
-            return Ok((read.at, to, letters));
+            return Ok((read.at, to, non_ascii));
         }
         read = to;
     }
@@ -192,19 +192,19 @@ fn append_next<A: Allocator>(
         if spare_capacity(bytes) < TWO_BLOCKS {
             return append_point(bytes, v, from, growth);
         }
-        let (at, front, letters) = append_ascii_blocks(bytes, v, from)?;
+        let (at, front, non_ascii) = append_ascii_blocks(bytes, v, from)?;
         to = front;
         if to.at == at + TWO_BLOCKS {
             return Ok(to);
         }
-        let are_few = letters != 0 && letters.count_ones() <= FEW_LETTERS;
-        if are_few && is_letter(v[to.at]) && 2 * TWO_BLOCKS <= v.len() - at {
-            if LETTERS_SPARE <= spare_capacity(bytes) {
-                return Ok(append_letters(bytes, v, to, at, letters));
+        let are_sparse = non_ascii != 0 && non_ascii.count_ones() <= MAX_SPARSE;
+        if are_sparse && is_two_or_three_bytes(v[to.at]) && 2 * TWO_BLOCKS <= v.len() - at {
+            if SPARSE_SPARE <= spare_capacity(bytes) {
+                return Ok(append_sparse(bytes, v, to, at, non_ascii));
             }
         }
-        let groups = (letters & !(letters << 1)).count_ones();
-        if groups < SOME_GROUPS || v.len() - to.at < QUARTER_BLOCK {
+        let groups = (non_ascii & !(non_ascii << 1)).count_ones();
+        if groups < MIN_GROUPS_FOR_BLOCKS || v.len() - to.at < QUARTER_BLOCK {
             return append_point(bytes, v, to, growth);
         }
     } else if v[from.at + 1] < 0x80 || v[from.at + 2] < 0x80 {
@@ -316,7 +316,7 @@ pub(crate) fn append_utf16<A: Allocator>(
         v,
         read.at,
         0,
-        MOST_BYTES * (v.len() - read.at),
+        MAX_UNIT_BYTES * (v.len() - read.at),
         growth,
     )?;
     append_rest(bytes, v, read)
@@ -333,10 +333,10 @@ pub(crate) fn encode<A: Allocator>(alloc: A, v: &[u16]) -> Result<(Vec<u8, A>, b
         return Ok((narrowed, true));
     }
     if v.len() < TWO_BLOCKS {
-        return few::encode::<SHORT_BYTES, A>(alloc, v);
+        return on_stack::encode::<SHORT_BYTES, A>(alloc, v);
     }
     if v.len() <= STACK_UNITS && (0x80 <= v[0] || 0x80 <= v[1]) {
-        return few::encode::<STACK_BYTES, A>(alloc, v);
+        return on_stack::encode::<STACK_BYTES, A>(alloc, v);
     }
     let room = if may_be_ascii(v) { v.len() } else { 0 };
     let mut bytes = Vec::with_capacity(alloc, room)?;

@@ -33,11 +33,11 @@ fn follows_in_block(bytes: &[u8], at: usize) -> usize
     let second = u8x32::from_slice(&bytes[at + 1..]);
     let first = u8x32::from_slice(&bytes[at + 2..]);
     let bytes = u8x32::from_slice(&bytes[at + 3..]);
-    let asked = first.simd_ge(Simd::splat(0xC0))
+    let expected = first.simd_ge(Simd::splat(0xC0))
         | second.simd_ge(Simd::splat(0xE0))
         | third.simd_ge(Simd::splat(0xF0));
     let continues = bytes.simd_ge(Simd::splat(0x80)) & bytes.simd_lt(Simd::splat(0xC0));
-    let leads_nothing = bytes.simd_ge(Simd::splat(0xC0)) & bytes.simd_lt(Simd::splat(0xC2))
+    let invalid_lead = bytes.simd_ge(Simd::splat(0xC0)) & bytes.simd_lt(Simd::splat(0xC2))
         | bytes.simd_ge(Simd::splat(0xF5));
     let not_after_three = bytes
         .simd_ge(Simd::splat(0xA0))
@@ -46,7 +46,7 @@ fn follows_in_block(bytes: &[u8], at: usize) -> usize
         .simd_ge(Simd::splat(0x90))
         .select(u8x32::splat(0xF4), u8x32::splat(0xF0));
     let out_of_range = first.simd_eq(not_after_three) | first.simd_eq(not_after_four);
-    let wrong = (asked ^ continues) | leads_nothing | out_of_range;
+    let wrong = (expected ^ continues) | invalid_lead | out_of_range;
     first_set_lane(wrong.to_bitmask()).unwrap_or(BLOCK)
 }
 

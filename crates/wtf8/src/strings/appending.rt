@@ -12,7 +12,7 @@ ghost use Rattle.wtf8.specs.View.{view_points, view_units};
 
 use crate::codec::code_point::{CodePoint, FIRST_TRAIL, code_point_of_pair, is_trail};
 use crate::codec::encoding;
-use crate::from_utf16::few::{self, FEW_UNITS};
+use crate::from_utf16::on_stack::{self, MAX_ONE_BY_ONE};
 use crate::from_utf16::room::Growth;
 use crate::from_utf16::short_ascii::{self, is_short_ascii};
 use crate::from_utf16::{Progress, transcode};
@@ -353,10 +353,10 @@ pub(crate) fn push_units<A: Allocator>(
     }
     let len = bytes.len();
     let is_utf8 = len <= utf8_prefix.len;
-    if FEW_UNITS < v.len() || may_complete_lead(is_utf8, v) {
+    if MAX_ONE_BY_ONE < v.len() || may_complete_lead(is_utf8, v) {
         return push_utf16(bytes, v, utf8_prefix);
     }
-    let is_utf8 = few::append(bytes, v, is_utf8)?;
+    let is_utf8 = on_stack::append(bytes, v, is_utf8)?;
     if !is_utf8 {
         *utf8_prefix = utf8_prefix.up_to(len);
     }

@@ -18,7 +18,7 @@ use std::alloc::{AllocError, Allocator};
 const REPLACEMENT: [u8; 3] = [0xEF, 0xBF, 0xBD];
 
 /// The most bytes of an unfinished code point.
-const MOST_UNFINISHED: usize = 3;
+const MAX_UNFINISHED: usize = 3;
 
 fn write_replacement(bytes: &mut [u8], at: usize)
     requires { at + 3 ≤ length bytes.old }
@@ -105,9 +105,9 @@ fn is_unfinished(text: &[u8]) -> bool
 /// the lead bytes.
 pub(crate) fn finished_len(text: &[u8]) -> usize
     ensures all { LeavesUnfinished text.now result }
-    ensures few { length text.now ≤ result + MOST_UNFINISHED }
+    ensures few { length text.now ≤ result + MAX_UNFINISHED }
 {
-    let first = text.len().saturating_sub(MOST_UNFINISHED);
+    let first = text.len().saturating_sub(MAX_UNFINISHED);
     let mut at = text.len();
     while first < at {
         at -= 1;

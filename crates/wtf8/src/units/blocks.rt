@@ -17,7 +17,7 @@ const FRONTS_OF_FOURS: [usize; 16] = [0, 1, 4, 5, 8, 9, 12, 13, 16, 17, 20, 21, 
 const BACKS_OF_FOURS: [usize; 16] = [2, 3, 6, 7, 10, 11, 14, 15, 18, 19, 22, 23, 26, 27, 30, 31];
 
 /// Leads and trails by turns.
-const BY_TURNS: [usize; 16] = [0, 8, 1, 9, 2, 10, 3, 11, 4, 12, 5, 13, 6, 14, 7, 15];
+const INTERLEAVE: [usize; 16] = [0, 8, 1, 9, 2, 10, 3, 11, 4, 12, 5, 13, 6, 14, 7, 15];
 
 /// Code points of one encoded length, which have `N` units in `BYTES` bytes.
 pub(crate) trait EncodedLength<const N: usize, const BYTES: usize> {
@@ -95,7 +95,7 @@ fn read_eight_fours(bytes: u8x32) -> (u16x8, [u16; 16])
     let trails = backs % u16x8::splat(16) * u16x8::splat(64)
         + backs / u16x8::splat(256) % u16x8::splat(64)
         + u16x8::splat(0xDC00);
-    let units: u16x16 = leads.shuffle(trails, BY_TURNS);
+    let units: u16x16 = leads.shuffle(trails, INTERLEAVE);
     (fronts % u16x8::splat(256), units.to_array())
 }
 

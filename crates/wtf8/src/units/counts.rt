@@ -22,7 +22,7 @@ const SUMMED_BLOCKS: usize = 8;
 const NO_UNIT: usize = usize::MAX;
 
 /// The fewest units that can begin in `SUMMED_BLOCKS` blocks: a unit takes at most three bytes.
-const LEAST_UNITS_SUMMED: usize = SUMMED_BLOCKS * BLOCK / 3;
+const MIN_UNITS_SUMMED: usize = SUMMED_BLOCKS * BLOCK / 3;
 
 /// A byte index, which need not be a boundary, and the number of units of the code points that begin before it.
 #[derive(Clone, Copy)]
@@ -102,7 +102,7 @@ pub(crate) fn skip_block<const N: usize>(
     })
 }
 
-/// Skips groups of blocks while the unit is at least `LEAST_UNITS_SUMMED` units ahead.
+/// Skips groups of blocks while the unit is at least `MIN_UNITS_SUMMED` units ahead.
 #[inline(always)]
 #[tactic(auto, using(crate::proofs::lemmas::strings::Positions::sum_utf16_len_take_add))]
 pub(crate) fn skip_summed_blocks(bytes: &[u8], unit: usize, from: UnitCursor) -> UnitCursor
@@ -111,7 +111,7 @@ pub(crate) fn skip_summed_blocks(bytes: &[u8], unit: usize, from: UnitCursor) ->
 {
     let mut position = from.position;
     let mut units = from.units;
-    while SUMMED_BLOCKS * BLOCK <= bytes.len() - position && LEAST_UNITS_SUMMED <= unit - units {
+    while SUMMED_BLOCKS * BLOCK <= bytes.len() - position && MIN_UNITS_SUMMED <= unit - units {
         let more = utf16_len_of_blocks(bytes, position);
         if unit - units < more {
             return UnitCursor { position, units };

@@ -66,7 +66,7 @@ impl<'a> Wtf8<'a> {
         ensures last { RoundsDownTo (view_units self.now) units result.units }
         ensures exact { ¬ (DividesPair (view_units self.now) units) → result.units ≡ units }
     {
-        let start = self.mark_shortly_before(from, units);
+        let start = self.mark_at_most(from, units);
         if start.units == units {
             return start;
         }
@@ -74,7 +74,7 @@ impl<'a> Wtf8<'a> {
     }
 
     /// A mark with at most `units` units before it: back three bytes for each, the most that one takes, to a boundary.
-    fn mark_shortly_before(&self, from: UnitMark, units: usize) -> UnitMark
+    fn mark_at_most(&self, from: UnitMark, units: usize) -> UnitMark
         requires mark { IsMarkOf self.now from }
         requires order { units ≤ from.units }
         ensures mark { IsMarkOf self.now result }

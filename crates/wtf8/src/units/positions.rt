@@ -15,7 +15,7 @@ use crate::units::counts::{
 use std::simd::prelude::*;
 
 /// If the unit searched for is fewer than this many units ahead, it is probably among the next `BLOCK` bytes, and
-/// counting these does not pay: a unit takes at most three bytes. Groups of blocks have `LEAST_UNITS_SUMMED`.
+/// counting these does not pay: a unit takes at most three bytes. Groups of blocks have `MIN_UNITS_SUMMED`.
 const WORTH_BLOCK: usize = BLOCK / 3;
 
 /// The same for `VECTOR` bytes. With 1 in place of 11, `unit_at` of 40 ASCII units takes 102 instructions for 90; with

@@ -38,7 +38,7 @@ const ENDS_OF_FOURS: u64 = 0xCCCC_CCCC;
 
 /// From this number of ASCII bytes at the front of a block on they are decoded apart, and the block after them begins with
 /// the next code point. Else emoji in words take up to 1.8 of the time.
-const LEAST_ASCII_FRONT: usize = 12;
+const MIN_ASCII_FRONT: usize = 12;
 
 /// The part of a view that is not decoded yet, and the index at which its first unit will be written.
 #[derive(Clone, Copy)]
@@ -181,7 +181,7 @@ fn decode_full_blocks<'a, const N: usize, const BYTES: usize, K: EncodedLength<N
 
 /// Decodes the front of a string, which its first 32 bytes choose the way for:
 ///
-/// - 32 ASCII bytes, or `LEAST_ASCII_FRONT` or more: widened at once;
+/// - 32 ASCII bytes, or `MIN_ASCII_FRONT` or more: widened at once;
 /// - two-, three- or four-byte code points alone: full blocks of them, and the 32 bytes after these by positions. All by
 ///   positions take 1.7 to 1.9, four-byte ones 3.5 of the instructions. To choose again after the full blocks takes
 ///   Japanese 1.08;
@@ -202,7 +202,7 @@ fn decode_next<'a>(units: &mut [u16], left: Undecoded<'a>, least: usize) -> Unde
     if count == POSITIONS {
         return write_front(units, left, widen(block), POSITIONS, POSITIONS);
     }
-    if LEAST_ASCII_FRONT <= count {
+    if MIN_ASCII_FRONT <= count {
         return write_front(units, left, widen(block), count, count);
     }
     let rest = match end_positions(block) {

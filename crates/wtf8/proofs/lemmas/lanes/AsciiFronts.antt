@@ -5,7 +5,7 @@ use Rattle.wtf8.proofs.Common.{None, Some, IfSome, tops_compared, zip2, mask_l, 
 use Rattle.wtf8.proofs.Common.{take_all, chunk, length-chunk, get_or-chunk, length-map, sel_l, min, Each1-from_get_or, IsFirstIn}
 use Rattle.wtf8.proofs.Common.{IsFirstSet, IsSet, mask_l-mod, lt-leb, ◌/◌, drop, length-drop, sym, Bool, true, w16, take-take}
 use native.Mathlib.Nat.{pow-suc, mul_comm, zero-div, div-one, div-div-eq-div-mul}
-use Rattle.wtf8.specs.private.Search.{IsLetterMask}
+use Rattle.wtf8.specs.private.Search.{IsNonAsciiMask}
 use Rattle.std.specs.Option.{IfNone}
 use Rattle.std.proofs.lemmas.List.{get_or-map, get_or-take, take-map, drop-map, drop-take, drop-drop}
 use Rattle.std.proofs.lemmas.Simd.{zip2_splat_left, Each1-get_or, Each2-splat, Each1-all}
@@ -32,8 +32,8 @@ module _ (w : Width) (n : ℕ) (xs : List ℕ) (few : n ≤ 64) (long : length x
   non_ascii_mask-mask_l = ap (λ ms. mask_l ms % 2 ^ 64) (tops_compared w leb (replicate n 0x80) xs ∙ zip2_splat_left leb 0x80 n xs long)
 
   -- of saturated units it is the mask of the units that are not ASCII
-  pub letter_mask : (u : List ℕ) → xs ≡ map (λ n. min n 0xFF) u → IsLetterMask non_ascii_mask u
-  letter_mask u e = non_ascii_mask-mask_l ∙ mask_l-mod (map (leb 0x80) xs) 64 (omega (arith, few, long, length-map xs (leb 0x80)))
+  pub unit_mask : (u : List ℕ) → xs ≡ map (λ n. min n 0xFF) u → IsNonAsciiMask non_ascii_mask u
+  unit_mask u e = non_ascii_mask-mask_l ∙ mask_l-mod (map (leb 0x80) xs) 64 (omega (arith, few, long, length-map xs (leb 0x80)))
       ∙ ap mask_l (ap (map (leb 0x80)) e ∙ map-saturated u)
 
   AreAscii-take : (k : ℕ) → k ≤ n → NoneIn (IsSet (map (leb 0x80) xs)) 0 k → AreAscii (take k xs)
@@ -71,8 +71,8 @@ mask_l-drop (suc k) [] = zero-div (2 ^ suc k)
 mask_l-drop (suc k) (m ∷ ms) = ap (λ n. mask_l (m ∷ ms) / n) (pow-suc 2 k ∙ mul_comm (2 ^ k) 2)
     ∙ sym (div-div-eq-div-mul (mask_l (m ∷ ms)) 2 (2 ^ k)) ∙ ap (λ n. n / 2 ^ k) (half_mask m ms) ∙ mask_l-drop k ms
 
--- the units from index `k` on before the next set bit of a letter mask, or before its end, are ASCII
-pub ascii_after : (bits k n : ℕ) (u : List ℕ) (r : Option ℕ) → length u ≡ k + n → k + n ≤ 64 → IsLetterMask bits u → IsFirstSet (bits / 2 ^ k) r
+-- the units from index `k` on before the next set bit of such a mask, or before its end, are ASCII
+pub ascii_after : (bits k n : ℕ) (u : List ℕ) (r : Option ℕ) → length u ≡ k + n → k + n ≤ 64 → IsNonAsciiMask bits u → IsFirstSet (bits / 2 ^ k) r
     → IfNone r (AreAscii (drop k u)) × IfSome r (λ j. (j < n) × AreAscii (take j (drop k u)))
 ascii_after bits k n u r long few mask first =
     let rest = drop k u in

@@ -25,21 +25,21 @@ set_lane a = grind (arith)
 
 -- One lane: of the byte `b` after `z`, `y` and `x`.
 
-abbrev asked : ℕ → ℕ → ℕ → ℕ
-asked z y x = bit_or (bit_or (lane_of_bool (leb 0xC0 x)) (lane_of_bool (leb 0xE0 y))) (lane_of_bool (leb 0xF0 z))
+abbrev expected : ℕ → ℕ → ℕ → ℕ
+expected z y x = bit_or (bit_or (lane_of_bool (leb 0xC0 x)) (lane_of_bool (leb 0xE0 y))) (lane_of_bool (leb 0xF0 z))
 
 abbrev continues : ℕ → ℕ
 continues b = bit_and (lane_of_bool (leb 0x80 b)) (lane_of_bool (ltb b 0xC0))
 
-abbrev leads_nothing : ℕ → ℕ
-leads_nothing b = bit_or (bit_and (lane_of_bool (leb 0xC0 b)) (lane_of_bool (ltb b 0xC2))) (lane_of_bool (leb 0xF5 b))
+abbrev invalid_lead : ℕ → ℕ
+invalid_lead b = bit_or (bit_and (lane_of_bool (leb 0xC0 b)) (lane_of_bool (ltb b 0xC2))) (lane_of_bool (leb 0xF5 b))
 
 abbrev out_of_range : ℕ → ℕ → ℕ
 out_of_range x b = bit_or (lane_of_bool (eqb x (cond (top 7 (lane_of_bool (leb 0xA0 b))) 0xED 0xE0)))
     (lane_of_bool (eqb x (cond (top 7 (lane_of_bool (leb 0x90 b))) 0xF4 0xF0)))
 
 abbrev wrong : ℕ → ℕ → ℕ → ℕ → ℕ
-wrong z y x b = bit_or (bit_or (bit_xor (asked z y x) (continues b)) (leads_nothing b)) (out_of_range x b)
+wrong z y x b = bit_or (bit_or (bit_xor (expected z y x) (continues b)) (invalid_lead b)) (out_of_range x b)
 
 abbrev is_asked : ℕ → ℕ → ℕ → Bool
 is_asked z y x = (leb 0xC0 x || leb 0xE0 y) || leb 0xF0 z

@@ -4,32 +4,32 @@ use Rattle.wtf8.proofs.lemmas.codec.Readings.{lists_have_lengths}
 use Rattle.wtf8.proofs.lemmas.units.Blocks.{begins_with_ascii}
 use Rattle.wtf8.proofs.units.writing.decode_next.Goals as goal
 
-pub write_front-requires-then-count-ge-LEAST_ASCII_FRONT : goal.write_front-requires-then-count-ge-LEAST_ASCII_FRONT
-write_front-requires-then-count-ge-LEAST_ASCII_FRONT c =
+pub write_front-requires-then-count-ge-MIN_ASCII_FRONT : goal.write_front-requires-then-count-ge-MIN_ASCII_FRONT
+write_front-requires-then-count-ge-MIN_ASCII_FRONT c =
     let w = c.args.left.view.bytes.now in
     let form = c.args.left.view.well_formed in
     let n = c.ascii_run_len-count.result in
     let few : n ≤ 32 = c.ascii_run_len-count.ensures.within in
     let within : n ≤ length w = omega (arith, few, c.requires.least) in
-    let block : take n c.widen-then-count-ge-LEAST_ASCII_FRONT.result ≡ take n (take 32 w) = ap (take n) c.widen-then-count-ge-LEAST_ASCII_FRONT.ensures in
+    let block : take n c.widen-then-count-ge-MIN_ASCII_FRONT.result ≡ take n (take 32 w) = ap (take n) c.widen-then-count-ge-MIN_ASCII_FRONT.ensures in
     let front : take n (take 32 w) ≡ take n w = take-take n 32 w few in
-    let ascii : AreAscii (take n c.widen-then-count-ge-LEAST_ASCII_FRONT.result) = subst AreAscii (sym block) c.ascii_run_len-count.ensures.ascii in
-    let begins = begins_with_ascii w (take n c.widen-then-count-ge-LEAST_ASCII_FRONT.result) n within (block ∙ front) ascii in
+    let ascii : AreAscii (take n c.widen-then-count-ge-MIN_ASCII_FRONT.result) = subst AreAscii (sym block) c.ascii_run_len-count.ensures.ascii in
+    let begins = begins_with_ascii w (take n c.widen-then-count-ge-MIN_ASCII_FRONT.result) n within (block ∙ front) ascii in
     let room : c.args.left.at + 32 ≤ length c.args.units.now =
     omega (arith, c.requires.room.1, c.requires.least, ap length form.encoded, (lists_have_lengths form.points).units_most) in
     (omega arith, (omega arith, (room, ((few, within), begins))))
 
-pub returns-then-count-ge-LEAST_ASCII_FRONT-clause-shorter : goal.returns-then-count-ge-LEAST_ASCII_FRONT-clause-shorter
-returns-then-count-ge-LEAST_ASCII_FRONT-clause-shorter c =
+pub returns-then-count-ge-MIN_ASCII_FRONT-clause-shorter : goal.returns-then-count-ge-MIN_ASCII_FRONT-clause-shorter
+returns-then-count-ge-MIN_ASCII_FRONT-clause-shorter c =
     let w = c.args.left.view.bytes.now in
     let n = c.ascii_run_len-count.result in
-    omega (arith, ap length c.write_front-then-count-ge-LEAST_ASCII_FRONT.ensures.bytes, length-drop n w, c.requires.least, c.if-count-ge-LEAST_ASCII_FRONT.true)
+    omega (arith, ap length c.write_front-then-count-ge-MIN_ASCII_FRONT.ensures.bytes, length-drop n w, c.requires.least, c.if-count-ge-MIN_ASCII_FRONT.true)
 
-pub returns-then-count-ge-LEAST_ASCII_FRONT-clause-kept : goal.returns-then-count-ge-LEAST_ASCII_FRONT-clause-kept
-returns-then-count-ge-LEAST_ASCII_FRONT-clause-kept c =
+pub returns-then-count-ge-MIN_ASCII_FRONT-clause-kept : goal.returns-then-count-ge-MIN_ASCII_FRONT-clause-kept
+returns-then-count-ge-MIN_ASCII_FRONT-clause-kept c =
     let w = c.args.left.view.bytes.now in
     let n = c.ascii_run_len-count.result in
-    omega (arith, ap length c.write_front-then-count-ge-LEAST_ASCII_FRONT.ensures.bytes, length-drop n w, c.requires.least, c.ascii_run_len-count.ensures.within)
+    omega (arith, ap length c.write_front-then-count-ge-MIN_ASCII_FRONT.ensures.bytes, length-drop n w, c.requires.least, c.ascii_run_len-count.ensures.within)
 
 pub decode_positions-requires-clause-room : goal.decode_positions-requires-clause-room
 decode_positions-requires-clause-room c =

@@ -1,9 +1,9 @@
-// Encodes a few letters among ASCII units: units from 80 to D7FF. Their indices are read from a mask, so that no load waits
+// Encodes a few non_ascii among ASCII units: units from 80 to D7FF. Their indices are read from a mask, so that no load waits
 // for the letter before it.
 ghost use Rattle.std.specs.Prelude.{◌≡◌, ◌↔◌, ℕ, List, Bool, ◌++◌, ◌+◌, ◌-◌, ◌*◌, ◌<◌, ◌≤◌, length, take, drop, slice_index, vec_capacity, IsTrue, IfNone, IfSome};
 ghost use Rattle.wtf8.specs.Form.{encoding};
 ghost use Rattle.wtf8.specs.private.Prefixes.{AreAscii, ReadsOn};
-ghost use Rattle.wtf8.specs.private.Search.{IsLetter, IsLetterMask};
+ghost use Rattle.wtf8.specs.private.Search.{IsTwoOrThreeBytes, IsNonAsciiMask};
 
 use crate::codec::code_point::FIRST_LEAD;
 use crate::codec::encoding::{three_bytes, two_bytes};
@@ -14,20 +14,20 @@ use crate::vec::push_block;
 use std::alloc::Allocator;
 use std::simd::prelude::*;
 
-/// The spare capacity that `append_letters` needs: three bytes for each unit, and a store of all.
-pub(crate) const LETTERS_SPARE: usize = 4 * TWO_BLOCKS;
+/// The spare capacity that `append_sparse` needs: three bytes for each unit, and a store of all.
+pub(crate) const SPARSE_SPARE: usize = 4 * TWO_BLOCKS;
 
 /// Whether a unit is from 80 to D7FF: neither ASCII, nor a surrogate, nor above the surrogates.
 #[inline(always)]
-pub(crate) fn is_letter(unit: u16) -> bool
-    ensures { IsTrue result ↔ IsLetter unit }
+pub(crate) fn is_two_or_three_bytes(unit: u16) -> bool
+    ensures { IsTrue result ↔ IsTwoOrThreeBytes unit }
 {
     0x80 <= unit && unit < FIRST_LEAD
 }
 
 #[inline(always)]
-fn append_letter<A: Allocator>(bytes: &mut Vec<u8, A>, unit: u16)
-    requires letter { IsLetter unit }
+fn append_two_or_three_bytes<A: Allocator>(bytes: &mut Vec<u8, A>, unit: u16)
+    requires two_or_three_bytes { IsTwoOrThreeBytes unit }
     requires room { length bytes.old.items + 3 ≤ vec_capacity bytes.old }
     ensures items { bytes.new.items ≡ bytes.old.items ++ encoding unit }
     ensures most { length bytes.new.items ≤ length bytes.old.items + 3 }
@@ -42,14 +42,14 @@ fn append_letter<A: Allocator>(bytes: &mut Vec<u8, A>, unit: u16)
 }
 
 /// The number of ASCII units from index `at` on before the next unit that is not ASCII, or `None` if the rest is ASCII.
-/// `letters` is the mask of `TWO_BLOCKS` units.
+/// `non_ascii` is the mask of `TWO_BLOCKS` units.
 #[inline(always)]
-fn next_letter(letters: u64, at: usize) -> Option<usize>
+fn next_non_ascii(non_ascii: u64, at: usize) -> Option<usize>
     requires { at ≤ TWO_BLOCKS }
-    ensures none { (u : List ℕ) → length u ≡ TWO_BLOCKS → IsLetterMask letters u → IfNone result (AreAscii (take (TWO_BLOCKS - at) (drop at u))) }
-    ensures some { (u : List ℕ) → length u ≡ TWO_BLOCKS → IsLetterMask letters u → IfSome result (λ n. (at + n < TWO_BLOCKS) × AreAscii (take n (drop at u))) }
+    ensures none { (u : List ℕ) → length u ≡ TWO_BLOCKS → IsNonAsciiMask non_ascii u → IfNone result (AreAscii (take (TWO_BLOCKS - at) (drop at u))) }
+    ensures some { (u : List ℕ) → length u ≡ TWO_BLOCKS → IsNonAsciiMask non_ascii u → IfSome result (λ n. (at + n < TWO_BLOCKS) × AreAscii (take n (drop at u))) }
 {
-    first_set_lane(letters >> at)
+    first_set_lane(non_ascii >> at)
 }
 
 /// Appends the `count` units from index `at` on, which are ASCII, by one store of `TWO_BLOCKS` bytes, whose rest is cut off.
@@ -70,21 +70,21 @@ fn append_ascii<A: Allocator>(bytes: &mut Vec<u8, A>, v: &[u16], at: usize, coun
     bytes.truncate(len + count);
 }
 
-/// Appends the letter at `from.at`, the ASCII units after it, the next letter, and so on, up to index `first + TWO_BLOCKS`,
-/// but stops before a unit above D7FF. `letters` is the mask of the units from index `first` on.
+/// Appends the unit at `from.at`, the ASCII units after it, the next unit that is not ASCII, and so on, up to index
+/// `first + TWO_BLOCKS`, but stops before a unit above D7FF. `non_ascii` is the mask of the units from index `first` on.
 #[inline(always)]
-pub(crate) fn append_letters<A: Allocator>(
+pub(crate) fn append_sparse<A: Allocator>(
     bytes: &mut Vec<u8, A>,
     v: &[u16],
     from: Progress,
     first: usize,
-    letters: u64,
+    non_ascii: u64,
 ) -> Progress
     requires order { (first ≤ from.at) × (from.at < first + TWO_BLOCKS) }
     requires within { first + 2 * TWO_BLOCKS ≤ length v.now }
-    requires letter { IsLetter (slice_index v.now from.at) }
-    requires mask { IsLetterMask letters (take TWO_BLOCKS (drop first v.now)) }
-    requires room { length bytes.old.items + LETTERS_SPARE ≤ vec_capacity bytes.old }
+    requires two_or_three_bytes { IsTwoOrThreeBytes (slice_index v.now from.at) }
+    requires mask { IsNonAsciiMask non_ascii (take TWO_BLOCKS (drop first v.now)) }
+    requires room { length bytes.old.items + SPARSE_SPARE ≤ vec_capacity bytes.old }
     ensures order { (from.at < result.at) × (result.at ≤ length v.now) }
     ensures read { ReadsOn bytes.old.items bytes.new.items v.now from.at from.is_utf8 result.at result.is_utf8 }
     ensures begins { take (length bytes.old.items) bytes.new.items ≡ bytes.old.items }
@@ -92,9 +92,9 @@ pub(crate) fn append_letters<A: Allocator>(
 {
     let mut at = from.at;
     loop {
-        append_letter(bytes, v[at]);
+        append_two_or_three_bytes(bytes, v[at]);
         at += 1;
-        let Some(count) = next_letter(letters, at - first) else {
+        let Some(count) = next_non_ascii(non_ascii, at - first) else {
             append_ascii(bytes, v, at, first + TWO_BLOCKS - at);
             return Progress {
                 at: first + TWO_BLOCKS,
@@ -103,7 +103,7 @@ pub(crate) fn append_letters<A: Allocator>(
         };
         append_ascii(bytes, v, at, count);
         at += count;
-        if !is_letter(v[at]) {
+        if !is_two_or_three_bytes(v[at]) {
             return Progress {
                 at,
                 is_utf8: from.is_utf8,

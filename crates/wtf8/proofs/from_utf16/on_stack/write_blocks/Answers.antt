@@ -1,7 +1,7 @@
 use Rattle.wtf8.proofs.Common.{[], ap, arith, length, length-take, refl, true}
 use Rattle.wtf8.proofs.lemmas.codec.Readings.{lists_have_lengths}
 use Rattle.wtf8.proofs.lemmas.from_utf16.Transcode.{read_none}
-use Rattle.wtf8.proofs.from_utf16.few.write_blocks.Goals as goal
+use Rattle.wtf8.proofs.from_utf16.on_stack.write_blocks.Goals as goal
 
 pub write_points-requires-clause-start : goal.write_points-requires-clause-start
 write_points-requires-clause-start c =

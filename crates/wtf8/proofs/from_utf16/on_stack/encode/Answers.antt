@@ -1,8 +1,8 @@
 use Rattle.wtf8.proofs.Common.{[], IsForm, IsKnownForm, arith, false≢true, length, refl, subst, take, take_all, true}
 use Rattle.wtf8.proofs.lemmas.codec.Readings.{same_form}
 use Rattle.wtf8.proofs.lemmas.from_utf16.Transcode.{IsKnownForm-nil, read_none}
-use Rattle.wtf8.proofs.from_utf16.few.encode.Goals.{After-write_all-len}
-use Rattle.wtf8.proofs.from_utf16.few.encode.Goals as goal
+use Rattle.wtf8.proofs.from_utf16.on_stack.encode.Goals.{After-write_all-len}
+use Rattle.wtf8.proofs.from_utf16.on_stack.encode.Goals as goal
 
 -- the bytes on the stack are the form of the units
 encoded : (g : _) (c : After-write_all-len g)

@@ -1,5 +1,5 @@
 use Rattle.wtf8.proofs.Common.{◌≡◌, ◌+◌, ◌++◌, take}
-use Rattle.wtf8.proofs.from_utf16.few.write_array.Given as goal
+use Rattle.wtf8.proofs.from_utf16.on_stack.write_array.Given as goal
 
 -- the first `k` bytes of the array are written after the bytes before index `at`
 abbrev pub invariant-loop-k : goal.invariant-loop-k

@@ -1,6 +1,6 @@
 use Rattle.wtf8.proofs.Common.{arith}
 use Rattle.wtf8.proofs.lemmas.from_utf16.Decoding.{IsFirstRead-length, IsReadTo-written}
-use Rattle.wtf8.proofs.from_utf16.few.write_point.Goals as goal
+use Rattle.wtf8.proofs.from_utf16.on_stack.write_point.Goals as goal
 
 pub returns-clause-end : goal.returns-clause-end
 returns-clause-end c =

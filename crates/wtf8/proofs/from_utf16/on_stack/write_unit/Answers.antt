@@ -1,6 +1,6 @@
 use Rattle.wtf8.proofs.Common.{arith, number}
 use Rattle.wtf8.proofs.lemmas.from_utf16.Decoding.{IsFirstRead-length, IsFirstRead-low, IsReadTo-low_written}
-use Rattle.wtf8.proofs.from_utf16.few.write_unit.Goals as goal
+use Rattle.wtf8.proofs.from_utf16.on_stack.write_unit.Goals as goal
 
 pub returns-clause-end : goal.returns-clause-end
 returns-clause-end c =

@@ -1,7 +1,7 @@
 use Rattle.wtf8.proofs.Common.{◌≡◌, ◌∙◌, arith, ap, sym, subst, take, drop, take-take, cond, is_ok, ◌++◌, AreAscii}
 use Rattle.wtf8.proofs.lemmas.lanes.AsciiFronts.{saturated_ascii}
 use Rattle.wtf8.proofs.lemmas.from_utf16.Transcode.{front_read}
-use Rattle.wtf8.proofs.from_utf16.letters.append_ascii.Goals as goal
+use Rattle.wtf8.proofs.from_utf16.sparse.append_ascii.Goals as goal
 
 pub returns-clause-read : goal.returns-clause-read
 returns-clause-read g c is_utf8 front read =

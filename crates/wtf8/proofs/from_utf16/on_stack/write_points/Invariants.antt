@@ -1,5 +1,5 @@
 use Rattle.wtf8.proofs.Common.{ℕ, List, ◌-◌, ◌*◌, ◌≤◌, ◌++◌, length, take, ReadsOn}
-use Rattle.wtf8.proofs.from_utf16.few.write_points.Given as goal
+use Rattle.wtf8.proofs.from_utf16.on_stack.write_points.Given as goal
 
 -- the first `len` bytes encode the units before `read.at`, at most three bytes for each
 abbrev pub invariant-loop-read : goal.invariant-loop-read

@@ -13,10 +13,10 @@ use std::alloc::{AllocError, Allocator};
 
 /// The most units that are encoded one by one. With 5 in place of 12, as blocks from 6 units on, lists of 6 to 12 units take
 /// 1.1 of the time to be pushed and 1.2 as new strings, and 1.9 and 1.8 on x86-64 without SSSE3.
-pub(crate) const FEW_UNITS: usize = 12;
+pub(crate) const MAX_ONE_BY_ONE: usize = 12;
 
 /// At least three bytes for each unit, and four for the last code point. A multiple of 16, so that few stores zero them.
-const FEW_BYTES: usize = 48;
+const ONE_BY_ONE_BYTES: usize = 48;
 
 /// Writes an array at index `at`. Returns the index after it.
 #[inline(always)]
@@ -125,9 +125,9 @@ fn write_points(v: &[u16], from: Progress, out: &mut [u8], start: usize) -> (usi
 /// Encodes units at the front of `out`. Returns the number of their bytes, and whether `is_utf8` and none of them is a
 /// lone surrogate.
 #[inline(always)]
-fn write_few(v: &[u16], is_utf8: bool, out: &mut [u8]) -> (usize, bool)
-    requires few { length v.now ≤ FEW_UNITS }
-    requires room { FEW_BYTES ≤ length out.old }
+fn write_one_by_one(v: &[u16], is_utf8: bool, out: &mut [u8]) -> (usize, bool)
+    requires few { length v.now ≤ MAX_ONE_BY_ONE }
+    requires room { ONE_BY_ONE_BYTES ≤ length out.old }
     ensures within { result.0 ≤ length out.new }
     ensures read { (w : List ℕ) → ReadsOn w (w ++ take result.0 out.new) v.now 0 is_utf8 (length v.now) result.1 }
 {
@@ -156,8 +156,8 @@ fn write_all(v: &[u16], out: &mut [u8]) -> (usize, bool)
     ensures within { result.0 ≤ length out.new }
     ensures read { (w : List ℕ) → ReadsOn w (w ++ take result.0 out.new) v.now 0 true (length v.now) result.1 }
 {
-    if v.len() <= FEW_UNITS {
-        write_few(v, true, out)
+    if v.len() <= MAX_ONE_BY_ONE {
+        write_one_by_one(v, true, out)
     } else {
         write_blocks(v, out)
     }
@@ -181,7 +181,7 @@ pub(crate) fn encode<const N: usize, A: Allocator>(
     Ok((bytes, is_utf8))
 }
 
-/// Appends the bytes of at most `FEW_UNITS` units, after bytes with which they form no pair. Returns whether `is_utf8`
+/// Appends the bytes of at most `MAX_ONE_BY_ONE` units, after bytes with which they form no pair. Returns whether `is_utf8`
 /// and none of them is a lone surrogate. They are encoded on the stack, so that one request is enough.
 #[inline(always)]
 pub(crate) fn append<A: Allocator>(
@@ -189,14 +189,14 @@ pub(crate) fn append<A: Allocator>(
     v: &[u16],
     is_utf8: bool,
 ) -> Result<bool, AllocError>
-    requires few { length v.now ≤ FEW_UNITS }
+    requires few { length v.now ≤ MAX_ONE_BY_ONE }
     ensures ok { IfOk result (λ known. (front : List ℕ) → IsReadTo bytes.old.items front v.now 0 is_utf8 → IsKnownForm bytes.new.items (front ++ v.now) known) }
     ensures kept { OnErr result (bytes.new.items ≡ bytes.old.items) }
     ensures room { HasRoomFrom bytes.old v.now 0 is_utf8 → IsOk result }
     ensures capacity { vec_capacity bytes.old ≤ vec_capacity bytes.new }
 {
-    let mut block = [0; FEW_BYTES];
-    let (len, is_utf8) = write_few(v, is_utf8, &mut block);
+    let mut block = [0; ONE_BY_ONE_BYTES];
+    let (len, is_utf8) = write_one_by_one(v, is_utf8, &mut block);
     bytes.extend_from_slice(&block[..len])?;
     Ok(is_utf8)
 }

@@ -1,7 +1,7 @@
 use Rattle.wtf8.proofs.Common.{sym, subst, arith, view_units}
 use Rattle.wtf8.proofs.lemmas.units.UnitMarks.{MarkBefore, boundary_of_mark, mark_before}
-use Rattle.wtf8.proofs.strings.view.Wtf8.mark_shortly_before.Goals.{After-unit_len-more}
-use Rattle.wtf8.proofs.strings.view.Wtf8.mark_shortly_before.Goals as goal
+use Rattle.wtf8.proofs.strings.view.Wtf8.mark_at_most.Goals.{After-unit_len-more}
+use Rattle.wtf8.proofs.strings.view.Wtf8.mark_at_most.Goals as goal
 
 found : (c : After-unit_len-more) → MarkBefore c.args.self.now.bytes.now (view_units c.args.self.now) c.boundary_before-position.result
     c.args.from.units c.args.from.position c.unit_len-more.result

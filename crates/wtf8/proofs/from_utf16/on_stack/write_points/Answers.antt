@@ -1,5 +1,5 @@
 use Rattle.wtf8.proofs.Common.{◌++◌, arith, subst, take, IsReadTo}
-use Rattle.wtf8.proofs.from_utf16.few.write_points.Goals as goal
+use Rattle.wtf8.proofs.from_utf16.on_stack.write_points.Goals as goal
 
 pub loop-read-preserved : goal.loop-read-preserved
 loop-read-preserved c = record {

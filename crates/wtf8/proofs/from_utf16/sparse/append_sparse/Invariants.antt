@@ -1,12 +1,12 @@
 use Rattle.wtf8.proofs.Common.{◌≡◌, ◌+◌, ◌-◌, ◌*◌, ◌<◌, ◌≤◌, length, take, slice_index, vec_capacity, ReadsOn}
-use Rattle.wtf8.specs.private.Search.{IsLetter}
-use Rattle.wtf8.proofs.from_utf16.letters.append_letters.Given as goal
+use Rattle.wtf8.specs.private.Search.{IsTwoOrThreeBytes}
+use Rattle.wtf8.proofs.from_utf16.sparse.append_sparse.Given as goal
 
 abbrev pub invariant-loop-count : goal.invariant-loop-count
 invariant-loop-count g l = record {
   order : l.fn.from.at ≤ l.at;
   within : l.at < l.first + 32;
-  letter : IsLetter (slice_index l.v l.at);
+  two_or_three_bytes : IsTwoOrThreeBytes (slice_index l.v l.at);
   read : ReadsOn l.initial.bytes.items l.bytes.items l.v l.fn.from.at l.fn.from.is_utf8 l.at l.fn.from.is_utf8;
   begins : take (length l.initial.bytes.items) l.bytes.items ≡ l.initial.bytes.items;
   room : length l.bytes.items + 3 * (l.first + 32 - l.at) + 32 ≤ vec_capacity l.bytes;
