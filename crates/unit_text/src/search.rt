@@ -20,7 +20,7 @@ const SHORT_PART: usize = 64;
 /// The same for searches for more units than `PART`, of which this number is kept with their borders.
 const LONG_PART: usize = 2048;
 
-/// The most units of a part that is searched for the last index, if `LONG_PART` units are kept: half of it is then read again.
+/// The same for searches from the end for more than half of `PART`, of which half of this number is kept.
 const LONGEST_PART: usize = 2 * LONG_PART;
 
 /// Decodes the first code points of a string, at most a byte for each unit of `block`, to the front of that. Returns
@@ -325,9 +325,9 @@ fn last_in_block(
     last
 }
 
-/// Looks from the end on in windows, each with the units after it that an occurrence which begins in it may have. These
-/// are at most half of the `N` that are decoded at a time, so it is linear in the distance from `until` as
-/// `first_by_parts` is in the length.
+/// The last index before the mark `until` at which the pattern occurs. Searches windows from the mark back, each with the
+/// `front.len()` units after it, into which an occurrence may reach: at most half of the `N` units that are decoded at a
+/// time. So it is linear in the distance to the index, but for what `begins` compares.
 #[inline(always)]
 fn last_by_parts<const N: usize>(
     view: Wtf8<'_>,
@@ -346,9 +346,12 @@ fn last_by_parts<const N: usize>(
     let (front, tail) = divide(pattern, N / 2);
     let borders: [u16; N] = borders_of(front);
     let mut block = [0; N];
+    let longest = N - 1 - front.len();
+    // Short at first, so that it takes less to find an index near the mark.
+    let mut window = front.len().max(SHORT_PART).min(longest);
     let mut end = until;
     while 0 < end.units {
-        let begin = view.mark_back(end, end.units.saturating_sub(N - 1 - front.len()));
+        let begin = view.mark_back(end, end.units.saturating_sub(window));
         let after = view.mark_at(end, end.units + front.len());
         laws::law_mark(view, after);
         let text = view.slice_to(after.position);
@@ -359,6 +362,7 @@ fn last_by_parts<const N: usize>(
             return Some(begin.units + index);
         }
         end = begin;
+        window = (2 * window).min(longest);
     }
     None
 }
@@ -477,8 +481,7 @@ impl<A: Allocator> IndexedBuf<A> {
 
     /// The last index at or before `from` at which these code units occur, also inside a surrogate pair, or `None` if
     /// there is none. No units are found at `from`, or at the end if that is before. Does not allocate. Linear in the
-    /// distance from `from` times the number of `units` at worst; linear in the distance if the text rarely goes on as
-    /// the units begin.
+    /// distance from there to the index and the number of `units`; more than 2,048 units are compared as by `find_units`.
     pub fn rfind_units(&self, from: usize, units: &[u16]) -> Option<usize>
         ensures some { IfSome result (λ k. IsLastIndex self.now.units units.now from k) }
         ensures none { IfNone result ((k : ℕ) → k ≤ from → ¬ (OccursAt self.now.units units.now k)) }
@@ -497,7 +500,8 @@ impl<A: Allocator> IndexedBuf<A> {
         last_index(marked.text.view, mark, pattern_of(units))
     }
 
-    /// The last index at or before `from` at which the code units of `other` occur, as `rfind_units` finds them.
+    /// The last index at or before `from` at which the code units of `other` occur, as `rfind_units` finds them. Instead of
+    /// 2,048 units its first 2,048 bytes count.
     pub fn rfind<B: Allocator>(&self, from: usize, other: &IndexedBuf<B>) -> Option<usize>
         ensures some { IfSome result (λ k. IsLastIndex self.now.units other.now.units from k) }
         ensures none { IfNone result ((k : ℕ) → k ≤ from → ¬ (OccursAt self.now.units other.now.units k)) }

@@ -5,12 +5,11 @@ use Rattle.unit_text.proofs.SearchLemmas.{IsWindow, IsWindow-rounded, NoneBetwee
 use Rattle.unit_text.proofs.search.last_by_parts.Goals.{After-slice_to-text, After-last_in_block}
 use Rattle.unit_text.proofs.search.last_by_parts.Goals as goal
 
-window : (g : _) (c : After-slice_to-text g) → IsWindow c.loop-end.end.units (g.row.N - 1 - length c.divide.result.0.now) (length c.divide.result.0.now)
+window : (g : _) (c : After-slice_to-text g) → IsWindow c.loop-end.end.units c.loop-end.window (length c.divide.result.0.now)
     c.mark_back-begin.result.units c.mark_at-after.result.units
 window g c =
-    let len = length c.divide.result.0.now in
-    IsWindow-rounded (view_units c.args.view) c.loop-end.end.units (g.row.N - 1 - len) len c.saturating_sub.result c.mark_back-begin.result.units
-    c.mark_at-after.result.units c.saturating_sub.ensures c.mark_back-begin.ensures.last c.mark_at-after.ensures.last
+    IsWindow-rounded (view_units c.args.view) c.loop-end.end.units c.loop-end.window (length c.divide.result.0.now) c.saturating_sub.result
+    c.mark_back-begin.result.units c.mark_at-after.result.units c.saturating_sub.ensures c.mark_back-begin.ensures.last c.mark_at-after.ensures.last
 
 -- the units before the mark `after`
 front : (g : _) (c : After-slice_to-text g) → view_units c.slice_to-text.result ≡ take c.mark_at-after.result.units (view_units c.args.view)
@@ -54,8 +53,7 @@ write_units-count-requires g c =
       length-take after u,
       w.least,
       w.most,
-      c.divide.ensures.most,
-      c.requires.part,
+      c.loop-end.invariant.fits,
       c.loop-end.invariant.block,
     )
 
@@ -122,6 +120,8 @@ loop-end-preserved g c =
     let end : begin + n ≡ c.loop-end.end.units = omega (arith, w.before) in
     record {
       block = omega (arith, c.write_units-count.ensures.len, c.loop-end.invariant.block);
+      some = omega (arith, c.min-window.ensures, c.loop-end.invariant.some, c.loop-end.invariant.fits);
+      fits = omega (arith, c.min-window.ensures, c.loop-end.invariant.fits);
       mark = c.mark_back-begin.ensures.mark;
       order = omega (arith, w.before, c.loop-end.invariant.order);
       none = none_in_longer u s begin n until c.mark_back-begin.ensures.mark.units_within (rw all at (rw c.divide.ensures.units at c.in_default.ensures))
