@@ -368,12 +368,11 @@ WTF8_CODE WTF8_READS(3, 4) WTF8_WRITES(5)
 wtf8_result wtf8_find_units(const wtf8_string *string, size_t from, const uint16_t *units, size_t n, size_t *index);
 
 /* The last index at or before `from` at which the units of `other` occur; if `other` has none, `from` or the end, whichever
- * comes first. All else is as in wtf8_find, but linear in the distance from `from` or the end times the length of `other` at
- * worst, in the distance alone if few parts begin as `other` does. Since 0.2.0. */
+ * comes first. All else is as in wtf8_find, the distance being that from `from` or the end to the index. Since 0.2.0. */
 WTF8_CODE WTF8_WRITES(4)
 wtf8_result wtf8_rfind(const wtf8_string *string, size_t from, const wtf8_string *other, size_t *index);
 
-/* The same of `n` units, without a string of them. Since 0.2.0. */
+/* The same of `n` units, without a string of them, as by wtf8_find_units. Since 0.2.0. */
 WTF8_CODE WTF8_READS(3, 4) WTF8_WRITES(5)
 wtf8_result wtf8_rfind_units(const wtf8_string *string, size_t from, const uint16_t *units, size_t n, size_t *index);
 

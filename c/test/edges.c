@@ -1741,6 +1741,67 @@ static void searches(void) {
     wtf8_free(&p.string);
 }
 
+enum { NOWHERE = 9001 };
+
+/* The first index at or after `from` at which the units of `part` occur, or the last one at or before it, compared at each. */
+static size_t plain_index(const uint16_t *units, size_t n, size_t from, const uint16_t *part, size_t m, int is_last) {
+    for (size_t i = 0; i <= n - m; i++) {
+        size_t at = is_last ? n - m - i : i;
+        if ((is_last ? at <= from : from <= at) && memcmp(units + at, part, 2 * m) == 0) return at;
+    }
+    return NOWHERE;
+}
+
+/* Lists that repeat, of up to 3,000 units, also with another unit in them, are found in texts that repeat, in which they
+ * overlap: texts of one unit, of two by turns, of Fibonacci's word, of pairs and leads, and of 150 units, with another one
+ * in the middle. */
+static void long_searches(void) {
+    enum { LONG = NOWHERE - 1, LONGEST_PART = 3000, KINDS = 5 };
+    static const size_t sizes[] = {1, 2, 33, 64, 255, 256, 257, 511, 2047, 2048, 2049, LONGEST_PART};
+    static uint16_t text[LONG], part[LONGEST_PART];
+    for (int kind = 0; kind < KINDS; kind++) {
+        size_t len = 2, before = 1;
+        text[0] = kind == 3 ? 0xD83D : kind == 4 ? 0x4E00 : 'a';
+        text[1] = kind == 0 ? 'a' : kind == 3 ? 0xDCA9 : 'b';
+        for (; kind == 4 && len < 150; len++) text[len] = (uint16_t)(0x4E00 + len % 49);
+        while (len < LONG) {
+            size_t again = kind == 1 || kind == 4 ? len : before, old = len;
+            for (size_t i = 0; i < again && len < LONG; i++) text[len++] = text[i];
+            before = old;
+        }
+        text[LONG / 2] ^= 4;
+        wtf8_string string = WTF8_EMPTY, other = WTF8_EMPTY;
+        must(wtf8_set_units(&string, text, LONG) == WTF8_OK, "a text that repeats");
+        if (kind % 2 == 1) wtf8_mark(&string);
+        for (size_t k = 0; k < sizeof sizes / sizeof sizes[0]; k++) {
+            size_t m = sizes[k];
+            for (size_t o = 0; o < 4; o++) {
+                memcpy(part, text + (o % 2 == 0 ? 7 : LONG / 2 - m / 2), 2 * m);
+                if (o > 0) part[(o - 1) * (m - 1) / 2] ^= 4;
+                must(wtf8_set_units(&other, part, m) == WTF8_OK, "a part that repeats");
+                size_t froms[] = {0, LONG / 2 + 13, SIZE_MAX};
+                for (size_t i = 0; i < 3; i++) {
+                    size_t index = NOWHERE, from = froms[i], first = plain_index(text, LONG, from, part, m, 0);
+                    size_t last = plain_index(text, LONG, from, part, m, 1);
+                    wtf8_result code = wtf8_rfind_units(&string, from, part, m, &index);
+                    must(index == last && code == (last == NOWHERE ? WTF8_END : WTF8_OK), "rfind_units of units that repeat");
+                    index = NOWHERE;
+                    code = wtf8_rfind(&string, from, &other, &index);
+                    must(index == last && code == (last == NOWHERE ? WTF8_END : WTF8_OK), "rfind of units that repeat");
+                    index = NOWHERE;
+                    code = wtf8_find_units(&string, from, part, m, &index);
+                    must(index == first && code == (first == NOWHERE ? WTF8_END : WTF8_OK), "find_units of units that repeat");
+                    index = NOWHERE;
+                    code = wtf8_find(&string, from, &other, &index);
+                    must(index == first && code == (first == NOWHERE ? WTF8_END : WTF8_OK), "find of units that repeat");
+                }
+            }
+        }
+        wtf8_free(&string);
+        wtf8_free(&other);
+    }
+}
+
 /* Replaces units by the call that has the fewest arguments for it. */
 static wtf8_result edit(wtf8_string *string, size_t begin, size_t end, const uint16_t *units, size_t n) {
     if (begin == end) return wtf8_insert_units(string, begin, units, n);
@@ -1930,6 +1991,7 @@ int main(void) {
     structs();
     texts_of_codes();
     searches();
+    long_searches();
     edits();
     marked_edits();
     memory_with_context();

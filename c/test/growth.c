@@ -144,8 +144,12 @@ int main(int argc, char **argv) {
     must(wtf8_set_units(&part, out, MANY) == WTF8_OK && wtf8_push_unit(&part, other[0]) == WTF8_OK, "many and another");
     COUNT(find_at_worst, wtf8_find(&alike, 0, &part, &position));
     must(answer == WTF8_END, "they do not occur");
+    COUNT(rfind_at_worst, wtf8_rfind(&alike, n, &part, &position));
+    must(answer == WTF8_END, "they do not occur");
     out[MANY] = other[0];
     COUNT(find_units_at_worst, wtf8_find_units(&alike, 0, out, MANY + 1, &position));
+    must(answer == WTF8_END, "they do not occur");
+    COUNT(rfind_units_at_worst, wtf8_rfind_units(&alike, n, out, MANY + 1, &position));
     must(answer == WTF8_END, "they do not occur");
     wtf8_free(&alike);
 

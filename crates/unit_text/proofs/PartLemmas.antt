@@ -1,16 +1,16 @@
 -- A search in a part of a text: how much of a front the part has reached.
-use Rattle.std.proofs.Common.{◌≡◌, ◌≢◌, zero, ℕ, ◌+◌, ◌-◌, ◌<◌, ◌≤◌, List, [], ◌∷◌, ◌++◌, length, take, drop, get_or, sym, ap, subst, ◌∙◌, arith, inl, inr, append_assoc, append-nil, length-append, length-drop, length-take-le, suc}
+use Rattle.std.proofs.Common.{◌≡◌, ◌≢◌, zero, ℕ, ◌+◌, ◌-◌, ◌<◌, ◌≤◌, List, [], ◌∷◌, ◌++◌, length, take, drop, get_or, sym, ap, subst, ◌∙◌, arith, inl, inr, append_assoc, append-nil, length-append, length-drop, length-take, length-take-le, suc}
 use Rattle.std.proofs.Math.Seq.{drop-append_seam, drop-cons, take-append_seam, take-append-add}
 use Rattle.std.proofs.lemmas.Bool.{cases_eq, cases_lt}
 use Rattle.std.proofs.lemmas.List.{append_cancel_left, drop-append-le, take-append-drop, take-append-le, take-take, take_all, take_more}
 use Rattle.unit_text.specs.Search.{OccursAt, IsFirstIndex}
 use Rattle.unit_text.specs.private.Borders.{EndsWithFront, IsLongestFront}
-use Rattle.unit_text.proofs.BorderLemmas.{all_is_candidate, longest_none, end_is_border, border_is_end, ends_append, ends_between, ends_trans, front_len, in_end}
-use Rattle.unit_text.proofs.SearchLemmas.{NoneBelow, occurs_there, rest_of_part}
+use Rattle.unit_text.proofs.BorderLemmas.{all_is_candidate, longest_none, end_is_border, border_is_end, ends_append, ends_between, ends_trans, front_len, in_end, border_shorter}
+use Rattle.unit_text.proofs.SearchLemmas.{IsLastBelow, NoneBelow, NoneBetween, first_of_rest, occurs_in_rest, occurs_there, rest_of_part}
 
 -- the text `l` and `y` after it, in which `front` and `tail` after it are searched for
 module _ (l y front tail : List ℕ) where
-  occurs_end : (j k : ℕ) → j + k ≡ length l → k ≤ length front → OccursAt (l ++ y) (front ++ tail) j → EndsWithFront l front k
+  pub occurs_end : (j k : ℕ) → j + k ≡ length l → k ≤ length front → OccursAt (l ++ y) (front ++ tail) j → EndsWithFront l front k
   occurs_end j k sum short o =
       let n = length (front ++ tail) in
       let long : k ≤ n = omega (arith, short, length-append front tail) in
@@ -57,23 +57,34 @@ module _ (l y front tail : List ℕ) where
     no_earlier = λ j _ below. r.none j below;
   }
 
-  pub not_followed : (b : ℕ) → 0 < length front → IsReached (length front) → ¬ (take (length tail) y ≡ tail)
-      → IsLongestFront (drop 1 (take (length front) front)) front b → IsReached b
-  not_followed b some r apart longest =
+  -- after the beginning of an end that is the whole front, none begins before that of its longest border
+  pub none_before_border : (b k : ℕ) → EndsWithFront l front (length front) → IsLongestFront (drop 1 (take (length front) front)) front b
+      → length l - length front < k → k < length l - b → ¬ (OccursAt (l ++ y) (front ++ tail) k)
+  none_before_border b k e longest after below there =
       let n = length front in
       let all = length-take-le n front (omega arith) in
-      let long = front_len front l n r.ends in
+      let long = front_len front l n e in
+      let end = occurs_end k (length l - k) (omega (arith, below)) (omega (arith, after, long)) there in
+      longest.longest (length l - k) (omega (arith, below))
+      (end_is_border front (take n front) (length l - k) (omega (arith, after, long, all, below))
+      (ends_between front l e.before (take n front) (length l - k) e.ends end (omega (arith, after, long, all))))
+
+  -- the longest border of an end that is the whole front
+  pub border_of_end : (b : ℕ) → EndsWithFront l front (length front) → IsLongestFront (drop 1 (take (length front) front)) front b
+      → EndsWithFront l front b
+  border_of_end b e longest = ends_trans front l (length front) b e (border_is_end front (take (length front) front) b longest.is_end)
+
+  pub not_followed : (b : ℕ) → IsReached (length front) → ¬ (take (length tail) y ≡ tail)
+      → IsLongestFront (drop 1 (take (length front) front)) front b → IsReached b
+  not_followed b r apart longest =
+      let n = length front in
       record {
-        ends = ends_trans front l n b r.ends (border_is_end front (take n front) b longest.is_end);
+        ends = border_of_end b r.ends longest;
         none = λ k below there. elim (cases_lt k (length l - n)) [
           | inl h ↦ r.none k h there
           | inr h ↦ elim (cases_eq k (length l - n)) [
             | inl same ↦ apart (only_if r.ends (subst (OccursAt (l ++ y) (front ++ tail)) same there))
-            | inr ne ↦
-                let end = occurs_end k (length l - k) (omega (arith, below)) (omega (arith, h, long)) there in
-                longest.longest (length l - k) (omega (arith, below))
-                (end_is_border front (take n front) (length l - k) (omega (arith, h, ne, long, all, below))
-                (ends_between front l r.ends.before (take n front) (length l - k) r.ends.ends end (omega (arith, h, long, all))))
+            | inr ne ↦ none_before_border b k r.ends longest (omega (arith, h, ne)) below there
           ]
         ];
       }
@@ -203,3 +214,67 @@ left_after seen front x u begin m n count e whole within =
         length-drop begin u,
       ),
     )
+
+-- a part `block` of a text, and the units `back` after it
+module _ (block back front tail : List ℕ) where
+  cut_at : (n : ℕ) → take n block ++ (drop n block ++ back) ≡ block ++ back
+  cut_at n = sym (append_assoc (take n block) (drop n block) back) ∙ ap (λ t. t ++ back) (take-append-drop n block)
+
+  -- the first `from` units of the block end with the first `m` of `front`
+  module _ (from m : ℕ) (within : from ≤ length block) (e : EndsWithFront (take from block) front m) where
+    abbrev pub part : List ℕ
+    part = take (length block - from) (drop from block)
+
+    pub matched_before : m ≤ from
+    matched_before = omega (arith, front_len front (take from block) m e, length-take-le from block within)
+
+    -- the units of the block and after it, from where these begin
+    left_of_block : ((take m front ++ part) ++ back ≡ drop (from - m) (block ++ back)) × (from - m ≤ length (block ++ back))
+    left_of_block =
+        let count = length-take-le from block within in
+        let zero_more : 0 + (from - m) ≡ from - m = omega arith in
+        let left = left_after (take from block) front (drop from block ++ back) (block ++ back) 0 m from (sym count) e (cut_at from) (omega arith) in (
+          append_assoc (take m front) part back
+              ∙ ap (λ t. take m front ++ (t ++ back)) (take_all (length block - from) (drop from block) (omega (arith, length-drop from block)))
+              ∙ left.0 ∙ ap (λ n. drop n (block ++ back)) zero_more,
+          omega (arith, left.1, zero_more),
+        )
+
+    -- what is found from there on
+    pub first_from_there : (end : ℕ) → length front ≤ m + end → IsFirstIndex ((take m front ++ part) ++ back) (front ++ tail) 0 (m + end - length front)
+        → IsFirstIndex (block ++ back) (front ++ tail) (from - m) (from + end - length front)
+    first_from_there end long f =
+        let n = m + end - length front in
+        let same : from - m + n ≡ from + end - length front = omega (arith, long, matched_before) in
+        subst (IsFirstIndex (block ++ back) (front ++ tail) (from - m)) same
+        (first_of_rest (block ++ back) (front ++ tail) (from - m) left_of_block.1 n
+        (subst (λ t. IsFirstIndex t (front ++ tail) 0 n) left_of_block.0 f))
+
+    pub none_from_there : (left : ℕ)
+        → ((k : ℕ) → k < m + length part - left → ¬ (OccursAt ((take m front ++ part) ++ back) (front ++ tail) k))
+        → NoneBetween (block ++ back) (front ++ tail) (from - m) (length block - left)
+    none_from_there left none k after below there =
+        none (k - (from - m))
+        (omega (arith, after, below, matched_before, within, length-take (length block - from) (drop from block), length-drop from block))
+        (subst (λ t. OccursAt t (front ++ tail) (k - (from - m))) (sym left_of_block.0)
+        (occurs_in_rest (block ++ back) (front ++ tail) (from - m) left_of_block.1 k after there))
+
+  -- an occurrence whose front ends before index `to`, and the longest border `b` of that
+  module _ (to k b : ℕ) (within : to ≤ length block) (ends : k + length front ≡ to) (there : OccursAt (block ++ back) (front ++ tail) k)
+      (longest : IsLongestFront (drop 1 (take (length front) front)) front b) where
+    whole_end : EndsWithFront (take to block) front (length front)
+    whole_end =
+        occurs_end (take to block) (drop to block ++ back) front tail k (length front) (ends ∙ sym (length-take-le to block within)) (omega arith)
+        (subst (λ t. OccursAt t (front ++ tail) k) (sym (cut_at to)) there)
+
+    pub border_at_end : EndsWithFront (take to block) front b
+    border_at_end = border_of_end (take to block) (drop to block ++ back) front tail b whole_end longest
+
+    pub last_at_end : 0 < length front → IsLastBelow (block ++ back) (front ++ tail) (to - b) k
+    last_at_end some =
+        let count = length-take-le to block within in (
+          there,
+          omega (arith, ends, border_shorter front (length front) b some longest),
+          λ j after below other. none_before_border (take to block) (drop to block ++ back) front tail b j whole_end longest
+              (omega (arith, ends, count, after)) (omega (arith, count, below)) (subst (λ t. OccursAt t (front ++ tail) j) (sym (cut_at to)) other),
+        )

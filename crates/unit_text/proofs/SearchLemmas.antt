@@ -1,11 +1,11 @@
 -- Occurrences of units in a part of a list and in the whole.
-use Rattle.std.proofs.Common.{◌≡◌, ℕ, ◌+◌, ◌-◌, ◌<◌, ◌≤◌, List, [], ◌∷◌, ◌++◌, length, take, drop, get_or, refl, sym, ap, subst, ◌∙◌, arith, inl, inr, length-append, length-drop, length-take}
-use Rattle.std.proofs.Math.Arith.{lt_of_le-ne}
+use Rattle.std.proofs.Common.{◌≡◌, ℕ, ◌+◌, ◌-◌, ◌<◌, ◌≤◌, List, [], ◌∷◌, ◌++◌, Option, Some, None, length, take, drop, refl, sym, ap, subst, ◌∙◌, arith, inl, inr, length-drop, length-take}
+use Rattle.std.specs.Prelude.{IfSome}
 use Rattle.std.proofs.Math.Seq.{drop-append_seam}
 use Rattle.std.proofs.lemmas.Bool.{cases_lt}
-use Rattle.std.proofs.lemmas.List.{take-append-drop, drop-append-le, drop-drop, get_or-drop, get_or-take, get_or_append_left}
+use Rattle.std.proofs.lemmas.List.{take-append-drop, drop-append-le, drop-drop}
 use Rattle.wtf8.specs.UnitMark.{RoundsDownTo}
-use Rattle.unit_text.specs.Search.{OccursAt, IsFirstIndex}
+use Rattle.unit_text.specs.Search.{FindsLastBelow, OccursAt, IsFirstIndex}
 
 -- `s` occurs in `u` at no index below `end`
 abbrev pub NoneBelow : List ℕ → List ℕ → ℕ → Type 0
@@ -17,22 +17,6 @@ occurs_there u s k within there = record {
   within = omega (arith, within, ap length there, length-take (length s) (drop k u), length-drop k u);
   there = there;
 }
-
--- a part `a`, and the rest `x` after it, from an index of the part on
-module _ (a x s : List ℕ) (k : ℕ) (within : k < length a) where
-  pub occurs_in_part : take (length s) (drop k a ++ x) ≡ s → OccursAt (a ++ x) s k
-  occurs_in_part b = occurs_there (a ++ x) s k (omega (arith, within, length-append a x))
-      (ap (take (length s)) (drop-append-le k a x (omega (arith, within))) ∙ b)
-
-  pub begins_in_part : OccursAt (a ++ x) s k → take (length s) (drop k a ++ x) ≡ s
-  begins_in_part o = ap (take (length s)) (sym (drop-append-le k a x (omega (arith, within)))) ∙ o.there
-
-  -- the first unit of an occurrence
-  pub first_in_part : (d : ℕ) → 0 < length s → OccursAt (a ++ x) s k → get_or a k d ≡ get_or s 0 d
-  first_in_part d some o =
-      let zero_more : k ≡ k + 0 = omega arith in
-      sym (get_or_append_left a x d k within) ∙ ap (λ i. get_or (a ++ x) i d) zero_more ∙ sym (get_or-drop k (a ++ x) 0 d)
-      ∙ sym (get_or-take (length s) (drop k (a ++ x)) 0 d some) ∙ ap (λ l. get_or l 0 d) o.there
 
 -- the units of `u` from index `p` on
 module _ (u s : List ℕ) (p : ℕ) (within : p ≤ length u) where
@@ -75,18 +59,28 @@ module _ (u s : List ℕ) (p : ℕ) (within : p ≤ length u) where
   none_of_rest none k after there = none (k - p) (omega arith) (occurs_in_rest k after there)
 
 -- `k` is the last index below `end` at which `s` occurs in `u`
-abbrev IsLastBelow : List ℕ → List ℕ → ℕ → ℕ → Type 0
+abbrev pub IsLastBelow : List ℕ → List ℕ → ℕ → ℕ → Type 0
 IsLastBelow u s end k = OccursAt u s k × (k < end) × ((j : ℕ) → k < j → j < end → ¬ (OccursAt u s j))
 
 -- `s` occurs in `u` at no index from `begin` to before `end`
 abbrev pub NoneBetween : List ℕ → List ℕ → ℕ → ℕ → Type 0
 NoneBetween u s begin end = (k : ℕ) → begin ≤ k → k < end → ¬ (OccursAt u s k)
 
-pub NoneBetween-suc : (u s : List ℕ) (begin next end : ℕ) → next ≡ begin + 1 → NoneBetween u s next end → ¬ (OccursAt u s begin)
-    → NoneBetween u s begin end
-NoneBetween-suc u s begin next end e none here k after below there =
-    let later : begin < k = lt_of_le-ne after (λ same. here (subst (OccursAt u s) (sym same) there)) in
-    none k (omega (arith, later, e)) below there
+-- what is found below an index is the last below another if it is below that, and none is between
+pub last_until : (u s : List ℕ) (p end : ℕ) (r : Option ℕ) → FindsLastBelow u s p r → IfSome r (λ k. k < end) → NoneBetween u s p end
+    → FindsLastBelow u s end r
+last_until u s p end None found below later = λ k under there. elim (cases_lt k p) [
+  | inl h ↦ found k h there
+  | inr h ↦ later k h under there
+]
+last_until u s p end (Some k) found below later = (
+  found.0,
+  below,
+  λ j after under there. elim (cases_lt j p) [
+    | inl h ↦ found.2 j after h there
+    | inr h ↦ later j h under there
+  ],
+)
 
 -- the units of `u` from index `p` to index `p + n`, and an index from which on `s` does not occur
 module _ (u s : List ℕ) (p n until : ℕ) (within : p ≤ length u) where
@@ -106,12 +100,30 @@ module _ (u s : List ℕ) (p n until : ℕ) (within : p ≤ length u) where
     | inr h ↦ later k h below there
   ]
 
--- a mark for `size - 1` units before `end` is at most `size` units before it
-pub mark_in_reach : (u : List ℕ) (end size n m : ℕ) → n ≡ end - (size - 1) → 4 ≤ size → RoundsDownTo u n m → (m ≤ end) × (end ≤ m + size)
-mark_in_reach u end size n m e some r = elim r [
-  | inl same ↦ (omega (arith, e, same), omega (arith, e, same, some))
-  | inr one ↦ (omega (arith, e, one.0), omega (arith, e, one.0, some))
+-- from the mark `begin` of `size` units before `end` to the mark `after` of `len` units after it; each is at most a unit before these
+pub record IsWindow (end size len begin after : ℕ) : Type 0 where
+  pub before : begin ≤ end
+  pub least : end ≤ begin + size + 1
+  pub most : after ≤ end + len
+  pub reach : end + len ≤ after + 1
+
+rounded : (u : List ℕ) (n m : ℕ) → RoundsDownTo u n m → (m ≤ n) × (n ≤ m + 1)
+rounded u n m r = elim r [
+  | inl same ↦ (omega (arith, same), omega (arith, same))
+  | inr one ↦ (omega (arith, one.0), omega (arith, one.0))
 ]
+
+pub IsWindow-rounded : (u : List ℕ) (end size len n begin after : ℕ) → n ≡ end - size → RoundsDownTo u n begin → RoundsDownTo u (end + len) after
+    → IsWindow end size len begin after
+IsWindow-rounded u end size len n begin after e back ahead =
+    let first = rounded u n begin back in
+    let last = rounded u (end + len) after ahead in
+    record {
+      before = omega (arith, e, first);
+      least = omega (arith, e, first);
+      most = last.0;
+      reach = last.1;
+    }
 
 -- the units between two indexes, and the units after the second
 pub from_first : (u : List ℕ) (p end : ℕ) → p ≤ end → end ≤ length u → drop p (take end u) ++ drop end u ≡ drop p u

@@ -20,6 +20,9 @@ const SHORT_PART: usize = 64;
 /// The same for searches for more units than `PART`, of which this number is kept with their borders.
 const LONG_PART: usize = 2048;
 
+/// The same for searches from the end for more than half of `PART`, of which half of this number is kept.
+const LONGEST_PART: usize = 2 * LONG_PART;
+
 /// Decodes the first code points of a string, at most a byte for each unit of `block`, to the front of that. Returns
 /// the number of their units and the rest of the string.
 #[inline(always)]
@@ -55,6 +58,26 @@ fn pattern_of<'a>(units: &'a [u16]) -> Pattern<'a>
         after: Wtf8::from_str(""),
         count: 0,
     }
+}
+
+/// Divides a pattern: at most its first `most` units, of which the borders are kept, and the pattern of the others.
+#[inline(always)]
+fn divide<'a>(pattern: Pattern<'a>, most: usize) -> (&'a [u16], Pattern<'a>)
+    requires most { 0 < most }
+    requires some { 0 < length pattern.units.now }
+    requires count { pattern.count ≡ length (view_units pattern.after) }
+    ensures some { 0 < length result.0.now }
+    ensures most { length result.0.now ≤ most }
+    ensures count { result.1.count ≡ length (view_units result.1.after) }
+    ensures units { result.0.now ++ pattern_units result.1 ≡ pattern_units pattern.entry }
+{
+    let (front, units) = pattern.units.split_at(pattern.units.len().min(most));
+    let tail = Pattern {
+        units,
+        after: pattern.after,
+        count: pattern.count,
+    };
+    (front, tail)
 }
 
 /// Whether the units of `front` and then of `back` begin with `units`.
@@ -193,12 +216,7 @@ fn first_by_parts<const N: usize>(view: Wtf8<'_>, pattern: Pattern<'_>) -> Optio
     requires fits { length (pattern_units pattern) < 2 ^ 64 }
     ensures { FindsFirst (view_units view.entry) (pattern_units pattern.entry) 0 result }
 {
-    let (front, units) = pattern.units.split_at(pattern.units.len().min(N));
-    let tail = Pattern {
-        units,
-        after: pattern.after,
-        count: pattern.count,
-    };
+    let (front, tail) = divide(pattern, N);
     let borders: [u16; N] = borders_of(front);
     let mut block = [0; N];
     let mut rest = view;
@@ -272,27 +290,44 @@ fn first_of_string(view: Wtf8<'_>, other: Wtf8<'_>, count: usize) -> Option<usiz
     first_after_decoding::<LONG_PART>(view, other, count)
 }
 
-/// The last index of `block` at which its units and then the units of `back` begin with the pattern's.
+/// The last index below `limit` at which the units of `block` and then of `back` go on with `front` and then `tail`.
+/// `front` ends in the block if it begins below `limit`. Linear in the length of the block, but for what `begins` compares.
 #[inline(always)]
-fn last_in_block(block: &[u16], back: Wtf8<'_>, pattern: Pattern<'_>) -> Option<usize>
-    requires some { 0 < length pattern.units.now }
-    requires count { pattern.count ≡ length (view_units pattern.after) }
-    requires fits { length (pattern_units pattern) < 2 ^ 64 }
-    ensures { FindsLastBelow (block.now ++ view_units back.entry) (pattern_units pattern.entry) (length block.now) result }
+fn last_in_block(
+    block: &[u16],
+    back: Wtf8<'_>,
+    limit: usize,
+    front: &[u16],
+    borders: &[u16],
+    tail: Pattern<'_>,
+) -> Option<usize>
+    requires some { 0 < length front.now }
+    requires room { length front.now ≤ length borders.now }
+    requires known { AreBorders front.now borders.now (length front.now) }
+    requires limit { limit + length front.now ≤ length block.now + 1 }
+    requires count { tail.count ≡ length (view_units tail.after) }
+    requires fits { length (pattern_units tail) < 2 ^ 64 }
+    ensures { FindsLastBelow (block.now ++ view_units back.entry) (front.now ++ pattern_units tail.entry) limit result }
 {
-    let first = pattern.units[0];
-    let mut end = block.len();
-    while 0 < end {
-        let index = end - 1;
-        let (_, front) = block.split_at(index);
-        if block[index] == first && begins(front, back, pattern) {
-            return Some(index);
+    let mut last = None;
+    let mut from = 0;
+    let mut matched = 0;
+    while let Ok(end) = end_in_part(&block[from..], back, front, borders, matched, tail) {
+        from += end;
+        let index = from - front.len();
+        if limit <= index {
+            return last;
         }
-        end = index;
+        last = Some(index);
+        // The next one may begin within this one.
+        matched = usize::from(borders[front.len() - 1]);
     }
-    None
+    last
 }
 
+/// The last index before the mark `until` at which the pattern occurs. Searches windows from the mark back, each with the
+/// `front.len()` units after it, into which an occurrence may reach: at most half of the `N` units that are decoded at a
+/// time. So it is linear in the distance to the index, but for what `begins` compares.
 #[inline(always)]
 fn last_by_parts<const N: usize>(
     view: Wtf8<'_>,
@@ -303,22 +338,31 @@ fn last_by_parts<const N: usize>(
     requires mark { IsMarkOf view until }
     requires some { 0 < length pattern.units.now }
     requires count { pattern.count ≡ length (view_units pattern.after) }
-    requires fits { length (pattern_units pattern) < 2 ^ 64 }
+    requires fits { length (view_units view) < 2 ^ 64 }
+    requires within { until.units + length (pattern_units pattern) ≤ length (view_units view) }
     ensures { FindsLastBelow (view_units view.entry) (pattern_units pattern.entry) until.units result }
 {
     laws::law_marks();
+    let (front, tail) = divide(pattern, N / 2);
+    let borders: [u16; N] = borders_of(front);
     let mut block = [0; N];
+    let longest = N - 1 - front.len();
+    // Short at first, so that it takes less to find an index near the mark.
+    let mut window = front.len().max(SHORT_PART).min(longest);
     let mut end = until;
     while 0 < end.units {
-        let begin = view.mark_back(end, end.units.saturating_sub(N - 1));
-        laws::law_mark(view, end);
-        let front = view.slice_to(end.position);
-        let count = front.slice_from_mark(begin).write_units(&mut block);
-        let after = view.slice_from_mark(end);
-        if let Some(index) = last_in_block(&block[..count], after, pattern) {
+        let begin = view.mark_back(end, end.units.saturating_sub(window));
+        let after = view.mark_at(end, end.units + front.len());
+        laws::law_mark(view, after);
+        let text = view.slice_to(after.position);
+        let count = text.slice_from_mark(begin).write_units(&mut block);
+        let back = view.slice_from_mark(after);
+        let limit = end.units - begin.units;
+        if let Some(index) = last_in_block(&block[..count], back, limit, front, &borders, tail) {
             return Some(begin.units + index);
         }
         end = begin;
+        window = (2 * window).min(longest);
     }
     None
 }
@@ -328,13 +372,17 @@ fn last_index(view: Wtf8<'_>, end: UnitMark, pattern: Pattern<'_>) -> Option<usi
     requires mark { IsMarkOf view end }
     requires some { 0 < length pattern.units.now }
     requires count { pattern.count ≡ length (view_units pattern.after) }
-    requires fits { length (pattern_units pattern) < 2 ^ 64 }
+    requires fits { length (view_units view) < 2 ^ 64 }
+    requires within { end.units + length (pattern_units pattern) ≤ length (view_units view) }
     ensures { FindsLastBelow (view_units view.entry) (pattern_units pattern.entry) end.units result }
 {
     if view.len() <= SHORT_PART {
         return last_by_parts::<SHORT_PART>(view, end, pattern);
     }
-    last_by_parts::<PART>(view, end, pattern)
+    if pattern.units.len() <= PART / 2 {
+        return last_by_parts::<PART>(view, end, pattern);
+    }
+    last_by_parts::<LONGEST_PART>(view, end, pattern)
 }
 
 fn last_after_decoding<const N: usize>(
@@ -347,6 +395,8 @@ fn last_after_decoding<const N: usize>(
     requires mark { IsMarkOf view end }
     requires some { 0 < length other.bytes.now }
     requires count { count ≡ length (view_units other) }
+    requires fits { length (view_units view) < 2 ^ 64 }
+    requires within { end.units + count ≤ length (view_units view) }
     ensures { FindsLastBelow (view_units view.entry) (view_units other.entry) end.units result }
 {
     let mut block = [0; N];
@@ -365,6 +415,8 @@ fn last_of_string(view: Wtf8<'_>, end: UnitMark, other: Wtf8<'_>, count: usize) 
     requires mark { IsMarkOf view end }
     requires some { 0 < length other.bytes.now }
     requires count { count ≡ length (view_units other) }
+    requires fits { length (view_units view) < 2 ^ 64 }
+    requires within { end.units + count ≤ length (view_units view) }
     ensures { FindsLastBelow (view_units view.entry) (view_units other.entry) end.units result }
 {
     if other.len() <= SHORT_PART {
@@ -429,8 +481,7 @@ impl<A: Allocator> IndexedBuf<A> {
 
     /// The last index at or before `from` at which these code units occur, also inside a surrogate pair, or `None` if
     /// there is none. No units are found at `from`, or at the end if that is before. Does not allocate. Linear in the
-    /// distance from `from` times the number of `units` at worst; linear in the distance if the text rarely goes on as
-    /// the units begin.
+    /// distance from there to the index and the number of `units`; more than 2,048 units are compared as by `find_units`.
     pub fn rfind_units(&self, from: usize, units: &[u16]) -> Option<usize>
         ensures some { IfSome result (λ k. IsLastIndex self.now.units units.now from k) }
         ensures none { IfNone result ((k : ℕ) → k ≤ from → ¬ (OccursAt self.now.units units.now k)) }
@@ -449,7 +500,8 @@ impl<A: Allocator> IndexedBuf<A> {
         last_index(marked.text.view, mark, pattern_of(units))
     }
 
-    /// The last index at or before `from` at which the code units of `other` occur, as `rfind_units` finds them.
+    /// The last index at or before `from` at which the code units of `other` occur, as `rfind_units` finds them. Instead of
+    /// 2,048 units its first 2,048 bytes count.
     pub fn rfind<B: Allocator>(&self, from: usize, other: &IndexedBuf<B>) -> Option<usize>
         ensures some { IfSome result (λ k. IsLastIndex self.now.units other.now.units from k) }
         ensures none { IfNone result ((k : ℕ) → k ≤ from → ¬ (OccursAt self.now.units other.now.units k)) }

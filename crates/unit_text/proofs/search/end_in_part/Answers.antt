@@ -71,7 +71,7 @@ loop-index-preserved c =
             within = start.within;
             shorter = omega (arith, w.reached-is, border_shorter front n w.from-reached.result some longest);
             reached = from (subst (IsReached seen later front tail) (sym w.reached-is)
-                (not_followed seen later front tail w.from-reached.result some whole apart longest));
+                (not_followed seen later front tail w.from-reached.result whole apart longest));
           }
       | else-reached-front w ↦ record {
         within = start.within;

@@ -4,36 +4,25 @@ use Rattle.unit_text.specs.Search.{IsFirstIndex}
 use Rattle.unit_text.specs.private.Search.{pattern_units}
 use Rattle.unit_text.proofs.PartLemmas.{left_after}
 use Rattle.unit_text.proofs.SearchLemmas.{NoneBelow, first_in_whole, none_in_whole}
-use Rattle.unit_text.proofs.search.first_by_parts.Goals.{After-decode_part-count, After-split_at}
+use Rattle.unit_text.proofs.search.first_by_parts.Goals.{After-decode_part-count}
 use Rattle.unit_text.proofs.search.first_by_parts.Goals as goal
 
 -- the part, the units that were matched before it, and the units after it
-whole : (g : _) (c : After-decode_part-count g) → (take c.loop-matched.matched c.split_at.result.0.now
+whole : (g : _) (c : After-decode_part-count g) → (take c.loop-matched.matched c.divide.result.0.now
     ++ take c.decode_part-count.result.0 c.decode_part-count.new.block) ++ view_units c.decode_part-count.result.1
     ≡ drop c.loop-matched.begin (view_units c.args.view)
 whole g c =
-    let first = take c.loop-matched.matched c.split_at.result.0.now in
+    let first = take c.loop-matched.matched c.divide.result.0.now in
     append_assoc first (take c.decode_part-count.result.0 c.decode_part-count.new.block) (view_units c.decode_part-count.result.1)
     ∙ ap (λ t. first ++ t) c.decode_part-count.ensures.units ∙ c.loop-matched.invariant.left
-
--- the pattern, divided after its first units
-divided : (g : _) (c : After-split_at g) → c.split_at.result.0.now ++ (c.split_at.result.1.now ++ view_units c.args.pattern.after)
-    ≡ pattern_units c.args.pattern
-divided g c =
-    let units = c.args.pattern.units.now in
-    let n = c.min.result in
-    let after = view_units c.args.pattern.after in
-    sym (append_assoc c.split_at.result.0.now c.split_at.result.1.now after)
-    ∙ ap (λ t. t ++ after) (ap (λ t. t ++ c.split_at.result.1.now) c.split_at.ensures.front
-    ∙ ap (λ t. take n units ++ t) c.split_at.ensures.back ∙ take-append-drop n units)
 
 pub returns-in-Ok : goal.returns-in-Ok
 returns-in-Ok g c =
     let i = c.loop-matched.invariant in
-    let n = c.loop-matched.matched + c.in-Ok.end - length c.split_at.result.0.now in
+    let n = c.loop-matched.matched + c.in-Ok.end - length c.divide.result.0.now in
     let pattern = pattern_units c.args.pattern in
     let found = subst (λ p. IsFirstIndex (drop c.loop-matched.begin (view_units c.args.view)) p 0 n)
-    (divided g (goal.at.returns-in-Ok g c).After-split_at)
+    c.divide.ensures.units
     (rw (whole g (goal.at.returns-in-Ok g c).After-decode_part-count) at c.in-Ok.ensures.ok.2) in
     first_in_whole (view_units c.args.view) pattern c.loop-matched.begin i.within n found i.none
 
@@ -42,7 +31,7 @@ loop-matched-preserved g c =
     let part = c.decode_part-count in
     let i = c.loop-matched.invariant in
     let u = view_units c.args.view in
-    let front = c.split_at.result.0.now in
+    let front = c.divide.result.0.now in
     let seen = take c.loop-matched.matched front ++ take part.result.0 part.new.block in
     let all = whole g (goal.at.loop-matched-preserved g c).After-decode_part-count in
     let n = c.loop-matched.matched + part.result.0 in
@@ -55,7 +44,7 @@ loop-matched-preserved g c =
     ) in
     let left = left_after seen front (view_units part.result.1) u c.loop-matched.begin c.in-Err.left n count c.in-Err.ensures.err.2 all i.within in
     let none : NoneBelow (drop c.loop-matched.begin u) (pattern_units c.args.pattern) (n - c.in-Err.left) =
-    subst (λ p. NoneBelow (drop c.loop-matched.begin u) p (n - c.in-Err.left)) (divided g (goal.at.loop-matched-preserved g c).After-split_at)
+    subst (λ p. NoneBelow (drop c.loop-matched.begin u) p (n - c.in-Err.left)) c.divide.ensures.units
     (λ k below. rw all at (c.in-Err.ensures.err.3 k (omega (arith, below, own)))) in
     record {
       block = omega (arith, part.auto.block, i.block);
