@@ -14,7 +14,7 @@ use crate::lanes::search::next_surrogate;
 use crate::lanes::utf8::{NEAR, from_utf8, from_utf8_near};
 use crate::lanes::utf8_error::Utf8Error;
 use crate::strings::appending::append_bytes;
-use crate::vec::{push_block, spare_capacity};
+use crate::vec::{push_block, push_front, spare_capacity};
 use std::alloc::{AllocError, Allocator};
 use std::simd::prelude::*;
 
@@ -54,9 +54,7 @@ fn append_with_replacement<A: Allocator>(
 {
     let needed = VECTOR + REPLACEMENT.len();
     if count <= VECTOR && VECTOR <= text.len() && needed <= spare_capacity(bytes) {
-        let end = bytes.len() + count;
-        push_block(bytes, u8x16::from_slice(text).to_array());
-        bytes.truncate(end);
+        push_front(bytes, u8x16::from_slice(text).to_array(), count);
         push_block(bytes, REPLACEMENT);
         return Ok(());
     }
