@@ -175,22 +175,22 @@ impl<A: Allocator> IndexedBuf<A> {
         ensures some { IfSome result (λ x. IsNextSurrogate self.now.units begin x.1 (number x.0)) }
         ensures none { IsNone result ↔ IsTextFrom self.now.units begin }
     {
-        if self.as_ascii().is_some() {
-            return None;
+        match self.as_ascii() {
+            Some(_) => None,
+            None => self.text.as_wtf8().next_surrogate(begin),
         }
-        self.text.as_wtf8().next_surrogate(begin)
     }
 
     /// The string as a `&str` if it is ASCII, as its lengths in bytes and in code units tell, else `None`. Does not copy.
     /// Constant.
     #[inline(always)]
     pub fn as_ascii(&self) -> Option<&str>
+        ensures some { IsSome result ↔ (length self.now.bytes ≡ length self.now.units) }
         ensures scalar { IsSome result → AreScalar self.now.form.points }
         ensures bytes { IfSome result (λ t. t.now ≡ self.now.bytes) }
     {
-        let view = self.text.as_wtf8();
-        if view.len() == self.count {
-            return Some(view.as_ascii_str());
+        if self.text.len() == self.count {
+            return Some(self.text.as_wtf8().as_ascii_str());
         }
         None
     }

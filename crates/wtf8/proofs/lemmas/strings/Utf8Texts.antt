@@ -193,8 +193,11 @@ module _ (b first second third : List ℕ) (once : first ≡ 0 ∷ take 31 b) (t
       → ((k : ℕ) → k < 32 → k < length w → get_or b k 0 ≡ get_or w k 0)
       → ((k : ℕ) → k < m → MayFollow (get_or third k 0) (get_or second k 0) (get_or first k 0) (get_or b k 0)) → FollowsUpTo w n
   follows_after_zeros w n m within le few same h = follows_in_same (0 ∷ 0 ∷ 0 ∷ b) w n within same_after
-      (λ i from l. rw (moved_thrice i (omega (arith, l, le, few)), moved_twice i (omega (arith, l, le, few)),
-      moved b first once i (omega (arith, l, le, few))) at (h i (omega (arith, l, le))))
+      (λ i from l. rw (
+        moved_thrice i (omega (arith, l, le, few)),
+        moved_twice i (omega (arith, l, le, few)),
+        moved b first once i (omega (arith, l, le, few)),
+      ) at (h i (omega (arith, l, le))))
     where
       same_after : (j : ℕ) → j < suc (suc (suc n)) → get_or (0 ∷ 0 ∷ 0 ∷ b) j 0 ≡ get_or (0 ∷ 0 ∷ 0 ∷ w) j 0
       same_after zero l = refl
