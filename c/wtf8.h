@@ -307,8 +307,8 @@ WTF8_CODE WTF8_WRITES(3)
 wtf8_result wtf8_code_point_before(const wtf8_string *string, size_t index, uint32_t *code_point);
 
 /* Writes the first surrogate after the boundary `*position` to `*unit`, and moves `*position` past its 3 bytes: what was
- * between is text. Any code but OK leaves both numbers as they are. Linear in the bytes that it moves over. Codes: OK,
- * BAD_POSITION (`*position` is not a boundary), END (no surrogate is after it). */
+ * between is text. Any code but OK leaves both numbers as they are. Linear in the bytes that it moves over, constant in
+ * an ASCII string. Codes: OK, BAD_POSITION (`*position` is not a boundary), END (no surrogate is after it). */
 WTF8_CODE WTF8_CHANGES(2) WTF8_WRITES(3)
 wtf8_result wtf8_next_surrogate(const wtf8_string *string, size_t *position, uint16_t *unit);
 
@@ -319,7 +319,7 @@ wtf8_result wtf8_next_surrogate(const wtf8_string *string, size_t *position, uin
 WTF8_CODE WTF8_CHANGES(2) WTF8_WRITES(3, 4) WTF8_WRITES(5)
 wtf8_result wtf8_copy_code_points(const wtf8_string *string, size_t *position, uint32_t *out, size_t size, size_t *len);
 
-/* Whether the string holds no surrogate, so that wtf8_copy_utf8 gives its text. Linear in the length. */
+/* Whether the string holds no surrogate, so that wtf8_copy_utf8 gives its text. Constant if it is ASCII, else linear. */
 bool wtf8_is_utf8(const wtf8_string *string);
 
 /* Whether each unit is ASCII, below 80. Constant: such a string has one byte for each unit. Since 0.2.0. */

@@ -680,8 +680,16 @@ static void surrogates(void) {
     must(wtf8_next_surrogate(&none, &at, &unit) == WTF8_END && at == 0 && unit == 77, "a surrogate of nothing");
     for (size_t n = 0; n < LONG; n++) {
         wtf8_string string = WTF8_EMPTY;
-        must(wtf8_push_utf8(&string, letters, n, NULL) == WTF8_OK && wtf8_push_unit(&string, 0xD7FF) == WTF8_OK,
-             "a text before surrogates");
+        uint8_t text[LONG];
+        size_t len = 0;
+        must(wtf8_push_utf8(&string, letters, n, NULL) == WTF8_OK && wtf8_is_utf8(&string), "ASCII");
+        must(wtf8_copy_lossy(&string, text, LONG, &len) == WTF8_OK && len == n && memcmp(text, letters, n) == 0, "its lossy text");
+        must(n == 0 || (wtf8_copy_lossy(&string, text, n - 1, &len) == WTF8_ARRAY_TOO_SHORT && len == n), "a short array");
+        at = n;
+        must(wtf8_next_surrogate(&string, &at, &unit) == WTF8_END && at == n && unit == 77, "a surrogate of ASCII");
+        at = n + 1;
+        must(wtf8_next_surrogate(&string, &at, &unit) == WTF8_BAD_POSITION && at == n + 1 && unit == 77, "a surrogate after ASCII");
+        must(wtf8_push_unit(&string, 0xD7FF) == WTF8_OK, "a text before surrogates");
         at = 0;
         must(wtf8_next_surrogate(&string, &at, &unit) == WTF8_END && at == 0 && unit == 77, "a surrogate of a text");
         must(wtf8_push_units(&string, back, sizeof back / sizeof back[0]) == WTF8_OK, "surrogates");

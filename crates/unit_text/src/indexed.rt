@@ -1,10 +1,12 @@
 // Buffers whose code units are found by their index.
-ghost use Rattle.std.specs.Prelude.{◌≡◌, ◌↔◌, ◌+◌, ◌*◌, ◌-◌, ◌^◌, ◌<◌, ◌≤◌, ℕ, List, [], ◌∷◌, ◌++◌, length, take, drop, slice_get, IsNone, IsSome, IsTrue, IfOk, IsOk, OnOk, OnErr, vec_capacity};
+ghost use Rattle.std.specs.Prelude.{◌≡◌, ◌↔◌, ◌+◌, ◌*◌, ◌-◌, ◌^◌, ◌<◌, ◌≤◌, ℕ, List, [], ◌∷◌, ◌++◌, length, take, drop, slice_get, IsNone, IsSome, IfSome, IsTrue, IfOk, IsOk, OnOk, OnErr, vec_capacity};
 ghost use Rattle.std.specs.Str.{chars};
 ghost use Rattle.wtf8.specs.Appending.{AppendsUnits, KeepsContents, HasRoomFor, AddsLength};
 ghost use Rattle.wtf8.specs.CodePoint.{number};
-ghost use Rattle.wtf8.specs.Form.{IsForm, encoding};
+ghost use Rattle.wtf8.specs.Form.{IsForm, Reads, encoding};
 ghost use Rattle.wtf8.specs.Position.{IsBoundary, IsFront};
+ghost use Rattle.wtf8.specs.SurrogatePosition.{IsNextSurrogate, IsTextFrom};
+ghost use Rattle.wtf8.specs.Surrogates.{AreScalar};
 ghost use Rattle.wtf8.specs.Unicode.{units, units_of};
 ghost use Rattle.wtf8.specs.UnitMark.{IsMark};
 ghost use Rattle.wtf8.specs.UnitPosition.{units_of_slice, DividesPair};
@@ -151,6 +153,46 @@ impl<A: Allocator> IndexedBuf<A> {
         ensures units { view_units result ≡ self.now.units }
     {
         self.text.as_wtf8()
+    }
+
+    /// The string as a `&str`, or `None` if it holds a surrogate. Does not copy. Constant in an ASCII string, else linear in
+    /// the length.
+    pub fn as_str(&self) -> Option<&str>
+        ensures some { IsSome result ↔ AreScalar self.now.form.points }
+        ensures units { IsSome result ↔ ((c : List ℕ) → Reads c self.now.units → AreScalar c) }
+        ensures bytes { IfSome result (λ t. t.now ≡ self.now.bytes) }
+    {
+        match self.as_ascii() {
+            Some(text) => Some(text),
+            None => self.text.as_wtf8().as_str(),
+        }
+    }
+
+    /// The first surrogate from `begin` on, which must be a code point boundary, and the position after its three bytes;
+    /// `None` if there is none. Constant in an ASCII string, else linear in the bytes up to it.
+    pub fn next_surrogate(&self, begin: usize) -> Option<(CodePoint, usize)>
+        requires { IsBoundary self.now.units begin }
+        ensures some { IfSome result (λ x. IsNextSurrogate self.now.units begin x.1 (number x.0)) }
+        ensures none { IsNone result ↔ IsTextFrom self.now.units begin }
+    {
+        match self.as_ascii() {
+            Some(_) => None,
+            None => self.text.as_wtf8().next_surrogate(begin),
+        }
+    }
+
+    /// The string as a `&str` if it is ASCII, as its lengths in bytes and in code units tell, else `None`. Does not copy.
+    /// Constant.
+    #[inline(always)]
+    pub fn as_ascii(&self) -> Option<&str>
+        ensures some { IsSome result ↔ (length self.now.bytes ≡ length self.now.units) }
+        ensures scalar { IsSome result → AreScalar self.now.form.points }
+        ensures bytes { IfSome result (λ t. t.now ≡ self.now.bytes) }
+    {
+        if self.text.len() == self.count {
+            return Some(self.text.as_wtf8().as_ascii_str());
+        }
+        None
     }
 
     /// The code unit at index `i`, or `None` at or past the end. Constant in an ASCII string. In others it counts the

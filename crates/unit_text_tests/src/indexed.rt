@@ -7,7 +7,7 @@ use std::alloc::{AllocError, Allocator, Global};
 use std::cmp::Ordering;
 use std::hash::{DefaultHasher, Hash, Hasher};
 use unit_text::{IndexedBuf, UnitText};
-use wtf8::{Wtf8, Wtf8Buf};
+use wtf8::{CodePoint, Wtf8, Wtf8Buf};
 
 /// What a unit of an output is before a call writes to it.
 const UNWRITTEN: u16 = 0x1234;
@@ -199,6 +199,40 @@ fn is_made(alloc: Global, units: &[u16], dump: &str) -> bool {
     let mut buf = buf_of(alloc, units);
     let is_right = has_all_marked(alloc, &mut buf, units, dump);
     has_string(alloc, buf, dump) && is_right
+}
+
+/// Whether the buffer of the units is this text, by each call that returns one, and has no surrogate.
+fn is_text(alloc: Global, units: &[u16], text: &str, is_ascii: bool) -> bool {
+    let buf = buf_of(alloc, units);
+    buf.as_str() == Some(text)
+        && buf.as_ascii().is_some() == is_ascii
+        && buf.next_surrogate(0).is_none()
+}
+
+/// Whether this is D83D, which ends at position 4.
+fn is_lead(found: Option<(CodePoint, usize)>) -> bool {
+    match found {
+        Some((surrogate, end)) => surrogate.to_u32() == 0xD83D && end == 4,
+        None => false,
+    }
+}
+
+/// Whether the lead before "a" in a buffer of three units is found from the start on, and none after it.
+fn has_lead(alloc: Global) -> bool {
+    let buf = buf_of(alloc, &[0x62, 0xD83D, 0x61]);
+    is_lead(buf.next_surrogate(0))
+        && buf.next_surrogate(4).is_none()
+        && buf.as_str().is_none()
+        && buf.as_ascii().is_none()
+}
+
+#[test]
+fn a_buffer_is_a_text_without_surrogates(rt: HostRuntime) {
+    let alloc = rt.alloc();
+    assert!(rt; is_text(alloc, &[], "", true));
+    assert!(rt; is_text(alloc, &[0x61, 0x62], "ab", true));
+    assert!(rt; is_text(alloc, &[0x61, 0xD83D, 0xDCA9], "a💩", false));
+    assert!(rt; has_lead(alloc));
 }
 
 /// Whether buffers of the units that are made and grown in several ways have the units and the bytes.

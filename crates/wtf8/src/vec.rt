@@ -1,5 +1,5 @@
 // Vectors of `std`: their spare capacity, and short slices copied or appended to them, as two overlapping blocks.
-ghost use Rattle.std.specs.Prelude.{◌≡◌, ◌+◌, ◌≤◌, OnOk, IsOk, vec_len, vec_capacity, [], ◌++◌, ◌*◌, ◌<◌, length, IfOk};
+ghost use Rattle.std.specs.Prelude.{◌≡◌, ◌+◌, ◌≤◌, OnOk, IsOk, vec_len, vec_capacity, [], ◌++◌, ◌*◌, ◌<◌, length, take, IfOk};
 
 use std::alloc::{AllocError, Allocator};
 use std::simd::prelude::*;
@@ -94,4 +94,21 @@ pub(crate) fn push_block<T: Copy, const N: usize, A: Allocator>(list: &mut Vec<T
     for at in 0..N {
         list.push_reserved(block[at]);
     }
+}
+
+/// Appends the first `count` bytes of a block: all are stored, and the others cut off.
+#[inline(always)]
+pub(crate) fn push_front<const N: usize, A: Allocator>(
+    bytes: &mut Vec<u8, A>,
+    block: [u8; N],
+    count: usize,
+)
+    requires few { count ≤ N }
+    requires room { length bytes.old.items + N ≤ vec_capacity bytes.old }
+    ensures items { bytes.new.items ≡ bytes.old.items ++ take count block.entry }
+    ensures capacity { vec_capacity bytes.new ≡ vec_capacity bytes.old }
+{
+    let end = bytes.len() + count;
+    push_block(bytes, block);
+    bytes.truncate(end);
 }

@@ -117,7 +117,7 @@ pub extern "C" fn wtf8_is_utf8(string: &mut Wtf8String) -> bool
     ensures utf8 { IsTrue result ↔ ((c : List ℕ) → Reads c string.old.buf.units → AreScalar c) }
     ensures kept { IsKept string.old string.new }
 {
-    string.buffer().as_wtf8().as_str().is_some()
+    string.buffer().as_str().is_some()
 }
 
 /// Whether each unit is below 80.

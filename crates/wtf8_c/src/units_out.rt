@@ -71,7 +71,7 @@ pub extern "C" fn wtf8_copy_utf8(string: &mut Wtf8String, out: &mut [u8], len: &
     ensures len_kept { result ≡ HAS_SURROGATE → len.new ≡ len.old }
     ensures kept { IsKept string.old string.new }
 {
-    match string.buffer().as_wtf8().as_str() {
+    match string.buffer().as_str() {
         Some(text) => write_text(text.as_bytes(), out, len),
         None => HAS_SURROGATE,
     }
@@ -87,7 +87,11 @@ pub extern "C" fn wtf8_copy_lossy(string: &mut Wtf8String, out: &mut [u8], len: 
     ensures len { len.new ≡ length string.old.buf.bytes }
     ensures kept { IsKept string.old string.new }
 {
-    let text = string.buffer().as_wtf8();
+    let buf = string.buffer();
+    if let Some(text) = buf.as_ascii() {
+        return write_text(text.as_bytes(), out, len);
+    }
+    let text = buf.as_wtf8();
     // U+FFFD has the three bytes of a surrogate.
     let needed = text.len();
     *len = needed;

@@ -160,12 +160,12 @@ pub extern "C" fn wtf8_next_surrogate(
     ensures unit { ¬ (result ≡ OK) → unit.new ≡ unit.old }
     ensures kept { IsKept string.old string.new }
 {
-    let text = string.buffer().as_wtf8();
+    let buf = string.buffer();
     let begin = *position;
-    if !text.is_code_point_boundary(begin) {
+    if !buf.as_wtf8().is_code_point_boundary(begin) {
         return BAD_POSITION;
     }
-    match text.next_surrogate(begin) {
+    match buf.next_surrogate(begin) {
         Some((surrogate, end)) => {
             *position = end;
             *unit = surrogate.to_u32() as u16;

@@ -224,6 +224,7 @@ fn has_letters(text: Wtf8<'_>) -> bool {
     text.len() == 2
         && text.unit_len() == 2
         && text.ascii_unit_at(1) == 0x62
+        && text.as_ascii_str() == "ab"
         && text.unit_at(1) == Some(0x62)
         && text.ascii_byte_at(0) == 0x61
         && text.unit_at(2).is_none()

@@ -12,7 +12,7 @@ struct Row {
     part: &'static str,
 }
 
-static ROWS: [Row; 15] = [
+static ROWS: [Row; 17] = [
     Row {
         bytes: b"",
         text: "",
@@ -102,6 +102,18 @@ static ROWS: [Row; 15] = [
         text: "\u{FFFD}€X\u{FFFD}",
         used: 6,
         part: "\u{FFFD}€X",
+    },
+    Row {
+        bytes: b"ab\xFFcd\xFF\xE8\x8C\xFFe\xF0\x9F\x92\xFFfghijklm\xC3\xA9\xE8\x8C\xB6\xFFnopq\xE8\x8C\xB6\xF0\x9F\x92\xA9\xFFr\xE2\x80\x99\xF0\x9F\x92",
+        text: "ab\u{FFFD}cd\u{FFFD}\u{FFFD}\u{FFFD}e\u{FFFD}\u{FFFD}fghijklmé茶\u{FFFD}nopq茶💩\u{FFFD}r’\u{FFFD}",
+        used: 44,
+        part: "ab\u{FFFD}cd\u{FFFD}\u{FFFD}\u{FFFD}e\u{FFFD}\u{FFFD}fghijklmé茶\u{FFFD}nopq茶💩\u{FFFD}r’",
+    },
+    Row {
+        bytes: b"\xFF\xE8\x8C\xB6\xE8\x8C\xB6\xE8\x8C\xB6\xE8\x8C\xB6\xE8\x8C\xB6\xE8\x8C\xB6\xFF\xFF\xED\xA0\x80\xF4\x90\xE0\x80ab\xC0\xAF\xC3\xA9cdef\xE8\x8C",
+        text: "\u{FFFD}茶茶茶茶茶茶\u{FFFD}\u{FFFD}\u{FFFD}\u{FFFD}\u{FFFD}\u{FFFD}\u{FFFD}\u{FFFD}\u{FFFD}ab\u{FFFD}\u{FFFD}écdef\u{FFFD}",
+        used: 38,
+        part: "\u{FFFD}茶茶茶茶茶茶\u{FFFD}\u{FFFD}\u{FFFD}\u{FFFD}\u{FFFD}\u{FFFD}\u{FFFD}\u{FFFD}\u{FFFD}ab\u{FFFD}\u{FFFD}écdef",
     },
 ];
 

@@ -1,13 +1,14 @@
 // Tests in SIMD blocks how far bytes are UTF-8: each byte is compared with the three before it.
-ghost use Rattle.std.specs.Prelude.{◌≡◌, ◌+◌, ◌-◌, ◌<◌, ◌≤◌, ◌∷◌, ℕ, length, take, drop, MatchResult, IfErr, IsTrue};
+ghost use Rattle.std.specs.Prelude.{◌≡◌, ◌+◌, ◌-◌, ◌<◌, ◌≤◌, ◌∷◌, ℕ, length, take, drop, get_or, slice_index, MatchResult, IfErr, IfSome, IsTrue};
 ghost use Rattle.std.specs.Str.{IsUtf8, IsValidUpTo};
 ghost use Rattle.std.specs.Str.Lossy.{utf8_valid_len, utf8_error_len};
 ghost use Rattle.wtf8.specs.Utf8Error.{valid_up_to, error_len};
 ghost use Rattle.wtf8.specs.private.Prefixes.{AreAscii};
-ghost use Rattle.wtf8.specs.private.Utf8Bytes.{FollowsIn, FollowsUpTo};
+ghost use Rattle.wtf8.specs.private.Utf8Bytes.{MayFollow, FollowsIn, FollowsUpTo};
 
 use crate::lanes::ascii::{ascii_front_len, is_ascii_block, is_ascii_overlapping};
 use crate::lanes::first_set_lane;
+use crate::lanes::padding::padded;
 use crate::lanes::utf8_error::Utf8Error;
 use std::simd::prelude::*;
 use std::str;
@@ -21,18 +22,26 @@ const BEFORE: usize = 3;
 /// The fewest bytes that hold a block and the bytes before it.
 const LEAST: usize = BLOCK + BEFORE;
 
-/// The number of bytes from index `at + BEFORE` on, at most `BLOCK`, each of which may follow the three before it. A byte
-/// of A0 or more is wrong after ED, a smaller one after E0; one of 90 or more after F4, a smaller one after F0.
+/// The number of bytes that `from_utf8_near` reads one code point at a time.
+pub(crate) const NEAR: usize = 16;
+
+/// The most bytes of a code point.
+const MAX_POINT_BYTES: usize = 4;
+
+/// Shuffle indices: a lane of zeros, then all lanes of another vector but the last.
+const AFTER_ZERO: [usize; 32] = [
+    0, 32, 33, 34, 35, 36, 37, 38, 39, 40, 41, 42, 43, 44, 45, 46, 47, 48, 49, 50, 51, 52, 53, 54,
+    55, 56, 57, 58, 59, 60, 61, 62,
+];
+
+/// The number of lanes of `bytes`, at most `BLOCK`, each of which may follow the bytes in the same lanes of `first`, just
+/// before it, `second` and `third`. A byte of A0 or more is wrong after ED, a smaller one after E0; one of 90 or more
+/// after F4, a smaller one after F0.
 #[inline(always)]
-fn follows_in_block(bytes: &[u8], at: usize) -> usize
-    requires { at + LEAST ≤ length bytes.now }
+fn follows_in_lanes(third: u8x32, second: u8x32, first: u8x32, bytes: u8x32) -> usize
     ensures within { result ≤ BLOCK }
-    ensures follow { FollowsIn bytes.now at (at + result) }
+    ensures follow { (k : ℕ) → k < result → MayFollow (get_or third k 0) (get_or second k 0) (get_or first k 0) (get_or bytes k 0) }
 {
-    let third = u8x32::from_slice(&bytes[at..]);
-    let second = u8x32::from_slice(&bytes[at + 1..]);
-    let first = u8x32::from_slice(&bytes[at + 2..]);
-    let bytes = u8x32::from_slice(&bytes[at + 3..]);
     let expected = first.simd_ge(Simd::splat(0xC0))
         | second.simd_ge(Simd::splat(0xE0))
         | third.simd_ge(Simd::splat(0xF0));
@@ -50,15 +59,51 @@ fn follows_in_block(bytes: &[u8], at: usize) -> usize
     first_set_lane(wrong.to_bitmask()).unwrap_or(BLOCK)
 }
 
-/// The number of the first `BLOCK` bytes that may begin a text: the bytes are copied between zeros.
+/// The number of bytes from index `at + BEFORE` on, at most `BLOCK`, each of which may follow the three before it.
+#[inline(always)]
+fn follows_in_block(bytes: &[u8], at: usize) -> usize
+    requires { at + LEAST ≤ length bytes.now }
+    ensures within { result ≤ BLOCK }
+    ensures follow { FollowsIn bytes.now at (at + result) }
+{
+    follows_in_lanes(
+        u8x32::from_slice(&bytes[at..]),
+        u8x32::from_slice(&bytes[at + 1..]),
+        u8x32::from_slice(&bytes[at + 2..]),
+        u8x32::from_slice(&bytes[at + 3..]),
+    )
+}
+
+/// The lanes moved one on, after a zero.
+#[inline(always)]
+fn after_zero(bytes: u8x32) -> u8x32
+    ensures { result ≡ 0 ∷ take 31 bytes }
+{
+    u8x32::splat(0).shuffle(bytes, AFTER_ZERO)
+}
+
+/// The first `BLOCK` bytes; if there are fewer, then zeros.
+#[inline(always)]
+fn first_block(bytes: &[u8]) -> u8x32
+    ensures { (k : ℕ) → k < BLOCK → k < length bytes.now → get_or result k 0 ≡ slice_index bytes.now k }
+{
+    if bytes.len() < BLOCK {
+        return padded(bytes);
+    }
+    u8x32::from_slice(bytes)
+}
+
+/// The number of the first `BLOCK` bytes that may begin a text: zeros stand before them. The vectors of the bytes before
+/// each are made in registers: loaded from a copy on the stack, they would wait for its stores.
 #[inline(always)]
 fn begins_text(bytes: &[u8]) -> usize
     ensures { FollowsUpTo bytes.now result }
 {
-    let count = bytes.len().min(BLOCK);
-    let mut padded = [0; BEFORE + BLOCK];
-    padded[BEFORE..BEFORE + count].copy_from_slice(&bytes[..count]);
-    follows_in_block(&padded, 0).min(count)
+    let block = first_block(bytes);
+    let first = after_zero(block);
+    let second = after_zero(first);
+    let third = after_zero(second);
+    follows_in_lanes(third, second, first, block).min(bytes.len())
 }
 
 /// The number of bytes of ASCII in whole blocks at the front, or how many of the first `BLOCK` bytes may begin a text.
@@ -182,4 +227,39 @@ pub fn from_utf8(bytes: &[u8]) -> Result<&str, Utf8Error>
         return Ok(unsafe { str::from_utf8_unchecked(bytes) });
     }
     from_utf8_after(bytes, front)
+}
+
+/// The first wrong part, if std finds it among the first `NEAR` bytes and before the last three of these, which may be
+/// the front of a code point.
+#[inline(always)]
+fn near_error(bytes: &[u8]) -> Option<Utf8Error>
+    ensures valid { IfSome result (λ e. IsValidUpTo bytes.now (valid_up_to e)) }
+    ensures error_len { IfSome result (λ e. error_len e ≡ utf8_error_len (drop (valid_up_to e) bytes.now)) }
+{
+    if bytes.len() < NEAR {
+        return None;
+    }
+    let Err(error) = str::from_utf8(&bytes[..NEAR]) else {
+        return None;
+    };
+    let valid_up_to = error.valid_up_to();
+    if NEAR < valid_up_to + MAX_POINT_BYTES {
+        return None;
+    }
+    Some(Utf8Error {
+        valid_up_to,
+        error_len: error.error_len(),
+    })
+}
+
+/// The same as `from_utf8`, and faster if one of the first bytes is wrong: they are read one code point at a time.
+pub(crate) fn from_utf8_near(bytes: &[u8]) -> Result<&str, Utf8Error>
+    ensures cases { MatchResult result (λ s. (s.now ≡ bytes.now) × IsUtf8 bytes.now) (λ e. ¬ (IsUtf8 bytes.now) × IsValidUpTo bytes.now (valid_up_to e)) }
+    ensures valid_len { IfErr result (λ e. valid_up_to e ≡ utf8_valid_len bytes.now) }
+    ensures error_len { IfErr result (λ e. error_len e ≡ utf8_error_len (drop (valid_up_to e) bytes.now)) }
+{
+    if let Some(error) = near_error(bytes) {
+        return Err(error);
+    }
+    from_utf8(bytes)
 }

@@ -1,18 +1,22 @@
 // Lossy text: U+FFFD in place of each surrogate, and of each part of bytes that is not UTF-8.
-ghost use Rattle.std.specs.Prelude.{◌≡◌, ◌∷◌, ◌++◌, ◌+◌, ◌≤◌, [], length, take, drop, OnOk, IsOk, vec_capacity, IsTrue, ◌↔◌};
-ghost use Rattle.std.specs.Str.{chars};
-ghost use Rattle.std.specs.Str.Lossy.{utf8_lossy, replacement_bytes};
+ghost use Rattle.std.specs.Prelude.{◌≡◌, ◌∷◌, ◌++◌, ◌+◌, ◌≤◌, [], length, take, drop, OnOk, IsOk, vec_capacity, MatchResult, IfErr, IsTrue, ◌↔◌};
+ghost use Rattle.std.specs.Str.{chars, IsUtf8, IsValidUpTo};
+ghost use Rattle.std.specs.Str.Lossy.{utf8_lossy, utf8_error_len, replacement_bytes};
 ghost use Rattle.wtf8.specs.Form.{IsWellFormed, bytes as bytes_of};
 ghost use Rattle.wtf8.specs.Surrogates.{lossy_points};
 ghost use Rattle.wtf8.specs.Unicode.{units};
 ghost use Rattle.wtf8.specs.Utf8.{IsUnfinished, LeavesUnfinished};
+ghost use Rattle.wtf8.specs.Utf8Error.{valid_up_to, error_len};
 ghost use Rattle.wtf8.specs.private.EncodedBytes.{ExtendsForm, BecomesOrKeeps};
 
+use crate::lanes::VECTOR;
 use crate::lanes::search::next_surrogate;
-use crate::lanes::utf8::from_utf8;
+use crate::lanes::utf8::{NEAR, from_utf8, from_utf8_near};
+use crate::lanes::utf8_error::Utf8Error;
 use crate::strings::appending::append_bytes;
-use crate::vec::push_block;
+use crate::vec::{push_block, push_front, spare_capacity};
 use std::alloc::{AllocError, Allocator};
+use std::simd::prelude::*;
 
 /// The encoding of U+FFFD, the replacement character: three bytes, like the encoding of each surrogate.
 const REPLACEMENT: [u8; 3] = [0xEF, 0xBF, 0xBD];
@@ -38,22 +42,42 @@ pub(crate) fn replace_surrogates(bytes: &mut [u8])
     }
 }
 
-/// Appends the text, then U+FFFD.
+/// Appends the first `count` bytes, then U+FFFD. Few bytes are appended as a block, and what is after them cut off.
 #[inline(always)]
 fn append_with_replacement<A: Allocator>(
     bytes: &mut Vec<u8, A>,
     text: &[u8],
+    count: usize,
 ) -> Result<(), AllocError>
-    ensures { BecomesOrKeeps bytes.old (bytes.old.items ++ (text.now ++ replacement_bytes)) bytes.new result }
+    requires { count ≤ length text.now }
+    ensures { BecomesOrKeeps bytes.old (bytes.old.items ++ (take count text.now ++ replacement_bytes)) bytes.new result }
 {
+    let needed = VECTOR + REPLACEMENT.len();
+    if count <= VECTOR && VECTOR <= text.len() && needed <= spare_capacity(bytes) {
+        push_front(bytes, u8x16::from_slice(text).to_array(), count);
+        push_block(bytes, REPLACEMENT);
+        return Ok(());
+    }
+    let text: &[u8] = &text[..count];
     bytes.reserve(text.len() + REPLACEMENT.len())?;
     bytes.extend_from_slice(text)?;
     push_block(bytes, REPLACEMENT);
     Ok(())
 }
 
+/// Reads bytes as UTF-8, one code point at a time at their front if a wrong part is likely there.
+fn read_part(text: &[u8], is_near: bool) -> Result<&str, Utf8Error>
+    ensures cases { MatchResult result (λ s. (s.now ≡ text.now) × IsUtf8 text.now) (λ e. ¬ (IsUtf8 text.now) × IsValidUpTo text.now (valid_up_to e)) }
+    ensures error_len { IfErr result (λ e. error_len e ≡ utf8_error_len (drop (valid_up_to e) text.now)) }
+{
+    if is_near {
+        return from_utf8_near(text);
+    }
+    from_utf8(text)
+}
+
 /// Appends bytes read as UTF-8, with U+FFFD for each maximal part that is not. If memory is refused, some parts may have
-/// been appended.
+/// been appended. Where the last part was short, the next one is likely to be.
 fn append_parts<A: Allocator>(bytes: &mut Vec<u8, A>, text: &[u8]) -> Result<(), AllocError>
     ensures ok { OnOk result (bytes.new.items ≡ bytes.old.items ++ utf8_lossy text.now) }
     ensures begins { take (length bytes.old.items) bytes.new.items ≡ bytes.old.items }
@@ -61,12 +85,15 @@ fn append_parts<A: Allocator>(bytes: &mut Vec<u8, A>, text: &[u8]) -> Result<(),
     ensures capacity { vec_capacity bytes.old ≤ vec_capacity bytes.new }
 {
     let mut rest = text;
+    let mut is_near = false;
     'parts: loop {
-        let Err(error) = from_utf8(rest) else {
+        let Err(error) = read_part(rest, is_near) else {
             return append_bytes(bytes, rest);
         };
-        let (valid, after) = rest.split_at(error.valid_up_to());
-        append_with_replacement(bytes, valid)?;
+        let valid = error.valid_up_to();
+        append_with_replacement(bytes, rest, valid)?;
+        is_near = valid < NEAR;
+        let (_, after) = rest.split_at(valid);
         rest = match error.error_len() {
             Some(wrong) => &after[wrong..],
             None => &[],

@@ -2,7 +2,8 @@
 ghost use Rattle.std.specs.Prelude.{◌≡◌, ◌+◌, ◌<◌, ◌≤◌, length, slice_get, Some, IfSome, IfNone};
 ghost use Rattle.wtf8.specs.Position.{IsBoundary};
 ghost use Rattle.wtf8.specs.private.UnitsInBytes.{IsCursor, IsCursorOfUnit};
-ghost use Rattle.wtf8.specs.View.{view_units};
+ghost use Rattle.wtf8.specs.Surrogates.{AreScalar};
+ghost use Rattle.wtf8.specs.View.{view_points, view_units};
 
 use crate::codec::encoding;
 use crate::lanes::ascii::is_ascii_block;
@@ -210,5 +211,14 @@ impl<'a> Wtf8<'a> {
         ensures { slice_get (view_units self.now) index ≡ Some result }
     {
         u16::from(self.bytes[index])
+    }
+
+    /// An all-ASCII string, one with equal lengths in bytes and in code units, as a `&str`. Does not read it.
+    pub fn as_ascii_str(&self) -> &'a str
+        requires { length self.now.bytes.now ≡ length (view_units self.now) }
+        ensures bytes { result.now ≡ self.now.bytes.now }
+        ensures scalar { AreScalar (view_points self.now) }
+    {
+        unsafe { str::from_utf8_unchecked(self.bytes) }
     }
 }

@@ -1,6 +1,6 @@
 -- Bytes each of which may follow the three before it are UTF-8.
 use Rattle.wtf8.proofs.Common.{◌≡◌, ℕ, zero, suc, ◌+◌, ◌-◌, ◌*◌, ◌/◌, ◌%◌, ◌<◌, ◌≤◌, inl, inr, List, [], ◌∷◌, ◌++◌, length, get_or, sym, ap}
-use Rattle.wtf8.proofs.Common.{◌∙◌, arith, cases_lt, IsUtf8, IsCodePoint, IsSurrogate, encoding, encoding_is_encode, IsUtf8-from_ascii}
+use Rattle.wtf8.proofs.Common.{refl, ◌∙◌, arith, cases_lt, IsUtf8, IsCodePoint, IsSurrogate, encoding, encoding_is_encode, IsUtf8-from_ascii}
 use Rattle.wtf8.proofs.Common.{chunk, get_or-chunk, take, AreAscii, subst, length-take, get_or_append_left}
 use Rattle.std.proofs.lemmas.List.{get_or-take}
 use Rattle.std.proofs.lemmas.Simd.{Each1-get_or}
@@ -174,18 +174,36 @@ follows_in_chunks w at n few h i l m =
       lane (at + 3) (suc (suc (suc i))) (omega (arith, l)),
     ) at (h (i - at) (omega (arith, l, m)))
 
--- the bytes of a list between zeros
-pub follows_in_padded : (w zeros : List ℕ) (n m : ℕ) → n ≤ length w → n ≤ m
-    → FollowsIn (0 ∷ 0 ∷ 0 ∷ (w ++ zeros)) 0 (0 + m) → FollowsUpTo w n
-follows_in_padded w zeros n m within le h = follows_in_same (0 ∷ 0 ∷ 0 ∷ (w ++ zeros)) w n within
-    (λ j l. get_or_append_left (0 ∷ 0 ∷ 0 ∷ w) zeros 0 j (omega (arith, l, within))) (λ i l k. h i l (omega (arith, k, le)))
+moved : (v r : List ℕ) → r ≡ 0 ∷ take 31 v → (k : ℕ) → k < 32 → get_or r k 0 ≡ get_or (0 ∷ v) k 0
+moved v r e zero l = ap (λ r. get_or r 0 0) e
+moved v r e (suc k) l = ap (λ r. get_or r (suc k) 0) e ∙ get_or-take 31 v k 0 (omega (arith, l))
 
--- the bytes of a list that may follow in its front
-pub follows_in_front : (w : List ℕ) (m n : ℕ) → FollowsUpTo (take m w) n → FollowsUpTo w n
-follows_in_front w m n h =
-    let few = length-take m w in
-    follows_in_same (0 ∷ 0 ∷ 0 ∷ take m w) w n (omega (arith, h.0, few))
-    (λ j l. get_or-take (suc (suc (suc m))) (0 ∷ 0 ∷ 0 ∷ w) j 0 (omega (arith, l, h.0, few))) h.1
+-- lanes that are moved on behind zeros, once, twice and thrice, are the bytes before each lane
+module _ (b first second third : List ℕ) (once : first ≡ 0 ∷ take 31 b) (twice : second ≡ 0 ∷ take 31 first) (thrice : third ≡ 0 ∷ take 31 second) where
+  moved_twice : (k : ℕ) → k < 32 → get_or second k 0 ≡ get_or (0 ∷ 0 ∷ b) k 0
+  moved_twice zero l = moved first second twice 0 l
+  moved_twice (suc k) l = moved first second twice (suc k) l ∙ moved b first once k (omega (arith, l))
+
+  moved_thrice : (k : ℕ) → k < 32 → get_or third k 0 ≡ get_or (0 ∷ 0 ∷ 0 ∷ b) k 0
+  moved_thrice zero l = moved second third thrice 0 l
+  moved_thrice (suc k) l = moved second third thrice (suc k) l ∙ moved_twice k (omega (arith, l))
+
+  -- the first bytes of a list, of which each may follow the lanes before it
+  pub follows_after_zeros : (w : List ℕ) (n m : ℕ) → n ≤ length w → n ≤ m → m ≤ 32
+      → ((k : ℕ) → k < 32 → k < length w → get_or b k 0 ≡ get_or w k 0)
+      → ((k : ℕ) → k < m → MayFollow (get_or third k 0) (get_or second k 0) (get_or first k 0) (get_or b k 0)) → FollowsUpTo w n
+  follows_after_zeros w n m within le few same h = follows_in_same (0 ∷ 0 ∷ 0 ∷ b) w n within same_after
+      (λ i from l. rw (
+        moved_thrice i (omega (arith, l, le, few)),
+        moved_twice i (omega (arith, l, le, few)),
+        moved b first once i (omega (arith, l, le, few)),
+      ) at (h i (omega (arith, l, le))))
+    where
+      same_after : (j : ℕ) → j < suc (suc (suc n)) → get_or (0 ∷ 0 ∷ 0 ∷ b) j 0 ≡ get_or (0 ∷ 0 ∷ 0 ∷ w) j 0
+      same_after zero l = refl
+      same_after (suc zero) l = refl
+      same_after (suc (suc zero)) l = refl
+      same_after (suc (suc (suc j))) l = same j (omega (arith, l, le, few)) (omega (arith, l, within))
 
 -- bytes that may follow, and those from an earlier index on
 pub follows_on : (w : List ℕ) (at from n : ℕ) → from ≤ at → from + 3 + n ≤ length w → FollowsUpTo w (at + 3) → FollowsIn w from (from + n)

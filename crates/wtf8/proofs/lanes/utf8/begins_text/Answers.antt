@@ -1,12 +1,9 @@
-use Rattle.wtf8.proofs.Common.{arith, length, ap, subst, length-take}
-use Rattle.wtf8.proofs.lemmas.strings.Utf8Texts.{follows_in_front, follows_in_padded}
-use Rattle.wtf8.specs.private.Utf8Bytes.{FollowsUpTo}
+use Rattle.wtf8.proofs.Common.{arith}
+use Rattle.wtf8.proofs.lemmas.strings.Utf8Texts.{follows_after_zeros}
 use Rattle.wtf8.proofs.lanes.utf8.begins_text.Goals as goal
 
 pub returns : goal.returns
-returns c =
-    let copied = c.copy_from_slice.ensures.after in
-    follows_in_front c.args.bytes.now c.min-count.result c.min.result (subst (λ v. FollowsUpTo v c.min.result) copied
-    (follows_in_padded c.copy_from_slice.new.self _ c.min.result c.follows_in_block.result
-    (omega (arith, c.min.ensures, ap length copied, c.min-count.ensures, length-take c.min-count.result c.args.bytes.now))
-    (omega (arith, c.min.ensures)) c.follows_in_block.ensures.follow))
+returns c = follows_after_zeros c.first_block-block.result c.after_zero-first.result c.after_zero-second.result c.after_zero-third.result
+    c.after_zero-first.ensures c.after_zero-second.ensures c.after_zero-third.ensures c.args.bytes.now c.min.result c.follows_in_lanes.result
+    (omega (arith, c.min.ensures)) (omega (arith, c.min.ensures)) c.follows_in_lanes.ensures.within c.first_block-block.ensures
+    c.follows_in_lanes.ensures.follow

@@ -34,7 +34,7 @@ pub returns-in_err-append_with_replacement-clause-room :
 returns-in_err-append_with_replacement-clause-room g c fits =
     let wrong = c.in-Err.ensures.cases.1 in
     let step = text_after c.parts.rest.now _ wrong _ refl in
-    let part = ap (λ w. w ++ replacement_bytes) (c.split_at.ensures.front ∙ ap (λ n. take n c.parts.rest.now) c.valid_up_to.ensures) in
+    let part = ap (λ n. take n c.parts.rest.now ++ replacement_bytes) c.valid_up_to-valid.ensures in
     let within = part_within _ _ c.parts.invariant.read step in
     absurd (false≢true (c.in_err-append_with_replacement.ensures.room
     (omega (arith, fits, within, ap (λ w. length (c.parts.bytes.items ++ w)) part, c.parts.invariant.capacity))))
@@ -44,7 +44,7 @@ slice_bounds-rest-count g c =
     let rest = c.parts.rest.now in
     let n = valid_up_to c.in-Err.error in
     let found : utf8_error_len (drop n rest) ≡ Some c.in-Some.wrong = sym c.in-Err.ensures.error_len ∙ sym c.error_len.ensures ∙ c.in-Some.is in
-    let back : c.split_at.result.1.now ≡ drop n rest = c.split_at.ensures.back ∙ ap (λ k. drop k rest) c.valid_up_to.ensures in
+    let back : c.split_at.result.1.now ≡ drop n rest = c.split_at.ensures.back ∙ ap (λ k. drop k rest) c.valid_up_to-valid.ensures in
     omega (arith, (error_within _ _ found).1, ap length back)
 
 pub slice_bounds-rest-start : goal.slice_bounds-rest-start
@@ -56,7 +56,7 @@ parts-smaller-in-Some g c =
     let n = valid_up_to c.in-Err.error in
     let wrong = c.in-Some.wrong in
     let found : utf8_error_len (drop n rest) ≡ Some wrong = sym c.in-Err.ensures.error_len ∙ sym c.error_len.ensures ∙ c.in-Some.is in
-    let back : c.split_at.result.1.now ≡ drop n rest = c.split_at.ensures.back ∙ ap (λ k. drop k rest) c.valid_up_to.ensures in
+    let back : c.split_at.result.1.now ≡ drop n rest = c.split_at.ensures.back ∙ ap (λ k. drop k rest) c.valid_up_to-valid.ensures in
     let within = error_within _ _ found in
     rw take_rest (omega (arith, within.0, within.1, length-drop wrong c.split_at.result.1.now, ap length back, length-drop n rest, c.in-Err.ensures.cases.1.short))
 
@@ -67,8 +67,8 @@ parts-preserved-in-Some g c =
     let wrong = c.in-Some.wrong in
     let call = c.in_ok-append_with_replacement.ensures in
     let found : utf8_error_len (drop n rest) ≡ Some wrong = sym c.in-Err.ensures.error_len ∙ sym c.error_len.ensures ∙ c.in-Some.is in
-    let front : c.split_at.result.0.now ≡ take n rest = c.split_at.ensures.front ∙ ap (λ k. take k rest) c.valid_up_to.ensures in
-    let back : c.split_at.result.1.now ≡ drop n rest = c.split_at.ensures.back ∙ ap (λ k. drop k rest) c.valid_up_to.ensures in
+    let front = ap (λ k. take k rest) c.valid_up_to-valid.ensures in
+    let back : c.split_at.result.1.now ≡ drop n rest = c.split_at.ensures.back ∙ ap (λ k. drop k rest) c.valid_up_to-valid.ensures in
     rw take_rest record {
       read = parts_next _ c.parts.invariant.read call.ok
           ((λ i. (front i ++ replacement_bytes) ++ utf8_lossy (drop wrong (back i))) ∙ text_after_wrong rest n c.in-Err.ensures.cases.1 wrong found);
@@ -84,7 +84,7 @@ parts-preserved g c =
     let n = valid_up_to c.in-Err.error in
     let call = c.in_ok-append_with_replacement.ensures in
     let found : utf8_error_len (drop n rest) ≡ None = sym c.in-Err.ensures.error_len ∙ sym c.error_len.ensures ∙ c.in-None.is in
-    let front : c.split_at.result.0.now ≡ take n rest = c.split_at.ensures.front ∙ ap (λ k. take k rest) c.valid_up_to.ensures in
+    let front = ap (λ k. take k rest) c.valid_up_to-valid.ensures in
     record {
       read = parts_next _ c.parts.invariant.read call.ok
           ((λ i. (front i ++ replacement_bytes) ++ utf8_lossy []) ∙ text_at_end rest n c.in-Err.ensures.cases.1 found);
