@@ -430,12 +430,12 @@ wtf8_result wtf8_slice_units(wtf8_string *into, const wtf8_string *string, size_
 WTF8_CODE WTF8_CHANGES(1) WTF8_READS(3, 4)
 wtf8_result wtf8_insert_units(wtf8_string *string, size_t index, const uint16_t *units, size_t n);
 
-/* Removes the units from `begin` to before `end`. Codes: OK, NO_MEMORY, BAD_POSITION (`begin` is greater than `end`, or
- * `end` than the length). Since 0.2.0. */
+/* Removes the units from `begin` to before `end`. Never refused: the string becomes no longer. Codes: OK, BAD_POSITION
+ * (`begin` is greater than `end`, or `end` than the length). Since 0.2.0. */
 WTF8_CODE WTF8_CHANGES(1)
 wtf8_result wtf8_remove_units(wtf8_string *string, size_t begin, size_t end);
 
-/* Replaces the units from `begin` to before `end` by `n` units. Codes: as of wtf8_remove_units. Since 0.2.0. */
+/* Replaces the units from `begin` to before `end` by `n` units. Codes: as of wtf8_remove_units, and NO_MEMORY. Since 0.2.0. */
 WTF8_CODE WTF8_CHANGES(1) WTF8_READS(4, 5)
 wtf8_result wtf8_replace_units(wtf8_string *string, size_t begin, size_t end, const uint16_t *units, size_t n);
 

@@ -24,14 +24,15 @@ impl<A: Allocator> IndexedBuf<A> {
     }
 
     /// Removes the code units from index `begin` to before `end`, which must be in order and at most the length. A pair
-    /// that an end splits is cut, and a lead and a trail that then meet become one code point. Costs what `replace_units`
-    /// does.
+    /// that an end splits is cut, and a lead and a trail that then meet become one code point. Never fails, since the
+    /// string becomes no longer. Costs what `replace_units` does.
     pub fn remove_units(&mut self, begin: usize, end: usize) -> Result<(), AllocError>
         requires order { begin ≤ end }
         requires within { end ≤ length self.old.units }
         ensures ok { OnOk result (self.new.units ≡ spliced self.old.units begin end []) }
         ensures kept { OnErr result (KeepsContents self.old self.new) }
         ensures room { FitWithin (spliced self.old.units begin end []) 0 self.old.capacity → IsOk result }
+        ensures succeeds { IsOk result }
         ensures capacity { self.old.capacity ≤ self.new.capacity }
     {
         self.replace_units(begin, end, &[])
@@ -59,7 +60,11 @@ impl<A: Allocator> IndexedBuf<A> {
     {
         let marked = self.marked();
         let from = marked.mark_at(begin);
-        let to = marked.mark_at(end);
+        let to = if end == begin {
+            from
+        } else {
+            marked.mark_at(end)
+        };
         self.text.replace_units_at(from, begin, to, end, units)?;
         // There are no more units than bytes, so the sum fits.
         prove!(self.text.len() <= usize::MAX);

@@ -166,8 +166,8 @@ pub(crate) fn truncate_kept<A: Allocator>(text: CountedView<'_>, marks: &mut Opt
     }
 }
 
-/// Leaves out the marks, if marks are kept, that are not before unit `unchanged` of a text in which later ones were
-/// replaced, and appends those that are missing.
+/// Leaves out the marks, if marks are kept, that are not before unit `unchanged` of a text in which later units were
+/// replaced, and appends the marks that are missing.
 pub(crate) fn renew_after<A: Allocator>(
     text: CountedView<'_>,
     marks: &mut Option<MarkList<A>>,

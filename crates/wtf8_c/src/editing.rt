@@ -24,10 +24,10 @@ pub extern "C" fn wtf8_insert_units(string: &mut Wtf8String, index: usize, units
     code_of(buf.insert_units(index, units))
 }
 
-/// Removes the units from index `begin` to before `end`.
+/// Removes the units from index `begin` to before `end`. Memory is never refused.
 #[unsafe(no_mangle)]
 pub extern "C" fn wtf8_remove_units(string: &mut Wtf8String, begin: usize, end: usize) -> i32
-    ensures code { (result ≡ OK) ⊎ ((result ≡ NO_MEMORY) ⊎ (result ≡ BAD_POSITION)) }
+    ensures code { (result ≡ OK) ⊎ (result ≡ BAD_POSITION) }
     ensures position { result ≡ BAD_POSITION ↔ ¬ ((begin ≤ end) × (end ≤ length string.old.buf.units)) }
     ensures ok { result ≡ OK → string.new.buf.units ≡ spliced string.old.buf.units begin end [] }
     ensures kept { ¬ (result ≡ OK) → KeepsContents string.old.buf string.new.buf }

@@ -5,6 +5,7 @@ pub mod LossyTexts
 pub mod PositionLaws
 pub mod Positions
 pub mod PushedUnits
+pub mod Removals
 pub mod StringLaws
 pub mod SurrogatePositions
 pub mod Surrogates

@@ -1,4 +1,5 @@
 pub mod Blocks
+pub mod CountedParts
 pub mod FullBlocks
 pub mod PackedWords
 pub mod UnitCuts

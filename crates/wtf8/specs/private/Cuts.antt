@@ -4,7 +4,7 @@ use Rattle.wtf8.specs.Concatenation.{MeetsAsPair}
 use Rattle.wtf8.specs.Form.{IsForm, bytes}
 use Rattle.wtf8.specs.Unicode.{units}
 
--- The first `n` units of `c` are those of its code points before byte position `k`, then `head`, and no pair forms
+-- The first `n` units of `c` are the units of its code points before byte position `k`, then `head`, and no pair forms
 -- there, whatever follows `head`.
 pub record CutsBefore (c : List ℕ) (n k : ℕ) (head : List ℕ) : Type 0 where
   pub front : List ℕ
@@ -14,8 +14,8 @@ pub record CutsBefore (c : List ℕ) (n k : ℕ) (head : List ℕ) : Type 0 wher
   pub kept : units front ++ head ≡ take n (units c)
   pub apart : (x : List ℕ) → ¬ (MeetsAsPair (units front) (head ++ x))
 
--- The units of `c` after the first `n` are `tail`, then those of its code points from byte position `k` on, and no pair
--- forms there, whatever precedes `tail`.
+-- The units of `c` after the first `n` are `tail`, then the units of its code points from byte position `k` on, and no
+-- pair forms there, whatever precedes `tail`.
 pub record CutsAfter (c : List ℕ) (n k : ℕ) (tail : List ℕ) : Type 0 where
   pub front : List ℕ
   pub back : List ℕ

@@ -34,6 +34,9 @@ fn open_gap<A: Allocator>(
 {
     let len = bytes.len();
     let removed = end - begin;
+    if removed == n {
+        return Ok(());
+    }
     if removed < n {
         let by = n - removed;
         bytes.reserve(by)?;
@@ -47,17 +50,16 @@ fn open_gap<A: Allocator>(
     Ok(())
 }
 
-/// Writes the form of the units at index `at`, which must have room for it.
-fn write_units(out: &mut [u8], at: usize, v: &[u16])
+/// Writes the form of the units at index `at`, which must have room for it. It is encoded in `scratch`, part by part.
+fn write_units(out: &mut [u8], at: usize, v: &[u16], scratch: &mut [u8; SCRATCH_BYTES])
     requires { (w : List ℕ) → IsForm w v.now → at + length w ≤ length out.old }
     ensures { (w : List ℕ) → IsForm w v.now → out.new ≡ take at out.old ++ (w ++ drop (at + length w) out.old) }
 {
-    let mut block = [0; SCRATCH_BYTES];
     let mut read = 0;
     let mut to = at;
     while read < v.len() {
-        let front = encode_front(&v[read..], &mut block);
-        out[to..to + front.bytes].copy_from_slice(&block[..front.bytes]);
+        let front = encode_front(&v[read..], scratch);
+        out[to..to + front.bytes].copy_from_slice(&scratch[..front.bytes]);
         read += front.units;
         to += front.bytes;
     }
@@ -81,9 +83,10 @@ fn replace_bytes<A: Allocator>(
     let two_len = first_len + encoded_len(units);
     open_gap(bytes, begin, end, two_len + encoded_len(last))?;
     let out = bytes.as_mut_slice();
-    write_units(out, begin, first);
-    write_units(out, begin + first_len, units);
-    write_units(out, begin + two_len, last);
+    let mut scratch = [0; SCRATCH_BYTES];
+    write_units(out, begin, first, &mut scratch);
+    write_units(out, begin + first_len, units, &mut scratch);
+    write_units(out, begin + two_len, last, &mut scratch);
     Ok(())
 }
 

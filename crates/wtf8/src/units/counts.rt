@@ -1,15 +1,17 @@
 // Numbers of 16-bit code units: of a string, and of the code points that begin before a byte index.
-ghost use Rattle.std.specs.Prelude.{◌≡◌, ◌+◌, ◌*◌, ◌^◌, ◌<◌, ◌≤◌, length, map, take, drop, IfSome};
+ghost use Rattle.std.specs.Prelude.{◌≡◌, ◌+◌, ◌-◌, ◌*◌, ◌^◌, ◌<◌, ◌≤◌, length, map, take, drop, IfSome};
 ghost use Rattle.wtf8.specs.private.UnitsInBytes.{utf16_len, sum_utf16_len, IsCursor};
 ghost use Rattle.wtf8.specs.View.{view_units};
 
 use crate::codec::encoding;
 use crate::lanes::ascii::{ascii_front_len, is_ascii_overlapping};
+use crate::lanes::padding::padded;
 use crate::lanes::{BLOCK, VECTOR};
 use crate::strings::view::Wtf8;
 use std::simd::prelude::*;
 
-/// Bytes in a block when all units of a string are counted, after the groups of `SUMMED_BLOCKS` blocks.
+/// Bytes in a block when all units of a string are counted, after the groups of `SUMMED_BLOCKS` blocks: what `padded`
+/// returns.
 const HALF_BLOCK: usize = BLOCK / 2;
 
 /// Bytes in the smallest block that a counting loop takes.
@@ -122,19 +124,25 @@ pub(crate) fn skip_summed_blocks(bytes: &[u8], unit: usize, from: UnitCursor) ->
     UnitCursor { position, units }
 }
 
+/// Counts fewer than `HALF_BLOCK` bytes as one block, in which each zero after them is a unit.
+#[inline(always)]
+#[tactic(auto, using(crate::proofs::lemmas::units::CountedParts::sum_utf16_len_padded))]
+fn utf16_len_of_few(bytes: &[u8]) -> usize
+    requires { length bytes.now < HALF_BLOCK }
+    ensures { result ≡ sum_utf16_len bytes.now }
+{
+    utf16_len_of_block(padded(bytes)) - (HALF_BLOCK - bytes.len())
+}
+
 fn count_units(bytes: &[u8]) -> usize
     requires { sum_utf16_len bytes.now < 2 ^ 64 }
     ensures { result ≡ sum_utf16_len bytes.now }
 {
-    let mut cursor = START;
-    if HALF_BLOCK <= bytes.len() {
-        cursor = skip_all_blocks(bytes);
+    if bytes.len() < HALF_BLOCK {
+        return utf16_len_of_few(bytes);
     }
-    while let Some(next) = skip_block::<HALF_VECTOR>(bytes, NO_UNIT, cursor) {
-        cursor = next;
-    }
-    let cursor = skip_block::<4>(bytes, NO_UNIT, cursor).unwrap_or(cursor);
-    count_units_from(bytes, cursor)
+    let cursor = skip_all_blocks(bytes);
+    cursor.units + utf16_len_of_few(&bytes[cursor.position..])
 }
 
 /// Counts ASCII at the front, a unit a byte, then by `SUMMED_BLOCKS` blocks, then by `HALF_BLOCK` bytes. Not inlined, so
@@ -142,30 +150,22 @@ fn count_units(bytes: &[u8]) -> usize
 #[inline(never)]
 fn skip_all_blocks(bytes: &[u8]) -> UnitCursor
     requires { sum_utf16_len bytes.now < 2 ^ 64 }
-    ensures { IsCursor bytes.now NO_UNIT result }
+    ensures counted { IsCursor bytes.now NO_UNIT result }
+    ensures few { length bytes.now - result.position < HALF_BLOCK }
 {
     let ascii = ascii_front_len(bytes);
     let front = UnitCursor {
         position: ascii,
         units: ascii,
     };
-    let mut cursor = skip_summed_blocks(bytes, NO_UNIT, front);
-    while let Some(next) = skip_block::<HALF_BLOCK>(bytes, NO_UNIT, cursor) {
-        cursor = next;
-    }
-    cursor
-}
-
-fn count_units_from(bytes: &[u8], from: UnitCursor) -> usize
-    requires counted { IsCursor bytes.now NO_UNIT from }
-    requires fits { sum_utf16_len bytes.now < 2 ^ 64 }
-    ensures { result ≡ sum_utf16_len bytes.now }
-{
+    let from = skip_summed_blocks(bytes, NO_UNIT, front);
+    let mut position = from.position;
     let mut units = from.units;
-    for position in from.position..bytes.len() {
-        units += utf16_len_of_byte(bytes[position]);
+    while HALF_BLOCK <= bytes.len() - position {
+        units += utf16_len_of_block(Simd::<u8, HALF_BLOCK>::from_slice(&bytes[position..]));
+        position += HALF_BLOCK;
     }
-    units
+    UnitCursor { position, units }
 }
 
 impl<'a> Wtf8<'a> {

@@ -1,6 +1,8 @@
 -- Bytes that are moved within a list, by blocks: from the last block to the first, or from the first to the last.
 use Rattle.wtf8.proofs.Common.{◌≡◌, ℕ, ◌+◌, ◌-◌, ◌≤◌, ◌∙◌, List, ◌++◌, length, take, drop, arith, ap, sym, append_assoc, length-drop}
 use Rattle.wtf8.proofs.Common.{take-append-drop, take-take, take-add, take_at, drop_at, drop-drop, drop-take, length-take-le, length-append}
+use Rattle.wtf8.proofs.Common.{◌<◌, drop-append-le, append-nil, drop_all, []}
+use Rattle.std.proofs.lemmas.List.{take-append-le}
 use Rattle.std.proofs.lemmas.List.Edits.{take-paste, drop-paste}
 use lib.Seq.{paste}
 
@@ -86,3 +88,95 @@ moved_down {w} {now} {new} {from} {by} at n m o p h g =
           ∙ (drop-drop by ((at - by) + n) now
           ∙ (ap (λ k. drop k now) (omega (arith, o, p)) ∙ (sym (drop-drop n at now) ∙ (ap (drop n) m.back ∙ drop-drop n at w))))));
     }
+
+-- `w` whose bytes before index `end` are moved up as `p`, and whose last 64 bytes were then moved too
+module _ (w p new : List ℕ) (from by end : ℕ) (size : length p ≡ end) (within : end ≤ length w) (near : length w < end + 32)
+    (long : from + by + 64 ≤ length w)
+    (stored : new ≡ take (length w - 64) (p ++ drop end w) ++ (take 64 (drop (length w - by - 64) w)
+    ++ drop (length (take 64 (drop (length w - by - 64) w))) (drop (length w - 64) (p ++ drop end w)))) where
+  abbrev last_to : ℕ
+  last_to = length w - 64
+
+  abbrev last_from : ℕ
+  last_from = length w - by - 64
+
+  abbrev moved_part : List ℕ
+  moved_part = take last_to (p ++ drop end w)
+
+  abbrev last_part : List ℕ
+  last_part = take 64 (drop last_from w)
+
+  whole_len : length (p ++ drop end w) ≡ length w
+  whole_len = omega (arith, length-append p (drop end w), length-drop end w, size, within)
+
+  part_len : length moved_part ≡ last_to
+  part_len = length-take-le last_to (p ++ drop end w) (omega (arith, whole_len))
+
+  last_len : length last_part ≡ 64
+  last_len = length-take-le 64 (drop last_from w) (omega (arith, length-drop last_from w, long))
+
+  is_whole : new ≡ moved_part ++ last_part
+  is_whole = stored ∙ ap (λ b. moved_part ++ b) (ap (λ b. last_part ++ b) (drop_all (length last_part) (drop last_to (p ++ drop end w))
+      (omega (arith, length-drop last_to (p ++ drop end w), whole_len, last_len))) ∙ append-nil last_part)
+
+  pub front_stays : take from p ≡ take from (take end w) → take from new ≡ take from w
+  front_stays e = ap (take from) is_whole ∙ (take-append-le from moved_part last_part (omega (arith, part_len, long))
+      ∙ (take-take from last_to (p ++ drop end w) (omega (arith, long))
+      ∙ (take-append-le from p (drop end w) (omega (arith, size, near, long)) ∙ (e ∙ take-take from end w (omega (arith, near, long))))))
+
+  pub back_moves : drop (from + by) p ≡ drop from (take (end - by) w) → drop (from + by) new ≡ drop from (take (length w - by) w)
+  back_moves e =
+      let m = from + by in
+      let k = last_to - m in
+      let before = take (end - by) w in
+      let before_len : length before ≡ end - by = length-take-le (end - by) w (omega (arith, within)) in
+      let first : drop m moved_part ≡ drop from (take last_from w) =
+      ap (λ j. drop m (take j (p ++ drop end w))) (omega (arith, long)) ∙ (drop-take m k (p ++ drop end w)
+      ∙ (ap (take k) (drop-append-le m p (drop end w) (omega (arith, size, near, long)) ∙ ap (λ b. b ++ drop end w) e)
+      ∙ (take-append-le k (drop from before) (drop end w) (omega (arith, length-drop from before, before_len, near, long))
+      ∙ (sym (drop-take from k before) ∙ ap (drop from) (take-take (from + k) (end - by) w (omega (arith, near, long))
+      ∙ ap (λ j. take j w) (omega (arith, long))))))) in
+      let both : take (length w - by) w ≡ take last_from w ++ last_part = ap (λ j. take j w) (omega (arith, long)) ∙ take-add last_from 64 w in
+      ap (drop m) is_whole ∙ (drop-append-le m moved_part last_part (omega (arith, part_len, long))
+      ∙ (ap (λ f. f ++ last_part) first ∙ sym (ap (drop from) both ∙ drop-append-le from (take last_from w) last_part
+      (omega (arith, length-take-le last_from w (omega arith), long)))))
+
+-- `w` whose bytes from index `begin + by` on are moved down as `q`, and whose 64 bytes from `from` on were then moved too
+pub first_stored : (w q v z new : List ℕ) (from by begin : ℕ) → v ≡ drop begin w → length q ≡ length w - begin → by ≤ from
+    → from - by < begin → begin ≤ from - by + 32 → from + 64 ≤ length w
+    → take (length v - by) q ≡ take (by - by) v ++ drop by v
+    → new ≡ take (from - by) (take begin w ++ (q ++ z)) ++ (take 64 (drop from w)
+    ++ drop (length (take 64 (drop from w))) (drop (from - by) (take begin w ++ (q ++ z))))
+    → take (length w - by) new ≡ take (from - by) w ++ drop from w
+first_stored w q v z new from by begin same size order after near long moved stored =
+    let to = from - by in
+    let now = take begin w ++ (q ++ z) in
+    let part = take 64 (drop from w) in
+    let r = to + 64 - begin in
+    let b = length w - from - 64 in
+    let part_len : length part ≡ 64 = length-take-le 64 (drop from w) (omega (arith, length-drop from w, long)) in
+    let none : by - by ≡ 0 = omega arith in
+    let begin_len : length (take begin w) ≡ begin = length-take-le begin w (omega (arith, near, long)) in
+    let v_len : length v ≡ length w - begin = ap length same ∙ length-drop begin w in
+    let front : take to now ≡ take to w = take-append-le to (take begin w) (q ++ z) (omega (arith, begin_len, after))
+    ∙ take-take to begin w (omega (arith, after)) in
+    let later : drop (length part) (drop to now) ≡ drop r q ++ z =
+    ap (λ k. drop k (drop to now)) part_len ∙ (drop-drop 64 to now ∙ (ap (λ k. drop k now) (omega (arith, near))
+    ∙ (sym (drop-drop r begin now) ∙ (ap (drop r) (drop_at (take begin w) (q ++ z) begin begin_len)
+    ∙ drop-append-le r q z (omega (arith, size, near, long, order)))))) in
+    let whole : new ≡ (take to w ++ part) ++ (drop r q ++ z) =
+    stored ∙ (ap (λ f. f ++ (part ++ drop (length part) (drop to now))) front
+    ∙ (ap (λ l. take to w ++ (part ++ l)) later ∙ sym (append_assoc (take to w) part (drop r q ++ z)))) in
+    let first_len : length (take to w ++ part) ≡ to + 64 =
+    omega (arith, length-append (take to w) part, length-take-le to w (omega (arith, long)), part_len) in
+    let rest : take b (drop r q ++ z) ≡ drop (from + 64) w =
+    take-append-le b (drop r q) z (omega (arith, length-drop r q, size, near, long, order, after))
+    ∙ (sym (drop-take r b q) ∙ (ap (λ k. drop r (take k q)) (omega (arith, v_len, near, long, order, after))
+    ∙ (ap (drop r) (moved ∙ ap (λ k. take k v ++ drop by v) none)
+    ∙ (drop-drop r by v ∙ (ap (drop (by + r)) same ∙ (drop-drop (by + r) begin w ∙ ap (λ k. drop k w) (omega (arith, near, order)))))))) in
+    ap (λ k. take k new) (omega (arith, long, order)) ∙ (ap (take ((to + 64) + b)) whole
+    ∙ (take-add (to + 64) b ((take to w ++ part) ++ (drop r q ++ z))
+    ∙ (ap (λ f. f ++ take b (drop (to + 64) ((take to w ++ part) ++ (drop r q ++ z)))) (take_at (take to w ++ part) (drop r q ++ z) (to + 64) first_len)
+    ∙ (ap (λ l. (take to w ++ part) ++ take b l) (drop_at (take to w ++ part) (drop r q ++ z) (to + 64) first_len)
+    ∙ (ap (λ l. (take to w ++ part) ++ l) rest ∙ (append_assoc (take to w) part (drop (from + 64) w)
+    ∙ ap (λ l. take to w ++ l) (ap (λ l. part ++ l) (sym (drop-drop 64 from w)) ∙ take-append-drop 64 (drop from w))))))))

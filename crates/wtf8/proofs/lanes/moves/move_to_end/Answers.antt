@@ -1,52 +1,41 @@
-use Rattle.wtf8.proofs.Common.{◌≡◌, ◌+◌, ◌-◌, ◌≤◌, ◌∙◌, ◌++◌, ap, sym, arith, length, length-drop, length-take-le, drop, take, drop-drop, refl, drop_all, take_all}
-use Rattle.std.proofs.lemmas.Simd.{put_chunk_is, length-chunk}
-use Rattle.wtf8.proofs.lemmas.lanes.Moves.{MovedUp, moved_up, paste_is}
-use Rattle.wtf8.proofs.lanes.moves.move_to_end.Goals.{After-copy_within}
+use Rattle.wtf8.proofs.Common.{◌≡◌, ◌+◌, ◌-◌, ◌∙◌, ◌++◌, ap, arith, length, length-drop, length-append, length-take-le, drop, take, take-take}
+use Rattle.std.proofs.lemmas.Simd.{put_chunk_is}
+use Rattle.wtf8.proofs.lemmas.lanes.Moves.{front_stays, back_moves}
+use Rattle.wtf8.proofs.lanes.moves.move_to_end.Goals.{After-move_blocks_to_end-2}
 use Rattle.wtf8.proofs.lanes.moves.move_to_end.Goals as goal
 
-pub loop-at-init : goal.loop-at-init
-loop-at-init c =
-    let w = c.args.bytes.now in
-    let all : take (length w) w ≡ w = take_all (length w) w (omega arith) in (
-      omega (arith, c.requires),
-      omega (arith, c.requires),
-      record {
-        len = refl;
-        front = refl;
-        back = ap (λ k. drop k w) (omega (arith, c.requires)) ∙ (drop_all (length w) w (omega arith)
-            ∙ sym (drop_all (length w - c.args.by) (take (length w - c.args.by) w)
-            (omega (arith, length-take-le (length w - c.args.by) w (omega arith)))));
-      },
-    )
-
-pub loop-at-preserved : goal.loop-at-preserved
-loop-at-preserved c =
-    let i = c.loop-at.invariant in
-    let at = c.loop-at.at - 64 in
-    let now = c.loop-at.bytes in
-    let enough : 64 ≤ c.loop-at.at = omega (arith, c.loop-at-test.true) in
-    let long : at + 64 ≤ length now = omega (arith, i.1, i.2.len, enough) in
-    let size : length (take 64 (drop at now)) ≡ 64 = length-chunk at 64 now long in (
-      omega (arith, c.loop-at-test.true),
-      omega (arith, i.1, enough),
-      moved_up at 64 i.2 i.1 (omega (arith, enough))
-          (put_chunk_is (at + c.args.by) now (take 64 (drop at now)) (omega (arith, size, i.1, i.2.len, enough))
-          ∙ ap (λ b. take (at + c.args.by) now ++ (take 64 (drop at now) ++ b))
-          (ap (λ k. drop k (drop (at + c.args.by) now)) size ∙ drop-drop 64 (at + c.args.by) now)),
-    )
-
--- after the first bytes are moved too
-moved : (c : After-copy_within) → MovedUp c.args.bytes.now c.args.from c.args.by c.copy_within.new.self
-moved c =
-    let i = c.loop-at.invariant in
-    let now = c.loop-at.bytes in
-    let n = c.loop-at.at - c.args.from in
-    moved_up c.args.from n i.2 i.1 (omega (arith, i.0))
-    (c.copy_within.ensures.after ∙ paste_is now (c.args.from + c.args.by) (drop c.args.from now) n
-    (omega (arith, i.0, i.1, i.2.len)) (omega (arith, length-drop c.args.from now, i.0, i.1, i.2.len)))
+-- the length of the part that ends at a multiple
+end_len : (c : After-move_blocks_to_end-2) → length (take c.aligned_at_most.result c.args.bytes.now) ≡ c.aligned_at_most.result
+end_len c = length-take-le c.aligned_at_most.result c.args.bytes.now c.aligned_at_most.ensures.within
 
 pub returns-clause-front : goal.returns-clause-front
-returns-clause-front c = (moved (goal.at.returns-clause-front c).After-copy_within).front
+returns-clause-front c =
+    let here = (goal.at.returns-clause-front c).After-move_blocks_to_end-2 in
+    let w = c.args.bytes.now in
+    let end = c.aligned_at_most.result in
+    let now = c.move_blocks_to_end-2.new.bytes ++ drop end w in
+    let size = c.move_blocks_to_end-2.ensures.len ∙ end_len here in
+    let long = c.if-len-by-lt-BLOCK.false in
+    let last = take 64 (drop (length w - c.args.by - 64) w) in
+    let last_len : length last ≡ 64 = length-take-le 64 (drop (length w - c.args.by - 64) w) (omega (arith, length-drop (length w - c.args.by - 64) w, c.requires, long)) in
+    front_stays w c.move_blocks_to_end-2.new.bytes _ c.args.from c.args.by end size c.aligned_at_most.ensures.within
+    c.aligned_at_most.ensures.near (omega (arith, c.requires, long))
+    (put_chunk_is (length w - 64) now last (omega (arith, last_len, length-append c.move_blocks_to_end-2.new.bytes (drop end w), length-drop end w, size, c.aligned_at_most.ensures.within, long)))
+    c.move_blocks_to_end-2.ensures.front
 
 pub returns-clause-back : goal.returns-clause-back
-returns-clause-back c = (moved (goal.at.returns-clause-back c).After-copy_within).back
+returns-clause-back c =
+    let here = (goal.at.returns-clause-back c).After-move_blocks_to_end-2 in
+    let w = c.args.bytes.now in
+    let end = c.aligned_at_most.result in
+    let by = c.args.by in
+    let now = c.move_blocks_to_end-2.new.bytes ++ drop end w in
+    let size = c.move_blocks_to_end-2.ensures.len ∙ end_len here in
+    let long = c.if-len-by-lt-BLOCK.false in
+    let last = take 64 (drop (length w - by - 64) w) in
+    let last_len : length last ≡ 64 = length-take-le 64 (drop (length w - by - 64) w) (omega (arith, length-drop (length w - by - 64) w, c.requires, long)) in
+    back_moves w c.move_blocks_to_end-2.new.bytes _ c.args.from by end size c.aligned_at_most.ensures.within
+    c.aligned_at_most.ensures.near (omega (arith, c.requires, long))
+    (put_chunk_is (length w - 64) now last (omega (arith, last_len, length-append c.move_blocks_to_end-2.new.bytes (drop end w), length-drop end w, size, c.aligned_at_most.ensures.within, long)))
+    (c.move_blocks_to_end-2.ensures.back ∙ (ap (λ k. drop c.args.from (take (k - by) (take end w))) (end_len here)
+    ∙ ap (drop c.args.from) (take-take (end - by) end w (omega arith))))

@@ -15,7 +15,7 @@ loop-read-init c = writes_none c.args.out.now c.args.at c.args.v.now
 part : (c : After-encode_front-front) → length (take c.encode_front-front.result.bytes c.encode_front-front.new.out) ≡ c.encode_front-front.result.bytes
 part c = length-take-le c.encode_front-front.result.bytes c.encode_front-front.new.out c.encode_front-front.ensures.within.1
 
--- with the form of the units after it, the part is the form of those that are left
+-- with the form of the units after it, the part is the form of the units that are left
 joins : (c : After-encode_front-front) → (w : List ℕ)
     → IsForm w (drop c.encode_front-front.result.units (drop c.loop-read.read c.args.v.now))
     → IsForm (take c.encode_front-front.result.bytes c.encode_front-front.new.out ++ w) (drop c.loop-read.read c.args.v.now)

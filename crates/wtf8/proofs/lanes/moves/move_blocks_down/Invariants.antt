@@ -1,6 +1,6 @@
 use Rattle.wtf8.proofs.Common.{◌-◌, ◌≤◌, length}
 use Rattle.wtf8.proofs.lemmas.lanes.Moves.{MovedDown}
-use Rattle.wtf8.proofs.lanes.moves.move_down.Given as goal
+use Rattle.wtf8.proofs.lanes.moves.move_blocks_down.Given as goal
 
 abbrev pub invariant-loop-bytes : goal.invariant-loop-bytes
 invariant-loop-bytes l = (l.from ≤ l.at) × (l.at ≤ length l.initial.bytes) × MovedDown l.initial.bytes l.from l.at l.by l.bytes
