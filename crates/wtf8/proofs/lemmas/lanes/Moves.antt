@@ -1,7 +1,7 @@
 -- Bytes that are moved within a list, by blocks: from the last block to the first, or from the first to the last.
 use Rattle.wtf8.proofs.Common.{◌≡◌, ℕ, ◌+◌, ◌-◌, ◌≤◌, ◌∙◌, List, ◌++◌, length, take, drop, arith, ap, sym, append_assoc, length-drop}
 use Rattle.wtf8.proofs.Common.{take-append-drop, take-take, take-add, take_at, drop_at, drop-drop, drop-take, length-take-le, length-append}
-use Rattle.wtf8.proofs.Common.{◌<◌, drop-append-le, append-nil, drop_all, []}
+use Rattle.wtf8.proofs.Common.{◌<◌, drop-append-le, append-nil, drop_all}
 use Rattle.std.proofs.lemmas.List.{take-append-le}
 use Rattle.std.proofs.lemmas.List.Edits.{take-paste, drop-paste}
 use lib.Seq.{paste}

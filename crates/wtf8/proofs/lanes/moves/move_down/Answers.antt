@@ -1,4 +1,4 @@
-use Rattle.wtf8.proofs.Common.{◌≡◌, ◌+◌, ◌-◌, ◌∙◌, ◌++◌, ap, arith, length, length-drop, length-append, length-take-le, drop, take, take_all}
+use Rattle.wtf8.proofs.Common.{◌≡◌, ◌-◌, ◌∙◌, ◌++◌, ap, arith, length, length-drop, length-append, length-take-le, drop, take, take_all}
 use Rattle.std.proofs.lemmas.Simd.{put_chunk_is}
 use Rattle.wtf8.proofs.lemmas.lanes.Moves.{first_stored}
 use Rattle.wtf8.proofs.lanes.moves.move_down.Goals as goal

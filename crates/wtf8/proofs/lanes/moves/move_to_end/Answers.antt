@@ -1,4 +1,4 @@
-use Rattle.wtf8.proofs.Common.{◌≡◌, ◌+◌, ◌-◌, ◌∙◌, ◌++◌, ap, arith, length, length-drop, length-append, length-take-le, drop, take, take-take}
+use Rattle.wtf8.proofs.Common.{◌≡◌, ◌-◌, ◌∙◌, ◌++◌, ap, arith, length, length-drop, length-append, length-take-le, drop, take, take-take}
 use Rattle.std.proofs.lemmas.Simd.{put_chunk_is}
 use Rattle.wtf8.proofs.lemmas.lanes.Moves.{front_stays, back_moves}
 use Rattle.wtf8.proofs.lanes.moves.move_to_end.Goals.{After-move_blocks_to_end-2}
