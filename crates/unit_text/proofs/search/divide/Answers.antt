@@ -1,4 +1,4 @@
-use Rattle.std.proofs.Common.{◌≡◌, ◌∙◌, ◌++◌, ap, sym, append_assoc, take, take-append-drop}
+use Rattle.std.proofs.Common.{◌∙◌, ◌++◌, ap, sym, append_assoc, take, take-append-drop}
 use Rattle.wtf8.specs.View.{view_units}
 use Rattle.unit_text.proofs.search.divide.Goals as goal
 

@@ -1,4 +1,4 @@
-use Rattle.std.proofs.Common.{◌≡◌, ◌∙◌, ◌+◌, ◌-◌, ◌++◌, ap, sym, subst, arith, append_assoc, length, take, drop, length-append, length-take-le, take-append-drop}
+use Rattle.std.proofs.Common.{◌≡◌, ◌∙◌, ◌+◌, ◌-◌, ◌++◌, ap, subst, arith, append_assoc, length, take, drop, length-append, length-take-le}
 use Rattle.wtf8.specs.View.{view_units}
 use Rattle.unit_text.specs.Search.{IsFirstIndex}
 use Rattle.unit_text.specs.private.Search.{pattern_units}

@@ -66,7 +66,7 @@ between g c same = c.write_units-count.ensures.units ∙ c.slice_from_mark.ensur
 whole : (g : _) (c : After-last_in_block g) → view_units c.slice_to-text.result ≡ take c.mark_at-after.result.units (view_units c.args.view)
     → c.mark_back-begin.result.units ≤ c.mark_at-after.result.units
     → take c.write_units-count.result c.write_units-count.new.out ++ view_units c.slice_from_mark-back.result
-        ≡ drop c.mark_back-begin.result.units (view_units c.args.view)
+    ≡ drop c.mark_back-begin.result.units (view_units c.args.view)
 whole g c same order =
     let u = view_units c.args.view in
     let begin = c.mark_back-begin.result.units in
