@@ -1893,6 +1893,160 @@ static void marked_edits(void) {
     wtf8_free(&p.string);
 }
 
+/* Asks a string with marks for the unit, the position and the index at each index and position: by the model. */
+static void must_be_marked(const struct pair *p, const char *what) {
+    size_t position = 0, taken = 0;
+    must(wtf8_unit_len(&p->string) == p->n && wtf8_byte_len(&p->string) == byte_len(p), what);
+    for (size_t i = 0; i < p->n; i += taken) {
+        uint32_t c = point_at(p, i, &taken);
+        uint8_t bytes[4];
+        size_t len = encode(c, bytes), found = 77;
+        for (size_t k = 0; k < taken; k++) {
+            uint16_t unit = 7;
+            must(wtf8_unit_at(&p->string, i + k, &unit) == WTF8_OK && unit == p->units[i + k], what);
+            must(wtf8_position_at(&p->string, i + k, &found) == WTF8_OK && found == position, what);
+        }
+        for (size_t k = 0; k < len; k++) must(wtf8_unit_before(&p->string, position + k) == i, what);
+        position += len;
+    }
+    must(wtf8_unit_before(&p->string, position) == p->n, what);
+}
+
+/* A string with marks is cut at each index about a mark, by each call that cuts, behind a lead, a trail or another unit, and
+ * goes on with a trail or another unit. A mark that stays at the end would be within a pair then. */
+static void marks_at_cuts(void) {
+    enum { LONG = 400, ABOUT = 3, WAYS = 4, TAIL = 21 };
+    static const uint16_t kinds[] = {0xE9, 0x4E2D, 0xD83D}, lasts[] = {'a', 0x4E2D, 0xDBFF, 0xDC00}, nexts[] = {'b', 0x3042, 0xDFFF, 0xD800};
+    static struct pair p;
+    size_t number = 0;
+    for (size_t mark = SPACING; mark < LONG; mark += SPACING)
+        for (size_t cut = mark - ABOUT; cut <= mark + ABOUT; cut++)
+            for (size_t k = 0; k < 3 * 4 * 4 * WAYS; k++) {
+                uint16_t kind = kinds[k % 3], last = lasts[k / 3 % 4], next = nexts[k / 12 % 4];
+                size_t way = k / 48;
+                uint32_t point;
+                p.n = LONG;
+                for (size_t i = 0; i < LONG; i++) p.units[i] = kind == 0xD83D && i % 2 == 1 ? 0xDCA9 : kind;
+                p.units[cut - 1] = last;
+                /* No pair is cut here by truncate_bytes or pop. */
+                p.units[cut] = 'c';
+                must(wtf8_set_units(&p.string, p.units, LONG) == WTF8_OK && wtf8_mark(&p.string) == WTF8_OK, "a string to cut");
+                switch (way) {
+                    case 0: must(wtf8_truncate_units(&p.string, cut) == WTF8_OK, "truncate_units at a mark"); break;
+                    case 1: must(wtf8_truncate_bytes(&p.string, position_of(&p, cut)) == WTF8_OK, "truncate_bytes at a mark"); break;
+                    case 2: must(wtf8_remove_units(&p.string, cut, LONG) == WTF8_OK, "remove_units at a mark"); break;
+                    default:
+                        must(wtf8_truncate_units(&p.string, cut + 1) == WTF8_OK, "truncate_units after a mark");
+                        must(wtf8_pop(&p.string, &point) == WTF8_OK && point == 'c', "pop at a mark");
+                }
+                p.n = cut;
+                for (size_t i = 0; i < TAIL; i++) p.units[p.n + i] = i % 5 == 4 ? 0xE9 : 'x';
+                p.units[p.n] = next;
+                if (number++ % 2 == 0) must(wtf8_push_units(&p.string, p.units + p.n, TAIL) == WTF8_OK, "units after a cut");
+                else for (size_t i = 0; i < TAIL; i++) must(wtf8_push_unit(&p.string, p.units[p.n + i]) == WTF8_OK, "a unit after a cut");
+                p.n += TAIL;
+                must_be_marked(&p, "a marked string that was cut and went on");
+            }
+    wtf8_free(&p.string);
+}
+
+/* The first index from `from` on, or with `is_last` the last one up to it, at which units occur in others, or -1: each index
+ * is tried. */
+static long index_of(const uint16_t *units, size_t n, const uint16_t *part, size_t size, long from, int is_last) {
+    long last = (long)n - (long)size, i = is_last && last < from ? last : from;
+    for (; 0 <= i && i <= last; i += is_last ? -1 : 1)
+        if (units[i + (long)size - 1] == part[size - 1] && memcmp(units + i, part, 2 * size) == 0) return i;
+    return -1;
+}
+
+/* Long units that are nearly periodic are searched for in longer ones: more than are decoded at a time, and more than are kept
+ * with their borders. They go on elsewhere as they begin, so that what was compared must be taken up again. */
+static void long_searches(void) {
+    enum { LONG = 6200, AT = 1500 };
+    static const struct { size_t period, size; } rows[] = {
+        {1, 63}, {1, 66}, {2, 513}, {3, 700}, {1, 2047}, {1, 2048}, {1, 2049}, {1, 2100}, {2, 2300}, {5, 2600}, {7, 4500}};
+    static const uint16_t kinds[] = {'a', 0xE9, 0x4E2D, 0xD83D};
+    static uint16_t units[LONG];
+    for (size_t k = 0; k < sizeof rows / sizeof rows[0]; k++)
+        for (size_t kind = 0; kind < sizeof kinds / sizeof kinds[0]; kind++) {
+            size_t n = LONG - k, size = rows[k].size, period = rows[k].period;
+            wtf8_string string = WTF8_EMPTY, part = WTF8_EMPTY;
+            /* A pair for each unit of the last kind. */
+            size_t width = kinds[kind] == 0xD83D ? 2 : 1;
+            for (size_t i = 0; i < n; i++)
+                units[i] = width == 2 && i % 2 == 1 ? 0xDCA9 : (uint16_t)(kinds[kind] + i / width % period);
+            /* The units that are searched for end with another one, which is there from index `AT` on, and near the end. */
+            for (size_t end = AT + size; end < n; end += size + period + 1) units[end / 2 * 2] = 'z';
+            must(wtf8_set_units(&string, units, n) == WTF8_OK && (k % 2 == 0 || wtf8_mark(&string) == WTF8_OK), "a long string to search");
+            for (size_t at = AT; at < AT + 3; at++) {
+                if (n < at + size) continue;
+                const uint16_t *wanted = units + at;
+                must(wtf8_set_units(&part, wanted, size) == WTF8_OK, "a long part");
+                for (size_t from = 0; from <= n; from += n / 3) {
+                    for (int is_last = 0; is_last < 2; is_last++) {
+                        long must_be = index_of(units, n, wanted, size, (long)from, is_last);
+                        size_t index = 77, other = 77;
+                        wtf8_result code = is_last ? wtf8_rfind_units(&string, from, wanted, size, &index) : wtf8_find_units(&string, from, wanted, size, &index);
+                        must(must_be < 0 ? code == WTF8_END : code == WTF8_OK && index == (size_t)must_be, "find_units of long units");
+                        code = is_last ? wtf8_rfind(&string, from, &part, &other) : wtf8_find(&string, from, &part, &other);
+                        must(must_be < 0 ? code == WTF8_END : code == WTF8_OK && other == (size_t)must_be, "find of a long string");
+                    }
+                }
+            }
+            wtf8_free(&string);
+            wtf8_free(&part);
+        }
+}
+
+/* Two letters in ASCII, as far apart as may be, are appended without a request if they fit, however little or much room is
+ * left after them. */
+static void letters_that_fit(void) {
+    static const uint16_t kinds[] = {0xE9, 0x4E2D, 0xDC00};
+    static const size_t lengths[] = {63, 64, 65, 97, 130}, more[] = {0, 1, 31, 32, 63, 64, 65, 126, 127, 128};
+    enum { MOST_UNITS = 130, BLOCK = 32 };
+    uint16_t units[MOST_UNITS];
+    for (size_t k = 0; k < 3 * 5; k++)
+        for (size_t i = 0; i < BLOCK; i++) {
+            size_t n = lengths[k / 3], j = i + 1 + (i + k) % BLOCK;
+            for (size_t at = 0; at < n; at++) units[at] = (uint16_t)('a' + at % 26);
+            units[i] = units[j] = kinds[k % 3];
+            size_t bytes = wtf8_encoded_len(units, n);
+            for (size_t m = 0; m < sizeof more / sizeof more[0]; m++) {
+                wtf8_string string = WTF8_EMPTY;
+                must(wtf8_reserve_bytes(&string, bytes + more[m]) == WTF8_OK, "room for letters");
+                size_t before = wtf8_capacity(&string) - bytes - more[m];
+                must(wtf8_push_utf8(&string, letters, before, NULL) == WTF8_OK, "what is before letters");
+                uint16_t *array = array_of(units, 2 * n);
+                long requested = requests;
+                refuse_after = 0;
+                must(wtf8_push_units(&string, array, n) == WTF8_OK && requests == requested, "letters that fit");
+                refuse_after = -1;
+                must_begin(array, 2 * n, units, 2 * n, "the letters");
+                must(wtf8_unit_len(&string) == before + n && wtf8_starts_with_units(&string, before, units, n), "letters that were appended");
+                must(wtf8_byte_len(&string) == before + bytes, "the bytes of letters that were appended");
+                wtf8_free(&string);
+            }
+        }
+}
+
+/* A text in Latin-1 that does not fit takes one request; if it is as short as a list of units that is pushed at once, it may
+ * take two. */
+static void latin1_requests(void) {
+    enum { LONG = 400 };
+    static uint8_t text[LONG];
+    for (size_t high = 0; high < 3; high++)
+        for (size_t n = 1; n <= LONG; n++) {
+            for (size_t i = 0; i < n; i++) text[i] = high == 2 || (high == 1 && i == n - 1) ? 0xE9 : 'a';
+            for (int is_set = 0; is_set < 2; is_set++) {
+                wtf8_string string = WTF8_EMPTY;
+                long requested = requests;
+                wtf8_result code = is_set ? wtf8_set_latin1(&string, text, n) : wtf8_push_latin1(&string, text, n);
+                must(code == WTF8_OK && requests - requested <= (n <= 32 ? 2 : 1), "the request of a text in Latin-1");
+                wtf8_free(&string);
+            }
+        }
+}
+
 /* Functions with a context: what was used before them, and how often each was called. */
 struct counted {
     wtf8_memory used;
@@ -2002,6 +2156,10 @@ int main(void) {
     long_searches();
     edits();
     marked_edits();
+    marks_at_cuts();
+    long_searches();
+    letters_that_fit();
+    latin1_requests();
     memory_with_context();
     printf("edges: %ld requests, no difference\n", requests);
     return 0;

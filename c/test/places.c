@@ -6,6 +6,7 @@
 #include "must.h"
 
 #include <string.h>
+#include <sys/mman.h>
 
 enum { LONGEST_LIST = 130, LONG_LIST = 700, GUARD = 64, SPARE = 3000 };
 
@@ -60,6 +61,19 @@ static uint8_t out_bytes[3 * MOST];
 static void guard(void) {
     memset(out, 0x5A, 2 * (list.n + GUARD));
     memset(out_bytes, 0x5A, len + GUARD);
+}
+
+/* A copy of what a call is given, which ends where a page begins that cannot be read. */
+static const void *at_page_end(const void *of, size_t size) {
+    enum { PAGE = 4096, PAGES = 2 };
+    static uint8_t *end;
+    if (end == NULL) {
+        uint8_t *pages = mmap(NULL, (PAGES + 1) * PAGE, PROT_READ | PROT_WRITE, MAP_PRIVATE | MAP_ANONYMOUS, -1, 0);
+        must(pages != MAP_FAILED && mprotect(pages + PAGES * PAGE, PAGE, PROT_NONE) == 0, "pages for the test");
+        end = pages + PAGES * PAGE;
+    }
+    must(size <= PAGES * PAGE, "room for a copy");
+    return memcpy(end - size, of, size);
 }
 
 static void must_have_units(const uint16_t *units, size_t n, const char *what) {
@@ -146,18 +160,96 @@ static void find(const wtf8_string *string, size_t place) {
     must(wtf8_rfind_units(string, place, list.units + place, 1, &index) == WTF8_OK && index == place, "rfind_units of a unit");
 }
 
+/* Pushes the code points of the list at once. */
+static void points(uint64_t hash) {
+    static wtf8_string string;
+    uint32_t values[LONG_LIST + 2];
+    size_t n = 0;
+    for (size_t i = 0, taken = 0; i < list.n; i += taken) values[n++] = point_at(&list, i, &taken);
+    wtf8_clear(&string);
+    must(wtf8_push_code_points(&string, values, n) == WTF8_OK, "push_code_points");
+    must_be_list(&string, hash, "pushed code points");
+}
+
+/* Ways to make a string of the list, and to append units that begin with a trail. */
+enum { MADE_NEW, SET_AGAIN, PUSHED, PUSHED_IN_TWO, MADE_OF_POINTS, COPIED, SLICED, INSERTED, WAYS };
+enum { APPENDED_UNIT, APPENDED_FEW, APPENDED_MANY, APPENDED_STRING, APPENDED_SLICE, APPENDED_POINT, TRAILS };
+
+static void make(wtf8_string *string, int way, const wtf8_string *of, size_t place) {
+    size_t n = list.n;
+    must(wtf8_reserve_bytes(string, SPARE) == WTF8_OK, "room");
+    if (way == MADE_NEW) wtf8_free(string);
+    wtf8_clear(string);
+    switch (way) {
+        case MADE_NEW: case SET_AGAIN: must(wtf8_set_units(string, list.units, n) == WTF8_OK, "a list to complete"); break;
+        case PUSHED: must(wtf8_push_units(string, list.units, n) == WTF8_OK, "a list to complete"); break;
+        case PUSHED_IN_TWO:
+            must(wtf8_push_units(string, list.units, place / 2) == WTF8_OK, "half of a list to complete");
+            must(wtf8_push_units(string, list.units + place / 2, n - place / 2) == WTF8_OK, "a list to complete");
+            break;
+        case MADE_OF_POINTS:
+            for (size_t i = 0, taken = 0; i < n; i += taken) {
+                uint32_t value = point_at(&list, i, &taken);
+                must(wtf8_push_code_points(string, &value, 1) == WTF8_OK, "a code point of a list to complete");
+            }
+            break;
+        case COPIED: must(wtf8_set_string(string, of) == WTF8_OK, "a list to complete"); break;
+        case SLICED: must(wtf8_slice_units(string, of, 0, n) == WTF8_OK, "a list to complete"); break;
+        default: must(wtf8_insert_units(string, 0, list.units, n) == WTF8_OK, "a list to complete");
+    }
+}
+
+/* The lead surrogate at `place`, which is alone, is completed when it has become the last unit: also of a string that a
+ * wrong build takes for one without surrogates. */
+static void complete(size_t place) {
+    static wtf8_string string, of, trails;
+    static uint16_t after[40] = {0xDFFF, 'x', 0xDFFF};
+    static const uint16_t before[1] = {'x'};
+    const uint32_t trail = 0xDFFF;
+    static size_t number;
+    if (place >= list.n || !is_lead(list.units[place])) return;
+    if (place + 1 < list.n && is_trail(list.units[place + 1])) return;
+    uint32_t pair = 0x10000 + ((uint32_t)(list.units[place] - 0xD800) << 10) + 0x3FF, value = 0;
+    must(wtf8_set_units(&of, list.units, list.n) == WTF8_OK, "a list to complete");
+    for (int way = (int)(number % 2); way < WAYS; way += 2) {
+        /* The first `n` units of these, by another way for each list. */
+        int how = (int)(number++ % TRAILS);
+        size_t n = how == APPENDED_UNIT || how == APPENDED_POINT ? 1 : how == APPENDED_FEW ? 1 + number % 12 : 1 + number % 40, units = 0;
+        make(&string, way, &of, place);
+        must(wtf8_truncate_units(&string, place + 1) == WTF8_OK, "the units up to a lead");
+        must(wtf8_set_units(&trails, before, 1) == WTF8_OK && wtf8_push_units(&trails, after, n) == WTF8_OK, "a trail and others");
+        size_t position = wtf8_byte_len(&string) - 3, left;
+        switch (how) {
+            case APPENDED_UNIT: must(wtf8_push_unit(&string, after[0]) == WTF8_OK, "push_unit of a trail"); break;
+            case APPENDED_POINT: must(wtf8_push_code_points(&string, &trail, 1) == WTF8_OK, "push_code_points of a trail"); break;
+            case APPENDED_STRING:
+                must(wtf8_remove_units(&trails, 0, 1) == WTF8_OK && wtf8_push_string(&string, &trails) == WTF8_OK, "push_string of a trail");
+                break;
+            case APPENDED_SLICE: must(wtf8_push_slice(&string, &trails, 1, n + 1) == WTF8_OK, "push_slice of a trail"); break;
+            default: must(wtf8_push_units(&string, after, n) == WTF8_OK, "push_units of a trail");
+        }
+        left = wtf8_byte_len(&string);
+        must(wtf8_unit_len(&string) == place + 1 + n && wtf8_starts_with_units(&string, place + 1, after, n), "the units after a lead");
+        must(wtf8_next_code_point(&string, &position, &value) == WTF8_OK && value == pair, "a pair that was completed");
+        must(wtf8_copy_units(&string, out, MOST, &units) == WTF8_OK && units == place + 1 + n, "the units of a pair that was completed");
+        must(memcmp(out, list.units, 2 * (place + 1)) == 0 && memcmp(out + place + 1, after, 2 * n) == 0, "the same units");
+        must(left >= position && wtf8_is_boundary(&string, position) && !wtf8_is_boundary(&string, position - 1), "the end of a pair");
+    }
+}
+
 static void units(size_t place) {
     static wtf8_string new, set, roomy;
     uint64_t hash = hash_of(&list, 1, 2);
     size_t n = list.n;
+    const uint16_t *given = at_page_end(list.units, 2 * n);
     lists++;
-    must(wtf8_encoded_len(list.units, n) == len, "encoded_len");
-    must(wtf8_hash_units(list.units, n, 1, 2) == hash, "hash_units");
+    must(wtf8_encoded_len(given, n) == len, "encoded_len");
+    must(wtf8_hash_units(given, n, 1, 2) == hash, "hash_units");
     wtf8_free(&new);
-    must(wtf8_set_units(&new, list.units, n) == WTF8_OK, "set_units of a new string");
+    must(wtf8_set_units(&new, given, n) == WTF8_OK, "set_units of a new string");
     must_be_list(&new, hash, "a new string");
     ask(&new, place);
-    must(wtf8_set_units(&set, list.units, n) == WTF8_OK, "set_units");
+    must(wtf8_set_units(&set, given, n) == WTF8_OK, "set_units");
     must_be_list(&set, hash, "a string that is set again");
     must(wtf8_equal(&new, &set) && wtf8_compare_units(&new, &set) == 0 && wtf8_compare_code_points(&new, &set) == 0, "equal");
     /* Pushed to a string with room, of which the front is there: none, or what comes before the odd code point. */
@@ -165,7 +257,7 @@ static void units(size_t place) {
         wtf8_clear(&roomy);
         must(wtf8_reserve_bytes(&roomy, SPARE) == WTF8_OK, "room");
         for (size_t i = 0; i < front; i++) must(wtf8_push_unit(&roomy, list.units[i]) == WTF8_OK, "push_unit");
-        must(wtf8_push_units(&roomy, list.units + front, n - front) == WTF8_OK, "push_units");
+        must(wtf8_push_units(&roomy, given + front, n - front) == WTF8_OK, "push_units");
         must_be_list(&roomy, hash, "a string with room");
         must(wtf8_equal(&roomy, &new), "a string with room is equal");
     }
@@ -173,6 +265,8 @@ static void units(size_t place) {
     must(wtf8_push_string(&roomy, &new) == WTF8_OK && wtf8_equal(&roomy, &new), "push_string");
     edit(&roomy, &new, hash, place);
     find(&new, place);
+    points(hash);
+    complete(place);
     if (after_surrogate == 0) {
         must(wtf8_set_utf8(&set, bytes, len, NULL) == WTF8_OK, "set_utf8");
         must_be_list(&set, hash, "a string set to a text");
@@ -243,8 +337,9 @@ static size_t replaced(const uint8_t *of, size_t n, uint8_t *to) {
     return size;
 }
 
-static void text(const uint8_t *of, size_t n) {
+static void text(const uint8_t *bytes_of, size_t n) {
     static wtf8_string string, part;
+    const uint8_t *of = at_page_end(bytes_of, n);
     static uint8_t with_replacement[6 * MOST];
     size_t size = replaced(of, n, with_replacement);
     wtf8_clear(&part);
@@ -279,6 +374,58 @@ static void lists_of(size_t n, size_t place) {
         }
 }
 
+/* Two or three units that are not ASCII in 32 that are, at each two places, with 64 units and more from there on and room for
+ * each way to append them; now and then behind a lone lead, which is completed then. */
+static void letters(void) {
+    static const uint32_t firsts[] = {0x80, 0x7FF, 0x800, 0xD7FF}, others[] = {0x80, 0x7FF, 0x800, 0xD7FF, 0xE000, 0xFFFF, 0x10000, 0xD800, 0xDC00};
+    static const size_t lengths[] = {63, 64, 65, 96, 130};
+    enum { FIRSTS = sizeof firsts / sizeof firsts[0], OTHERS = sizeof others / sizeof others[0], BLOCK = 32 };
+    static wtf8_string roomy;
+    size_t number = 0;
+    for (size_t k = 0; k < FIRSTS * OTHERS * sizeof lengths / sizeof lengths[0]; k++)
+        for (size_t i = 0; i < BLOCK; i++)
+            for (size_t j = i + 1; j < BLOCK; j++, number++) {
+                size_t n = lengths[k / (FIRSTS * OTHERS)], before = number % 5 == 0, third = j + 2 + number % 7;
+                list.n = n + before;
+                list.units[0] = 0xDBFF;
+                uint16_t *block = list.units + before;
+                for (size_t at = 0; at < n; at++) block[at] = (uint16_t)('a' + at % 26);
+                block[i] = (uint16_t)firsts[k % FIRSTS];
+                units_of(others[k / FIRSTS % OTHERS], block + j);
+                if (others[k / FIRSTS % OTHERS] < 0x10000) block[j + 1] = 'z';
+                if (number % 3 == 0) block[third] = (uint16_t)firsts[(k + number) % FIRSTS];
+                encode_list();
+                wtf8_clear(&roomy);
+                must(wtf8_reserve_bytes(&roomy, SPARE) == WTF8_OK && wtf8_push_units(&roomy, at_page_end(list.units, 2 * list.n), list.n) == WTF8_OK, "letters in ASCII");
+                must_be_list(&roomy, hash_of(&list, 1, 2), "letters in ASCII");
+                if (number % 25 == 0) complete(0);
+                lists++;
+            }
+}
+
+/* Long strings that differ from the units that are asked for in one unit alone, which is at any place of what is decoded at a
+ * time. */
+static void long_compares(void) {
+    enum { LONG = 1300, STEP = 3 };
+    static wtf8_string string;
+    for (size_t kind = 0; kind < KINDS; kind++) {
+        uint16_t units[LONG], pair[2] = {0};
+        size_t width = units_of(kinds[kind], pair);
+        for (size_t i = 0; i < LONG; i++) units[i] = pair[i % width];
+        must(wtf8_set_units(&string, units, LONG) == WTF8_OK, "a long string");
+        must(wtf8_equal_units(&string, units, LONG) && wtf8_compare_with_units(&string, units, LONG) == 0, "equal long units");
+        for (size_t place = kind; place < LONG; place += STEP) {
+            size_t n = place + 1 + place % 600 < LONG ? place + 1 + place % 600 : LONG;
+            must(wtf8_starts_with_units(&string, 0, units, n), "starts_with_units of long units");
+            units[place] ^= 1;
+            int order = units[place] & 1 ? -1 : 1;
+            must(!wtf8_equal_units(&string, units, LONG) && wtf8_compare_with_units(&string, units, LONG) == order, "other long units");
+            must(!wtf8_starts_with_units(&string, 0, units, n), "starts_with_units of other long units");
+            units[place] ^= 1;
+        }
+    }
+}
+
 int main(void) {
     for (size_t n = 0; n <= LONGEST_LIST; n++)
         for (size_t place = 0; place <= n; place++) lists_of(n, place);
@@ -294,6 +441,8 @@ int main(void) {
                 encode_list();
                 units(n - last);
             }
+    letters();
+    long_compares();
     uint8_t of[2 * MOST];
     for (size_t n = 0; n <= LONGEST_LIST; n++)
         for (size_t place = 0; place <= n; place++)
