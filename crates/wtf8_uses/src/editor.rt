@@ -208,7 +208,7 @@ pub fn replace_and_undo<A: Allocator + Copy>(
     requires order { begin ≤ end }
     requires within { end ≤ length editor.old.shown.units }
     ensures same { editor.new.shown ≡ editor.old.shown }
-    ensures undone { IfOk result (λ r. IsTrue r) }
+    ensures changed { IfOk result (λ r. IsTrue r) }
 {
     editor.replace(begin, end, units)?;
     Ok(editor.undo())
@@ -218,6 +218,6 @@ pub fn replace_and_undo<A: Allocator + Copy>(
 pub fn undo_twice<A: Allocator + Copy>(editor: &mut Editor<A>)
     ensures { editor.new ≡ editor.old }
 {
-    editor.undo();
+    let _ = editor.undo();
     editor.undo();
 }
