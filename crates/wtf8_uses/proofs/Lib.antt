@@ -5,6 +5,7 @@ pub mod JsonReaderLemmas
 pub mod LineLemmas
 pub mod Numbering
 pub mod DedupLemmas
+pub mod EditorLemmas
 pub mod PartLemmas
 pub mod IndexLemmas
 pub mod RepeatLemmas

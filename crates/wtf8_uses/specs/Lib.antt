@@ -1,4 +1,6 @@
 pub mod CommonFront
+pub mod Editor
+pub mod EditorChange
 pub mod Environment
 pub mod FileName
 pub mod Json

@@ -5,6 +5,7 @@ pub mod appending;
 pub mod ascii_case;
 pub mod cursor;
 pub mod cuts;
+pub mod editor;
 pub mod environment;
 pub mod file_names;
 pub mod interner;

@@ -11,6 +11,8 @@ mod cursor;
 #[cfg(test)]
 mod cuts;
 #[cfg(test)]
+mod editor;
+#[cfg(test)]
 mod file_names;
 #[cfg(test)]
 mod interner;

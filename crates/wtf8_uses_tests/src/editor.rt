@@ -1,0 +1,252 @@
+// An editor's text and cursor after scripts of steps, and after refused requests for memory. Expected values are worked out
+// by hand, and a model in Python that keeps whole copies of the text has the same.
+use crate::shared::{LEAD, TRAIL, has_units};
+use refusing::{Lent, Refusing};
+use std::alloc::{Allocator, Global};
+use wtf8_tests::wrong::{Failed, Wrong, expect, in_row};
+use wtf8_uses::editor::{Editor, replace_and_undo, undo_twice};
+
+/// A step, which fails if it returns otherwise than its comment says.
+#[derive(Clone, Copy)]
+enum Step {
+    Insert(&'static [u16]),
+    /// There is a code point before the cursor.
+    Back,
+    /// There is none.
+    AtStart,
+    /// Indexes, and the units that are put there.
+    Replace(usize, usize, &'static [u16]),
+    MoveTo(usize),
+    /// There is a change.
+    Undo,
+    /// There is none.
+    Unchanged,
+}
+
+/// A text, the steps, and the text and cursor after them, all in code units.
+struct Script {
+    text: &'static [u16],
+    steps: &'static [Step],
+    units: &'static [u16],
+    cursor: usize,
+}
+
+static SCRIPTS: [Script; 14] = [
+    Script {
+        text: &[0x61],
+        steps: &[Step::Unchanged, Step::AtStart, Step::Unchanged],
+        units: &[0x61],
+        cursor: 0,
+    },
+    Script {
+        text: &[0x61, 0x62],
+        steps: &[Step::MoveTo(1), Step::Insert(&[0x63, 0x64])],
+        units: &[0x61, 0x63, 0x64, 0x62],
+        cursor: 3,
+    },
+    Script {
+        text: &[0x61, 0x62],
+        steps: &[
+            Step::MoveTo(1),
+            Step::Insert(&[0x63, 0x64]),
+            Step::MoveTo(4),
+            Step::Undo,
+        ],
+        units: &[0x61, 0x62],
+        cursor: 1,
+    },
+    // What was moved to before `undo` is where the redone text has its cursor.
+    Script {
+        text: &[0x61, 0x62],
+        steps: &[
+            Step::MoveTo(1),
+            Step::Insert(&[0x63, 0x64]),
+            Step::MoveTo(4),
+            Step::Undo,
+            Step::MoveTo(0),
+            Step::Undo,
+        ],
+        units: &[0x61, 0x63, 0x64, 0x62],
+        cursor: 4,
+    },
+    // Both surrogates of a pair are removed, and come back.
+    Script {
+        text: &[0x61, LEAD, TRAIL, 0x62],
+        steps: &[Step::MoveTo(3), Step::Back],
+        units: &[0x61, 0x62],
+        cursor: 1,
+    },
+    Script {
+        text: &[0x61, LEAD, TRAIL, 0x62],
+        steps: &[Step::MoveTo(3), Step::Back, Step::Back, Step::Undo],
+        units: &[0x61, 0x62],
+        cursor: 1,
+    },
+    // Of a lone trail and a lone lead one unit each.
+    Script {
+        text: &[TRAIL, LEAD],
+        steps: &[Step::MoveTo(2), Step::Back],
+        units: &[TRAIL],
+        cursor: 1,
+    },
+    Script {
+        text: &[LEAD, LEAD, TRAIL, TRAIL],
+        steps: &[Step::MoveTo(4), Step::Back, Step::Back, Step::Back],
+        units: &[],
+        cursor: 0,
+    },
+    // Within a pair there is no cursor.
+    Script {
+        text: &[0x61, LEAD, TRAIL],
+        steps: &[Step::MoveTo(2), Step::Insert(&[0x62])],
+        units: &[0x61, 0x62, LEAD, TRAIL],
+        cursor: 2,
+    },
+    // A lead before a trail completes a pair, before which the cursor is.
+    Script {
+        text: &[0x61, TRAIL],
+        steps: &[Step::MoveTo(1), Step::Insert(&[LEAD])],
+        units: &[0x61, LEAD, TRAIL],
+        cursor: 1,
+    },
+    Script {
+        text: &[LEAD, 0x61, TRAIL],
+        steps: &[Step::MoveTo(2), Step::Back, Step::Undo],
+        units: &[LEAD, 0x61, TRAIL],
+        cursor: 2,
+    },
+    // A trail after a lead completes a pair, after which the cursor is.
+    Script {
+        text: &[LEAD],
+        steps: &[Step::MoveTo(1), Step::Insert(&[TRAIL])],
+        units: &[LEAD, TRAIL],
+        cursor: 2,
+    },
+    // Two pairs are cut, and each half stays.
+    Script {
+        text: &[LEAD, TRAIL, 0x61, LEAD, TRAIL],
+        steps: &[Step::Replace(1, 4, &[0x62])],
+        units: &[LEAD, 0x62, TRAIL],
+        cursor: 2,
+    },
+    Script {
+        text: &[LEAD, TRAIL, 0x61, LEAD, TRAIL],
+        steps: &[
+            Step::Replace(1, 4, &[0x62]),
+            Step::Undo,
+            Step::Undo,
+            Step::Replace(0, 1, &[]),
+            Step::Undo,
+        ],
+        units: &[LEAD, 0x62, TRAIL],
+        cursor: 2,
+    },
+];
+
+/// Whether the step returns what its comment says.
+fn is_taken<A: Allocator + Copy>(editor: &mut Editor<A>, step: Step) -> bool {
+    let len = editor.text().unit_len();
+    match step {
+        Step::Insert(units) => editor.insert(units).is_ok(),
+        Step::Back => matches!(editor.delete_back(), Ok(true)),
+        Step::AtStart => matches!(editor.delete_back(), Ok(false)),
+        Step::Replace(begin, end, units) => {
+            begin <= end && end <= len && editor.replace(begin, end, units).is_ok()
+        }
+        Step::MoveTo(index) => {
+            if index <= len {
+                editor.move_to(index);
+            }
+            index <= len
+        }
+        Step::Undo => editor.undo(),
+        Step::Unchanged => !editor.undo(),
+    }
+}
+
+/// Whether the editor shows these units, with the cursor at this index.
+fn shows<A: Allocator + Copy>(editor: &Editor<A>, units: &[u16], cursor: usize) -> bool {
+    has_units(editor.text(), units) && editor.cursor() == cursor
+}
+
+/// Fails unless the steps leave the text and cursor of the script.
+fn expect_script(alloc: Global, script: &Script) -> Result<(), Failed> {
+    let Ok(mut editor) = Editor::from_units(alloc, script.text) else {
+        return Err(Failed::by(Wrong::Memory));
+    };
+    for step in script.steps {
+        if !is_taken(&mut editor, *step) {
+            return Err(Failed::by(Wrong::Outcome));
+        }
+    }
+    expect(shows(&editor, script.units, script.cursor), Wrong::Units)
+}
+
+#[test]
+fn scripts_leave_their_texts_and_cursors(rt: HostRuntime) -> Result<(), Failed> {
+    let alloc = rt.alloc();
+    let mut row = 0usize;
+    for script in &SCRIPTS {
+        if let Err(failed) = expect_script(alloc, script) {
+            return in_row(row, Err(failed));
+        }
+        row = row.wrapping_add(1);
+    }
+    Ok(())
+}
+
+/// "b" sixteen times.
+const SIXTEEN: [u16; 16] = [0x62; 16];
+
+/// Whether a longer text is refused with this number of grants, and leaves what the editor showed and can undo.
+fn is_kept(heap: Lent<'_>, editor: &mut Editor<Lent<'_>>, grants: u64) -> bool {
+    heap.grant(grants);
+    let is_refused = editor.insert(&SIXTEEN).is_err() && shows(editor, &[0x61, 0x63], 1);
+    heap.grant(0);
+    let is_undone = editor.undo() && shows(editor, &[0x63], 0);
+    let is_redone = editor.undo() && shows(editor, &[0x61, 0x63], 1);
+    is_refused && is_undone && is_redone && heap.requests() == 0
+}
+
+/// Fails unless the new units and the longer text are refused, and then granted.
+fn expect_kept(heap: Lent<'_>) -> Result<(), Failed> {
+    let Ok(mut editor) = Editor::from_units(heap, &[0x63]) else {
+        return Err(Failed::by(Wrong::Memory));
+    };
+    expect(editor.insert(&[0x61]).is_ok(), Wrong::Memory)?;
+    let is_kept = is_kept(heap, &mut editor, 0) && is_kept(heap, &mut editor, 1);
+    expect(is_kept, Wrong::Outcome)?;
+    heap.grant(2);
+    expect(
+        editor.insert(&SIXTEEN).is_ok() && editor.cursor() == 17,
+        Wrong::Requests,
+    )
+}
+
+#[test]
+fn a_refused_change_leaves_the_text_the_cursor_and_the_change_before(
+    rt: HostRuntime,
+) -> Result<(), Failed> {
+    let heap = Refusing::new(rt.alloc(), 9);
+    expect_kept(&heap)
+}
+
+/// Whether a change that is undone and a change that is undone and redone leave the text and the cursor.
+fn are_same(editor: &mut Editor<Global>) -> bool {
+    let len = editor.text().unit_len();
+    let is_undone = 2 <= len && matches!(replace_and_undo(editor, 1, 2, &SIXTEEN), Ok(true));
+    is_undone && shows(editor, &[LEAD, TRAIL, 0x61], 2)
+}
+
+#[test]
+fn a_change_is_undone_and_redone(rt: HostRuntime) -> Result<(), Failed> {
+    let Ok(mut editor) = Editor::from_units(rt.alloc(), &[LEAD, TRAIL, 0x61]) else {
+        return Err(Failed::by(Wrong::Memory));
+    };
+    if 2 <= editor.text().unit_len() {
+        editor.move_to(2);
+    }
+    expect(are_same(&mut editor), Wrong::Units)?;
+    undo_twice(&mut editor);
+    expect(are_same(&mut editor), Wrong::Units)
+}
