@@ -1,5 +1,5 @@
 // Tests in SIMD blocks how far bytes are UTF-8: each byte is compared with the three before it.
-ghost use Rattle.std.specs.Prelude.{◌≡◌, ◌+◌, ◌-◌, ◌<◌, ◌≤◌, ◌∷◌, ℕ, length, take, drop, get_or, slice_index, MatchResult, IfErr, IfSome, IsTrue};
+ghost use Rattle.std.specs.Prelude.{◌≡◌, ◌+◌, ◌-◌, ◌<◌, ◌≤◌, ◌∷◌, ℕ, length, take, drop, get_or, slice_index, Some, MatchResult, IfErr, IfSome, IsTrue};
 ghost use Rattle.std.specs.Str.{IsUtf8, IsValidUpTo};
 ghost use Rattle.std.specs.Str.Lossy.{utf8_valid_len, utf8_error_len};
 ghost use Rattle.wtf8.specs.Utf8Error.{valid_up_to, error_len};
@@ -22,7 +22,7 @@ const BEFORE: usize = 3;
 /// The fewest bytes that hold a block and the bytes before it.
 const LEAST: usize = BLOCK + BEFORE;
 
-/// The number of bytes that `from_utf8_near` reads one code point at a time.
+/// The number of bytes that `near_error` has read one code point at a time.
 pub(crate) const NEAR: usize = 16;
 
 /// The most bytes of a code point.
@@ -229,12 +229,12 @@ pub fn from_utf8(bytes: &[u8]) -> Result<&str, Utf8Error>
     from_utf8_after(bytes, front)
 }
 
-/// The first wrong part, if std finds it among the first `NEAR` bytes and before the last three of these, which may be
-/// the front of a code point.
+/// The number of bytes before the first wrong part, and of that part, if std finds it among the first `NEAR` bytes and
+/// before the last three of these, which may be the front of a code point.
 #[inline(always)]
-fn near_error(bytes: &[u8]) -> Option<Utf8Error>
-    ensures valid { IfSome result (λ e. IsValidUpTo bytes.now (valid_up_to e)) }
-    ensures error_len { IfSome result (λ e. error_len e ≡ utf8_error_len (drop (valid_up_to e) bytes.now)) }
+pub(crate) fn near_error(bytes: &[u8]) -> Option<(usize, usize)>
+    ensures valid { IfSome result (λ e. IsValidUpTo bytes.now e.0) }
+    ensures wrong { IfSome result (λ e. utf8_error_len (drop e.0 bytes.now) ≡ Some e.1) }
 {
     if bytes.len() < NEAR {
         return None;
@@ -242,24 +242,12 @@ fn near_error(bytes: &[u8]) -> Option<Utf8Error>
     let Err(error) = str::from_utf8(&bytes[..NEAR]) else {
         return None;
     };
-    let valid_up_to = error.valid_up_to();
-    if NEAR < valid_up_to + MAX_POINT_BYTES {
+    let valid = error.valid_up_to();
+    if NEAR < valid + MAX_POINT_BYTES {
         return None;
     }
-    Some(Utf8Error {
-        valid_up_to,
-        error_len: error.error_len(),
-    })
-}
-
-/// The same as `from_utf8`, and faster if one of the first bytes is wrong: they are read one code point at a time.
-pub(crate) fn from_utf8_near(bytes: &[u8]) -> Result<&str, Utf8Error>
-    ensures cases { MatchResult result (λ s. (s.now ≡ bytes.now) × IsUtf8 bytes.now) (λ e. ¬ (IsUtf8 bytes.now) × IsValidUpTo bytes.now (valid_up_to e)) }
-    ensures valid_len { IfErr result (λ e. valid_up_to e ≡ utf8_valid_len bytes.now) }
-    ensures error_len { IfErr result (λ e. error_len e ≡ utf8_error_len (drop (valid_up_to e) bytes.now)) }
-{
-    if let Some(error) = near_error(bytes) {
-        return Err(error);
-    }
-    from_utf8(bytes)
+    let Some(wrong) = error.error_len() else {
+        return None;
+    };
+    Some((valid, wrong))
 }

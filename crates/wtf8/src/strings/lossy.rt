@@ -1,18 +1,16 @@
 // Lossy text: U+FFFD in place of each surrogate, and of each part of bytes that is not UTF-8.
-ghost use Rattle.std.specs.Prelude.{◌≡◌, ◌∷◌, ◌++◌, ◌+◌, ◌≤◌, [], length, take, drop, OnOk, IsOk, vec_capacity, MatchResult, IfErr, IsTrue, ◌↔◌};
+ghost use Rattle.std.specs.Prelude.{◌≡◌, ◌∷◌, ◌++◌, ◌+◌, ◌<◌, ◌≤◌, [], length, take, drop, OnOk, IsOk, vec_capacity, IsTrue, ◌↔◌};
 ghost use Rattle.std.specs.Str.{chars, IsUtf8, IsValidUpTo};
-ghost use Rattle.std.specs.Str.Lossy.{utf8_lossy, utf8_error_len, replacement_bytes};
+ghost use Rattle.std.specs.Str.Lossy.{utf8_lossy, utf8_invalid_len, replacement_bytes};
 ghost use Rattle.wtf8.specs.Form.{IsWellFormed, bytes as bytes_of};
 ghost use Rattle.wtf8.specs.Surrogates.{lossy_points};
 ghost use Rattle.wtf8.specs.Unicode.{units};
 ghost use Rattle.wtf8.specs.Utf8.{IsUnfinished, LeavesUnfinished};
-ghost use Rattle.wtf8.specs.Utf8Error.{valid_up_to, error_len};
 ghost use Rattle.wtf8.specs.private.EncodedBytes.{ExtendsForm, BecomesOrKeeps};
 
 use crate::lanes::VECTOR;
 use crate::lanes::search::next_surrogate;
-use crate::lanes::utf8::{NEAR, from_utf8, from_utf8_near};
-use crate::lanes::utf8_error::Utf8Error;
+use crate::lanes::utf8::{NEAR, from_utf8, near_error};
 use crate::strings::appending::append_bytes;
 use crate::vec::{push_block, push_front, spare_capacity};
 use std::alloc::{AllocError, Allocator};
@@ -65,19 +63,30 @@ fn append_with_replacement<A: Allocator>(
     Ok(())
 }
 
-/// Reads bytes as UTF-8, one code point at a time at their front if a wrong part is likely there.
-fn read_part(text: &[u8], is_near: bool) -> Result<&str, Utf8Error>
-    ensures cases { MatchResult result (λ s. (s.now ≡ text.now) × IsUtf8 text.now) (λ e. ¬ (IsUtf8 text.now) × IsValidUpTo text.now (valid_up_to e)) }
-    ensures error_len { IfErr result (λ e. error_len e ≡ utf8_error_len (drop (valid_up_to e) text.now)) }
+/// The number of bytes at the front that are UTF-8, and of those after them that are wrong together or unfinished: 0 if all
+/// are UTF-8. Two numbers stay in registers, which a `Result` does not.
+#[inline(always)]
+fn first_part(text: &[u8], is_near: bool) -> (usize, usize)
+    ensures whole { length text.now ≤ result.0 → IsUtf8 text.now }
+    ensures valid { result.0 < length text.now → IsValidUpTo text.now result.0 }
+    ensures wrong { result.0 < length text.now → result.1 ≡ utf8_invalid_len (drop result.0 text.now) }
 {
     if is_near {
-        return from_utf8_near(text);
+        if let Some(part) = near_error(text) {
+            return part;
+        }
     }
-    from_utf8(text)
+    match from_utf8(text) {
+        Ok(_) => (text.len(), 0),
+        Err(error) => {
+            let valid = error.valid_up_to();
+            (valid, error.error_len().unwrap_or(text.len() - valid))
+        }
+    }
 }
 
 /// Appends bytes read as UTF-8, with U+FFFD for each maximal part that is not. If memory is refused, some parts may have
-/// been appended. Where the last part was short, the next one is likely to be.
+/// been appended. After a short part the next one is likely to be near.
 fn append_parts<A: Allocator>(bytes: &mut Vec<u8, A>, text: &[u8]) -> Result<(), AllocError>
     ensures ok { OnOk result (bytes.new.items ≡ bytes.old.items ++ utf8_lossy text.now) }
     ensures begins { take (length bytes.old.items) bytes.new.items ≡ bytes.old.items }
@@ -87,17 +96,14 @@ fn append_parts<A: Allocator>(bytes: &mut Vec<u8, A>, text: &[u8]) -> Result<(),
     let mut rest = text;
     let mut is_near = false;
     'parts: loop {
-        let Err(error) = read_part(rest, is_near) else {
+        let (valid, wrong) = first_part(rest, is_near);
+        if rest.len() <= valid {
             return append_bytes(bytes, rest);
-        };
-        let valid = error.valid_up_to();
+        }
         append_with_replacement(bytes, rest, valid)?;
         is_near = valid < NEAR;
         let (_, after) = rest.split_at(valid);
-        rest = match error.error_len() {
-            Some(wrong) => &after[wrong..],
-            None => &[],
-        };
+        rest = &after[wrong..];
     }
 }
 

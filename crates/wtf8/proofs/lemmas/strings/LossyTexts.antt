@@ -26,14 +26,6 @@ module _ (w : List ℕ) (n : ℕ) (front : IsValidUpTo w n) where
       let step : utf8_lossy w ≡ take n w ++ (replacement_bytes ++ utf8_lossy (drop (n + k) w)) = rw (valid, e) at (utf8_lossy_step w faulty) in
       append_assoc (take n w) replacement_bytes _ ∙ ap (λ r. take n w ++ (replacement_bytes ++ utf8_lossy r)) (drop-drop k n w) ∙ sym step
 
-  pub text_after_wrong : (k : ℕ) → utf8_error_len (drop n w) ≡ Some k → (take n w ++ replacement_bytes) ++ utf8_lossy (drop k (drop n w)) ≡ utf8_lossy w
-  text_after_wrong k e = text_after k (ap (λ o. unwrap_or o (length (drop n w))) e)
-
-  pub text_at_end : utf8_error_len (drop n w) ≡ None → (take n w ++ replacement_bytes) ++ utf8_lossy [] ≡ utf8_lossy w
-  text_at_end e =
-      let whole = drop_all (length (drop n w)) (drop n w) (omega arith) in
-      ap (λ r. (take n w ++ replacement_bytes) ++ utf8_lossy r) (sym whole) ∙ text_after _ (ap (λ o. unwrap_or o (length (drop n w))) e)
-
 -- The text is UTF-8.
 
 front_is_text : (w : List ℕ) (m : ℕ) → IsUtf8 (take (valid_len_up_to w m) w)
@@ -47,12 +39,19 @@ valid_front : (w : List ℕ) → IsUtf8 (take (utf8_valid_len w) w)
 unfolding utf8_valid_len
 valid_front w = front_is_text w (length w)
 
-some_wrong : (w : List ℕ) → 0 < length w → 0 < utf8_invalid_len w
+pub some_wrong : (w : List ℕ) → 0 < length w → 0 < utf8_invalid_len w
 some_wrong w some = by_len (utf8_error_len w) refl
   where
     by_len : (o : Option ℕ) → utf8_error_len w ≡ o → 0 < unwrap_or o (length w)
     by_len None e = some
     by_len (Some k) e = (error_within w k e).0
+
+pub wrong_within : (w : List ℕ) → utf8_invalid_len w ≤ length w
+wrong_within w = by_len (utf8_error_len w) refl
+  where
+    by_len : (o : Option ℕ) → utf8_error_len w ≡ o → unwrap_or o (length w) ≤ length w
+    by_len None e = omega arith
+    by_len (Some k) e = (error_within w k e).1
 
 replacement_is_text : IsUtf8 replacement_bytes
 unfolding encode
