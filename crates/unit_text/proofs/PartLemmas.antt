@@ -2,11 +2,12 @@
 use Rattle.std.proofs.Common.{◌≡◌, ◌≢◌, zero, ℕ, ◌+◌, ◌-◌, ◌<◌, ◌≤◌, List, [], ◌∷◌, ◌++◌, length, take, drop, get_or, sym, ap, subst, ◌∙◌, arith, inl, inr, append_assoc, append-nil, length-append, length-drop, length-take, length-take-le, suc}
 use Rattle.std.proofs.Math.Seq.{drop-append_seam, drop-cons, take-append_seam, take-append-add}
 use Rattle.std.proofs.lemmas.Bool.{cases_eq, cases_lt}
-use Rattle.std.proofs.lemmas.List.{append_cancel_left, drop-append-le, take-append-drop, take-append-le, take-take, take_all, take_more}
+use Rattle.std.proofs.lemmas.List.{append_cancel_left, drop-append-le, get_or_append_left, take-append-drop, take-append-le, take-take, take_all, take_more}
 use Rattle.unit_text.specs.Search.{OccursAt, IsFirstIndex}
 use Rattle.unit_text.specs.private.Borders.{EndsWithFront, IsLongestFront}
+use Rattle.unit_text.specs.private.Search.{BeginsApart}
 use Rattle.unit_text.proofs.BorderLemmas.{all_is_candidate, longest_none, end_is_border, border_is_end, ends_append, ends_between, ends_trans, front_len, in_end, border_shorter}
-use Rattle.unit_text.proofs.SearchLemmas.{IsLastBelow, NoneBelow, NoneBetween, first_of_rest, occurs_in_rest, occurs_there, rest_of_part}
+use Rattle.unit_text.proofs.SearchLemmas.{IsLastBelow, NoneBelow, NoneBetween, first_of_rest, occurs_in_rest, occurs_there, rest_of_part, unit_in_part}
 
 -- the text `l` and `y` after it, in which `front` and `tail` after it are searched for
 module _ (l y front tail : List ℕ) where
@@ -131,39 +132,56 @@ module _ (a part back front tail : List ℕ) where
       (reached_next (a ++ take i part) later front tail (get_or part i 0) m r short
       (subst (λ t. IsReached (a ++ take i part) t front tail m) (left_next i within) old) longest)
 
-  -- units that are not the first leave nothing reached
-  pub reached_skipped : (n i : ℕ) → 0 < length front → i + n ≤ length part
-      → ((k : ℕ) → i ≤ k → k < i + n → get_or part k 0 ≢ get_or front 0 0)
-      → IsReached (a ++ take i part) (drop i part ++ back) front tail 0
-      → IsReached (a ++ take (i + n) part) (drop (i + n) part ++ back) front tail 0
-  reached_skipped zero i some within apart r =
-      let same : i ≡ i + 0 = omega arith in
-      subst (λ k. IsReached (a ++ take k part) (drop k part ++ back) front tail 0) same r
-  reached_skipped (suc n) i some within apart r =
-      let same : i + 1 + n ≡ i + suc n = omega arith in
-      let x = get_or part i 0 in
-      let here : get_or front 0 0 ≢ x = λ e. apart i (omega arith) (omega arith) (sym e) in
-      let none = longest_none front (take 0 front) x (all_is_candidate front 0 x (omega arith)) here in
-      subst (λ k. IsReached (a ++ take k part) (drop k part ++ back) front tail 0) same
-      (reached_skipped n (i + 1) some (omega (arith, within)) (λ k after below. apart k (omega (arith, after)) (omega (arith, below)))
-      (reached_after i 0 0 (omega (arith, within)) some r none))
+  -- a unit of the part that is one of an occurrence
+  unit_of_part : (k d : ℕ) → length a ≤ k → k - length a + d < length part → d < length front → OccursAt ((a ++ part) ++ back) (front ++ tail) k
+      → get_or part (k - length a + d) 0 ≡ get_or front d 0
+  unit_of_part k d after within short there =
+      let rest = occurs_in_rest ((a ++ part) ++ back) (front ++ tail) (length a)
+      (omega (arith, length-append (a ++ part) back, length-append a part)) k after there in
+      let own = ap (drop (length a)) (append_assoc a part back) ∙ drop-append_seam a (part ++ back) in
+      unit_in_part part back (front ++ tail) (k - length a) d within (omega (arith, short, length-append front tail))
+          (subst (λ t. OccursAt t (front ++ tail) (k - length a)) own rest)
+      ∙ get_or_append_left front tail 0 d short
 
-  -- units from `i` to `j` that are not the first are passed if nothing is reached
+  -- where the first two units do not begin nothing is found
+  apart_is_none : (k : ℕ) → length a ≤ k → k - length a < length part → 0 < length front → BeginsApart part front (k - length a)
+      → ¬ (OccursAt ((a ++ part) ++ back) (front ++ tail) k)
+  apart_is_none k after within some apart there =
+      let zero_more : k - length a + 0 ≡ k - length a = omega arith in
+      elim apart [
+        | inl first ↦ first (ap (λ i. get_or part i 0) (sym zero_more) ∙ unit_of_part k 0 after (omega (arith, within)) some there)
+        | inr second ↦ second.2 (unit_of_part k 1 after second.1 second.0 there)
+      ]
+
+  -- units from `i` to `j` at which `front` does not begin are passed if nothing is reached
+  reached_skipped : (i j : ℕ) → 0 < length front → j ≤ length part → ((k : ℕ) → i ≤ k → k < j → BeginsApart part front k)
+      → IsReached (a ++ take i part) (drop i part ++ back) front tail 0 → i ≤ j
+      → IsReached (a ++ take j part) (drop j part ++ back) front tail 0
+  reached_skipped i j some within apart r order = record {
+    ends = record { before = a ++ take j part; within = omega arith; ends = append-nil (a ++ take j part) };
+    none = λ k below there.
+        let own = subst (λ t. OccursAt t (front ++ tail) k) (text_at j) there in
+        elim (cases_lt k (length a + i)) [
+          | inl h ↦ r.none k (omega (arith, h, length-append a (take i part), length-take-le i part (omega (arith, order, within))))
+              (subst (λ t. OccursAt t (front ++ tail) k) (sym (text_at i)) own)
+          | inr h ↦
+              let under : k < length a + j = omega (arith, below, length-append a (take j part), length-take-le j part within) in
+              apart_is_none k (omega (arith, h)) (omega (arith, under, within, h)) some
+              (apart (k - length a) (omega (arith, h)) (omega (arith, under, h))) own
+        ];
+  }
+
   pub reached_later : (i j m : ℕ) → 0 < length front → i ≤ j → j ≤ length part → (0 < m → j ≡ i)
-      → ((k : ℕ) → i ≤ k → k < j → get_or part k 0 ≢ get_or front 0 0)
+      → ((k : ℕ) → i ≤ k → k < j → BeginsApart part front k)
       → IsReached (a ++ take i part) (drop i part ++ back) front tail m
       → IsReached (a ++ take j part) (drop j part ++ back) front tail m
-  reached_later i j m some after within kept apart r =
-      let At : ℕ → Type 0 = λ k. IsReached (a ++ take k part) (drop k part ++ back) front tail m in
-      let sum : i + (j - i) ≡ j = omega (arith, after) in
-      elim (cases_lt 0 m) [
-        | inl more ↦ subst At (sym (kept more)) r
-        | inr none ↦
-            let zero_m : m ≡ 0 = omega (arith, none) in
-            subst At sum (subst (IsReached (a ++ take (i + (j - i)) part) (drop (i + (j - i)) part ++ back) front tail) (sym zero_m)
-            (reached_skipped (j - i) i some (omega (arith, after, within)) (λ k from below. apart k from (omega (arith, below, after)))
-            (subst (IsReached (a ++ take i part) (drop i part ++ back) front tail) zero_m r)))
-      ]
+  reached_later i j m some after within kept apart r = elim (cases_lt 0 m) [
+    | inl more ↦ subst (λ k. IsReached (a ++ take k part) (drop k part ++ back) front tail m) (sym (kept more)) r
+    | inr none ↦
+        let zero_m : m ≡ 0 = omega (arith, none) in
+        subst (IsReached (a ++ take j part) (drop j part ++ back) front tail) (sym zero_m)
+        (reached_skipped i j some within apart (subst (IsReached (a ++ take i part) (drop i part ++ back) front tail) zero_m r) after)
+  ]
 
   pub found_in_part : (i n : ℕ) → i ≤ length part → n ≡ length a + i - length front
       → IsReached (a ++ take i part) (drop i part ++ back) front tail (length front) → take (length tail) (drop i part ++ back) ≡ tail

@@ -1,9 +1,9 @@
 -- Occurrences of units in a part of a list and in the whole.
-use Rattle.std.proofs.Common.{◌≡◌, ℕ, ◌+◌, ◌-◌, ◌<◌, ◌≤◌, List, [], ◌∷◌, ◌++◌, Option, Some, None, length, take, drop, refl, sym, ap, ◌∙◌, arith, inl, inr, length-drop, length-take}
+use Rattle.std.proofs.Common.{◌≡◌, ℕ, ◌+◌, ◌-◌, ◌<◌, ◌≤◌, List, [], ◌∷◌, ◌++◌, Option, Some, None, length, take, drop, get_or, refl, sym, ap, ◌∙◌, arith, inl, inr, length-drop, length-take}
 use Rattle.std.specs.Prelude.{IfSome}
 use Rattle.std.proofs.Math.Seq.{drop-append_seam}
 use Rattle.std.proofs.lemmas.Bool.{cases_lt}
-use Rattle.std.proofs.lemmas.List.{take-append-drop, drop-append-le, drop-drop}
+use Rattle.std.proofs.lemmas.List.{take-append-drop, drop-append-le, drop-drop, get_or-drop, get_or-take, get_or_append_left}
 use Rattle.wtf8.specs.UnitMark.{RoundsDownTo}
 use Rattle.unit_text.specs.Search.{FindsLastBelow, OccursAt, IsFirstIndex}
 
@@ -17,6 +17,12 @@ occurs_there u s k within there = record {
   within = omega (arith, within, ap length there, length-take (length s) (drop k u), length-drop k u);
   there = there;
 }
+
+-- a unit of an occurrence, in a part `a` with `x` after it
+pub unit_in_part : (a x s : List ℕ) (k d : ℕ) → k + d < length a → d < length s → OccursAt (a ++ x) s k → get_or a (k + d) 0 ≡ get_or s d 0
+unit_in_part a x s k d within some o =
+    sym (get_or_append_left a x 0 (k + d) within) ∙ sym (get_or-drop k (a ++ x) d 0) ∙ sym (get_or-take (length s) (drop k (a ++ x)) d 0 some)
+    ∙ ap (λ l. get_or l d 0) o.there
 
 -- the units of `u` from index `p` on
 module _ (u s : List ℕ) (p : ℕ) (within : p ≤ length u) where

@@ -1,7 +1,7 @@
 // Where code units occur in a string. Its units are decoded on the stack, part by part.
 ghost use Rattle.std.specs.Prelude.{◌≡◌, ◌≢◌, slice_index, ◌↔◌, ◌∷◌, [], ◌++◌, ◌+◌, ◌-◌, ◌≤◌, ◌<◌, ◌^◌, ℕ, length, take, IsTrue, IfSome, IfNone, IfOk, IfErr};
 ghost use Rattle.unit_text.specs.private.Borders.{AreBorders, EndsWithFront, IsLongestFront};
-ghost use Rattle.unit_text.specs.private.Search.{pattern_units};
+ghost use Rattle.unit_text.specs.private.Search.{BeginsApart, pattern_units};
 ghost use Rattle.unit_text.specs.Search.{FindsFirst, FindsFirstBelow, FindsLastBelow, IsFirstIndex, IsLastIndex, OccursAt};
 ghost use Rattle.wtf8.specs.UnitMark.{IsMarkOf};
 ghost use Rattle.wtf8.specs.UnitPosition.{DividesPair};
@@ -151,17 +151,34 @@ fn borders_of<const N: usize>(units: &[u16]) -> [u16; N]
     borders
 }
 
-/// The first index at or after `from` at which `unit` is, or else the length; `from` itself if units are reached.
+/// Whether `front` does not begin at an index, by its first two units. Most candidates for one unit are none for two.
 #[inline(always)]
-fn next_start(part: &[u16], from: usize, unit: u16, reached: usize) -> usize
-    requires { from ≤ length part.now }
+fn begins_apart(part: &[u16], index: usize, front: &[u16]) -> bool
+    requires within { index < length part.now }
+    requires some { 0 < length front.now }
+    ensures { IsTrue result → BeginsApart part.now front.now index }
+{
+    if part[index] != front[0] {
+        return true;
+    }
+    if front.len() == 1 || part.len() - index == 1 {
+        return false;
+    }
+    part[index + 1] != front[1]
+}
+
+/// The first index at or after `from` at which `front` may begin, or else the length; `from` itself if units are reached.
+#[inline(always)]
+fn next_start(part: &[u16], from: usize, front: &[u16], reached: usize) -> usize
+    requires from { from ≤ length part.now }
+    requires some { 0 < length front.now }
     ensures after { from ≤ result }
     ensures within { result ≤ length part.now }
     ensures kept { 0 < reached → result ≡ from }
-    ensures passed { (k : ℕ) → from ≤ k → k < result → slice_index part.now k ≢ unit }
+    ensures passed { (k : ℕ) → from ≤ k → k < result → BeginsApart part.now front.now k }
 {
     let mut index = from;
-    while reached == 0 && index < part.len() && part[index] != unit {
+    while reached == 0 && index < part.len() && begins_apart(part, index, front) {
         index += 1;
     }
     index
@@ -190,7 +207,6 @@ fn end_in_part(
         × EndsWithFront (take matched front.now ++ part.now) front.now left
         × ((k : ℕ) → k < matched + length part.now - left → ¬ (OccursAt ((take matched front.now ++ part.now) ++ view_units back.entry) (front.now ++ pattern_units tail.entry) k))) }
 {
-    let first = front[0];
     let mut reached = matched;
     let mut index = 0;
     while index < part.len() {
@@ -202,7 +218,7 @@ fn end_in_part(
             }
             reached = usize::from(borders[reached - 1]);
         }
-        index = next_start(part, index + 1, first, reached);
+        index = next_start(part, index + 1, front, reached);
     }
     Err(reached)
 }
