@@ -343,6 +343,24 @@ static void test_iteration() {
 }
 
 /* A struct of the C library that a class takes over and gives back. */
+/* Walks over more code points at the edges of encodings than are decoded at a time, forth and back from each. */
+static void test_walks_at_edges() {
+    static const char32_t edges[] = {0x7F, 0x80, 0x7FF, 0x800, 0xFFFF, 0x10000, 0x10FFFF, 0xD7FF, 0xE000, 0xDC00, U'a'};
+    std::vector<char32_t> points;
+    string s;
+    for (size_t n = 0; n < 100; n++) {
+        points.push_back(edges[n * 7 % (sizeof edges / sizeof edges[0])]);
+        s.append_code_points(&points.back(), 1);
+    }
+    size_t at = 0;
+    for (auto i = s.begin(); i != s.end(); ++i, at++) {
+        must(at < points.size() && *i == points[at], "a code point at an edge");
+        auto back = i;
+        for (size_t k = at; k-- > 0 && k + 40 > at;) must(*--back == points[k], "a step back from an edge");
+    }
+    must(at == points.size(), "the walk over the edges of encodings");
+}
+
 static void test_adoption() {
     wtf8_string plain = WTF8_EMPTY;
     must(wtf8_set_units(&plain, nullptr, 0) == WTF8_OK && wtf8_push_unit(&plain, 'a') == WTF8_OK, "a struct");
@@ -613,6 +631,7 @@ int main() {
     test_arrays();
     test_starts_and_ends();
     test_iteration();
+    test_walks_at_edges();
     test_adoption();
     test_cuts();
     test_walks();

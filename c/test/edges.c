@@ -2047,6 +2047,85 @@ static void latin1_requests(void) {
         }
 }
 
+/* A string with marks is emptied, or set in place, and gets units of other lengths: no mark of the old ones is left. */
+static void marks_of_others(void) {
+    enum { LONG = 700, WAYS = 3 };
+    static const uint16_t kinds[] = {'a', 0xE9, 0x4E2D};
+    static const size_t lengths[] = {SPACING, SPACING + 1, SPACING + 2, 300, LONG};
+    static struct pair p;
+    static uint16_t others[LONG];
+    for (size_t k = 0; k < 3 * 3 * WAYS; k++)
+        for (size_t i = 0; i < sizeof lengths / sizeof lengths[0]; i++) {
+            uint16_t kind = kinds[k / 3 % 3];
+            for (size_t at = 0; at < LONG; at++) others[at] = kinds[k % 3];
+            others[0] = 0x3042;
+            must(wtf8_set_units(&p.string, others, LONG) == WTF8_OK && wtf8_mark(&p.string) == WTF8_OK, "a string with marks");
+            p.n = lengths[i];
+            for (size_t at = 0; at < p.n; at++) p.units[at] = at % 50 == 7 ? 'z' : kind;
+            p.units[p.n - 1] = 0xE9;
+            if (k / 9 == 0) must(wtf8_set_units(&p.string, p.units, p.n) == WTF8_OK, "others that are set");
+            else {
+                wtf8_clear(&p.string);
+                size_t front = k / 9 == 1 ? 0 : p.n / 2;
+                must(wtf8_push_units(&p.string, p.units, front) == WTF8_OK, "others that are pushed");
+                must(wtf8_push_units(&p.string, p.units + front, p.n - front) == WTF8_OK, "others that are pushed");
+            }
+            must_be_marked(&p, "a string with marks that got other units");
+        }
+    wtf8_free(&p.string);
+}
+
+/* A trail and units after it are pushed to a string that ends with its lead, and do not fit, however much room there is: the
+ * string stays, and its lead can still be completed. */
+static void refused_after_leads(void) {
+    enum { MOST_UNITS = 130, MOST_SPARE = 150 };
+    static const uint16_t kinds[] = {'a', 0xE9, 0x4E2D}, front[] = {'x', 0xE9, 0xD83D};
+    static const size_t lengths[] = {1, 2, 12, 13, 14, 20, 33, 65, MOST_UNITS};
+    uint16_t units[MOST_UNITS];
+    for (size_t k = 0; k < 3 * sizeof lengths / sizeof lengths[0]; k++) {
+        size_t n = lengths[k / 3], needed;
+        for (size_t i = 0; i < n; i++) units[i] = kinds[k % 3];
+        units[0] = 0xDCA9;
+        /* The lead and the trail have 3 bytes each apart, and 4 together. */
+        needed = wtf8_encoded_len(units, n) - 2;
+        for (size_t spare = 0; spare <= needed && spare < MOST_SPARE; spare++) {
+            wtf8_string string = WTF8_EMPTY;
+            must(wtf8_reserve_bytes(&string, 100 + spare) == WTF8_OK, "room after a lead");
+            size_t before = wtf8_capacity(&string) - spare - 6, position = before + 3;
+            must(wtf8_push_utf8(&string, letters, before, NULL) == WTF8_OK && wtf8_push_units(&string, front, 3) == WTF8_OK, "a lead");
+            refuse_after = 0;
+            wtf8_result code = wtf8_push_units(&string, units, n);
+            refuse_after = -1;
+            must(code == (spare < needed ? WTF8_NO_MEMORY : WTF8_OK), "a trail and units without memory");
+            size_t more = spare < needed ? 0 : n;
+            must(wtf8_unit_len(&string) == before + 3 + more, "the units after a lead");
+            must(wtf8_byte_len(&string) == before + 6 + (spare < needed ? 0 : needed), "the bytes after a lead");
+            if (spare < needed) must(wtf8_push_unit(&string, units[0]) == WTF8_OK, "a trail");
+            uint32_t point = 0;
+            must(wtf8_next_code_point(&string, &position, &point) == WTF8_OK && point == 0x1F4A9, "the pair of a lead");
+            must(spare < needed ? position == wtf8_byte_len(&string) : wtf8_starts_with_units(&string, before + 3, units, n), "what is after a lead");
+            wtf8_free(&string);
+        }
+    }
+}
+
+/* Bytes of more units than a sum of 16 bits counts. */
+static void far_lens(void) {
+    enum { FAR = 140000 };
+    static const struct { uint16_t units[2]; size_t per_two; } kinds[] = {{{0xE9, 0xE9}, 4}, {{0x4E2D, 0x4E2D}, 6}, {{0xD83D, 0xDCA9}, 4}, {{0xDCA9, 0xDCA9}, 6}};
+    static const size_t lengths[] = {32766, 32768, 65534, 65536, 65538, FAR};
+    static uint16_t units[FAR];
+    for (size_t k = 0; k < sizeof kinds / sizeof kinds[0]; k++)
+        for (size_t i = 0; i < sizeof lengths / sizeof lengths[0]; i++) {
+            size_t n = lengths[i], bytes = n / 2 * kinds[k].per_two;
+            wtf8_string string = WTF8_EMPTY;
+            for (size_t at = 0; at < n; at++) units[at] = kinds[k].units[at % 2];
+            must(wtf8_encoded_len(units, n) == bytes, "encoded_len of many units");
+            must(wtf8_set_units(&string, units, n) == WTF8_OK && wtf8_byte_len(&string) == bytes && wtf8_unit_len(&string) == n, "many units");
+            wtf8_free(&string);
+        }
+}
+
 /* Functions with a context: what was used before them, and how often each was called. */
 struct counted {
     wtf8_memory used;
@@ -2160,6 +2239,9 @@ int main(void) {
     long_searches();
     letters_that_fit();
     latin1_requests();
+    marks_of_others();
+    refused_after_leads();
+    far_lens();
     memory_with_context();
     printf("edges: %ld requests, no difference\n", requests);
     return 0;

@@ -91,6 +91,28 @@ def wrong_pairs():
     return wrong
 
 
+def wrong_ranges():
+    """The ranges of a text, in order or not and past its ends, in which what is found, cut out or replaced differs."""
+    text, wrong = "abcabcabab", []
+    string, bounds = String(text), [None, *range(-len(text) - 2, len(text) + 3)]
+    for begin in bounds:
+        for end in bounds:
+            same = str(string[begin:end]) == text[begin:end]
+            of = (begin or 0, end)
+            for part in ("ab", "abc", "cab", "b", ""):
+                same = same and string.find(part, *of) == text.find(part, *of) and string.rfind(part, *of) == text.rfind(part, *of)
+            if begin is not None and end is not None and 0 <= begin and 0 <= end:
+                edited, is_range = String(text), begin <= end <= len(text)
+                try:
+                    edited.replace(begin, end, "xyz")
+                    same = same and is_range and str(edited) == text[:begin] + "xyz" + text[end:]
+                except ValueError:
+                    same = same and not is_range and str(edited) == text
+            if not same:
+                wrong.append((begin, end))
+    return wrong
+
+
 def latin1_of(string):
     """The string's text in Latin-1, or no bytes if it has none."""
     try:
@@ -138,7 +160,7 @@ def main(seed, count):
         wrong += (last.key() > string.key()) - (last.key() < string.key()) != order
         last, last_units = string, units
         lone += any(0xD800 <= ord(point) < 0xE000 for point in text)
-    for found in (wrong_results(), wrong_pairs()):
+    for found in (wrong_results(), wrong_pairs(), wrong_ranges()):
         wrong += len(found)
         print(*map(ascii, found), sep="\n", end="\n" * bool(found))
     print(f"lists.py: {wrong} differences in {count} lists, of which {lone} have a lone surrogate")
