@@ -1974,7 +1974,7 @@ static void long_searches(void) {
             /* A pair for each unit of the last kind. */
             size_t width = kinds[kind] == 0xD83D ? 2 : 1;
             for (size_t i = 0; i < n; i++)
-                units[i] = width == 2 && i % 2 == 1 ? 0xDCA9 : (uint16_t)(kinds[kind] + i / width % period);
+                units[i] = (uint16_t)(width == 2 && i % 2 == 1 ? 0xDCA9 : kinds[kind] + i / width % period);
             /* The units that are searched for end with another one, which is there from index `AT` on, and near the end. */
             for (size_t end = AT + size; end < n; end += size + period + 1) units[end / 2 * 2] = 'z';
             must(wtf8_set_units(&string, units, n) == WTF8_OK && (k % 2 == 0 || wtf8_mark(&string) == WTF8_OK), "a long string to search");

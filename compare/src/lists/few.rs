@@ -49,14 +49,28 @@ fn edges_from(first: usize, len: usize) -> Vec<u16> {
         .collect()
 }
 
-/// Lists of up to 12 units that begin at three of `EDGES` each, lists of `LONGER`, and about 12 and 16 units of three
-/// bytes.
+/// ASCII letters with one of each of `EDGES` after a letter that is not ASCII, in more units than the block that holds both:
+/// with room these letters are encoded one by one.
+fn letters_in_ascii() -> Vec<Vec<u16>> {
+    let with = |(index, edge): (usize, &[u16])| {
+        let mut units = vec![0x61; 66];
+        units[index] = [0xE9, 0x4E2D][index % 2];
+        let at = 31 - index;
+        units[at..at + edge.len()].copy_from_slice(edge);
+        units
+    };
+    EDGES.into_iter().enumerate().map(with).collect()
+}
+
+/// Lists of up to 12 units that begin at three of `EDGES` each, lists of `LONGER`, about 12 and 16 units of three bytes, and
+/// letters in ASCII.
 fn lists() -> Vec<Vec<u16>> {
     let edges = EDGES.len();
     let from_three = |len| [0, 4, 8].map(|more| edges_from((len + more) % edges, len));
     let mut lists: Vec<Vec<u16>> = (0..=12).flat_map(from_three).collect();
     lists.extend(LONGER.map(|len| edges_from(len % edges, len)));
     lists.extend([11, 12, 13, 15, 16, 17].map(|len| vec![0xFFFF; len]));
+    lists.extend(letters_in_ascii());
     lists
 }
 
