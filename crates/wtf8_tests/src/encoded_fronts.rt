@@ -3,7 +3,7 @@ use crate::wrong::{Failed, Wrong, expect, in_row};
 use wtf8::encode_front;
 
 /// Units, and the bytes of their string: Unicode 3.9, Table 3-6, and the three bytes of a lone surrogate.
-const ROWS: [(&[u16], &[u8]); 6] = [
+const ROWS: [(&[u16], &[u8]); 7] = [
     (&[], &[]),
     (&[0x61, 0xE9, 0x4E2D], &[0x61, 0xC3, 0xA9, 0xE4, 0xB8, 0xAD]),
     (
@@ -26,6 +26,7 @@ const ROWS: [(&[u16], &[u8]); 6] = [
             0x92, 0xA9,
         ],
     ),
+    (&[0x61; 32], &[0x61; 32]),
 ];
 
 /// Whether the bytes of the parts of the list, one after the other, are these, if each part is encoded into `out`.
@@ -53,8 +54,9 @@ fn parts_are_encoded(_rt: HostRuntime) -> Result<(), Failed> {
     let mut row: usize = 0;
     for (units, bytes) in ROWS {
         let few = are_parts(units, bytes, &mut [0; 4]);
+        let some = are_parts(units, bytes, &mut [0; 24]);
         let more = are_parts(units, bytes, &mut [0; 53]);
-        in_row(row, expect(few && more, Wrong::Bytes))?;
+        in_row(row, expect(few && some && more, Wrong::Bytes))?;
         row = row.wrapping_add(1);
     }
     Ok(())
