@@ -40,8 +40,8 @@ pub extern "C" fn wtf8_starts_with_utf8(string: &mut Wtf8String, text: &[u8]) ->
 pub extern "C" fn wtf8_compare_with_utf8(string: &mut Wtf8String, text: &[u8]) -> i32
     ensures code { (result ≡ BEFORE) ⊎ ((result ≡ SAME) ⊎ (result ≡ AFTER)) }
     ensures before { result ≡ BEFORE → IsUtf8 text.now → Before string.old.buf.units (units (chars text.now)) }
-    ensures same { result ≡ SAME → IsUtf8 text.now × (string.old.buf.units ≡ units (chars text.now)) }
-    ensures after { result ≡ AFTER → IsUtf8 text.now × Before (units (chars text.now)) string.old.buf.units }
+    ensures same { result ≡ SAME → IsUtf8 text.now → string.old.buf.units ≡ units (chars text.now) }
+    ensures after { result ≡ AFTER → IsUtf8 text.now → Before (units (chars text.now)) string.old.buf.units }
     ensures not_utf8 { ¬ (IsUtf8 text.now) → result ≡ BEFORE }
     ensures kept { IsKept string.old string.new }
 {
