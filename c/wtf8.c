@@ -119,6 +119,8 @@ DECLARE(wtf8_result, code_point_before, handle *, size_t, uint32_t *)
 DECLARE(bool, equal_units, handle *, const uint16_t *, size_t)
 DECLARE(int32_t, compare_with_units, handle *, const uint16_t *, size_t)
 DECLARE(bool, equal_utf8, handle *, const uint8_t *, size_t)
+DECLARE(int32_t, compare_with_utf8, handle *, const uint8_t *, size_t)
+DECLARE(bool, starts_with_utf8, handle *, const uint8_t *, size_t)
 DECLARE(bool, starts_with, handle *, size_t, handle *)
 DECLARE(bool, starts_with_units, handle *, size_t, const uint16_t *, size_t)
 DECLARE(wtf8_result, find, handle *, size_t, handle *, size_t *)
@@ -513,6 +515,18 @@ bool wtf8_equal_utf8(const wtf8_string *string, const uint8_t *text, size_t n) {
     wtf8_string empty;
     handle copy = asked(string, &empty);
     return PROVED(equal_utf8)(&copy, n ? text : (const uint8_t *)nothing, n);
+}
+
+int32_t wtf8_compare_with_utf8(const wtf8_string *string, const uint8_t *text, size_t n) {
+    wtf8_string empty;
+    handle copy = asked(string, &empty);
+    return PROVED(compare_with_utf8)(&copy, n ? text : (const uint8_t *)nothing, n);
+}
+
+bool wtf8_starts_with_utf8(const wtf8_string *string, const uint8_t *text, size_t n) {
+    wtf8_string empty;
+    handle copy = asked(string, &empty);
+    return PROVED(starts_with_utf8)(&copy, n ? text : (const uint8_t *)nothing, n);
 }
 
 bool wtf8_starts_with(const wtf8_string *string, size_t index, const wtf8_string *other) {

@@ -348,6 +348,16 @@ int32_t wtf8_compare_with_units(const wtf8_string *string, const uint16_t *units
 WTF8_READS(2, 3)
 bool wtf8_equal_utf8(const wtf8_string *string, const uint8_t *text, size_t n);
 
+/* Compares a string with a text of `n` bytes by their units, as wtf8_compare_with_units does, without a string of it. If the
+ * bytes are not UTF-8, -1: they come after each string. Linear in `n`. Since 0.2.0. */
+WTF8_READS(2, 3)
+int32_t wtf8_compare_with_utf8(const wtf8_string *string, const uint8_t *text, size_t n);
+
+/* Whether `n` bytes are UTF-8, and the string begins with the units of the text. An end within a code point is not UTF-8, so
+ * no string begins with it. Linear in what the two begin with alike. Since 0.2.0. */
+WTF8_READS(2, 3)
+bool wtf8_starts_with_utf8(const wtf8_string *string, const uint8_t *text, size_t n);
+
 /* Whether the units of `string` from `index` on, found by the marks, begin with those of `other`. If that has none, they do
  * at each index, also after the end. Linear in the length of `other`. */
 bool wtf8_starts_with(const wtf8_string *string, size_t index, const wtf8_string *other);

@@ -163,6 +163,8 @@ public:
     string &assign_utf8(text8_in text) { return assign_utf8(plain(text)); }
     string &append_utf8(text8_in text) { return append_utf8(plain(text)); }
     WTF8_NODISCARD bool equals_utf8(text8_in text) const noexcept { return equals_utf8(plain(text)); }
+    WTF8_NODISCARD int compare_utf8(text8_in text) const noexcept { return compare_utf8(plain(text)); }
+    WTF8_NODISCARD bool starts_with_utf8(text8_in text) const noexcept { return starts_with_utf8(plain(text)); }
 #endif
     string &assign_latin1(text_in text) { return done(wtf8_set_latin1(get(), raw(text.data()), text.size())); }
     string &assign(const string &other) { return done(wtf8_set_string(get(), other.get())); }
@@ -378,6 +380,10 @@ public:
     WTF8_NODISCARD bool starts_with(units_in units, size_t index = 0) const noexcept {
         return wtf8_starts_with_units(get(), index, raw(units.data()), units.size());
     }
+    /* The units of a text in UTF-8, at the start. */
+    WTF8_NODISCARD bool starts_with_utf8(text_in text) const noexcept {
+        return wtf8_starts_with_utf8(get(), raw(text.data()), text.size());
+    }
     WTF8_NODISCARD bool ends_with(const string &other) const noexcept {
         return other.unit_len() <= unit_len() && starts_with(other, unit_len() - other.unit_len());
     }
@@ -397,6 +403,10 @@ public:
     WTF8_NODISCARD int compare(const string &other) const noexcept { return wtf8_compare_units(get(), other.get()); }
     WTF8_NODISCARD int compare(units_in to) const noexcept {
         return wtf8_compare_with_units(get(), raw(to.data()), to.size());
+    }
+    /* Bytes that are not UTF-8 come after each string. */
+    WTF8_NODISCARD int compare_utf8(text_in text) const noexcept {
+        return wtf8_compare_with_utf8(get(), raw(text.data()), text.size());
     }
     WTF8_NODISCARD int compare_code_points(const string &other) const noexcept {
         return wtf8_compare_code_points(get(), other.get());
@@ -479,20 +489,27 @@ WTF8_OPERATOR(==, equals, true) WTF8_OPERATOR(!=, equals, true)
 WTF8_OPERATOR(<, compare, 0) WTF8_OPERATOR(<=, compare, 0)
 WTF8_OPERATOR(>, compare, 0) WTF8_OPERATOR(>=, compare, 0)
 #undef WTF8_OPERATOR
-/* Whether a string is that of a text in UTF-8. */
+/* One side may be a text in UTF-8, which is compared by its units too; bytes that are not UTF-8 come after each string. */
+#define WTF8_TEXT_OPERATOR(op, call, value, type)                                                             \
+    inline bool operator op(const string &a, type b) noexcept { return a.call(b) op value; }                  \
+    inline bool operator op(type a, const string &b) noexcept { return value op b.call(a); }
 #define WTF8_TEXT_OPERATORS(type)                                                                             \
-    inline bool operator==(const string &a, type b) noexcept { return a.equals_utf8(b); }                     \
-    inline bool operator!=(const string &a, type b) noexcept { return !a.equals_utf8(b); }                    \
-    inline bool operator==(type a, const string &b) noexcept { return b.equals_utf8(a); }                     \
-    inline bool operator!=(type a, const string &b) noexcept { return !b.equals_utf8(a); }
+    WTF8_TEXT_OPERATOR(==, equals_utf8, true, type) WTF8_TEXT_OPERATOR(!=, equals_utf8, true, type)           \
+    WTF8_TEXT_OPERATOR(<, compare_utf8, 0, type) WTF8_TEXT_OPERATOR(<=, compare_utf8, 0, type)                \
+    WTF8_TEXT_OPERATOR(>, compare_utf8, 0, type) WTF8_TEXT_OPERATOR(>=, compare_utf8, 0, type)
 WTF8_TEXT_OPERATORS(text_in)
 #ifdef WTF8_WITH_CHAR8
 WTF8_TEXT_OPERATORS(text8_in)
 #endif
 #undef WTF8_TEXT_OPERATORS
+#undef WTF8_TEXT_OPERATOR
 #ifdef __cpp_impl_three_way_comparison
 inline std::strong_ordering operator<=>(const string &a, const string &b) noexcept { return a.compare(b) <=> 0; }
 inline std::strong_ordering operator<=>(const string &a, units_in b) noexcept { return a.compare(b) <=> 0; }
+inline std::strong_ordering operator<=>(const string &a, text_in b) noexcept { return a.compare_utf8(b) <=> 0; }
+#ifdef WTF8_WITH_CHAR8
+inline std::strong_ordering operator<=>(const string &a, text8_in b) noexcept { return a.compare_utf8(b) <=> 0; }
+#endif
 #endif
 
 /* A string of both sides' units, one of which may be units. A string that may be moved from is appended to. */

@@ -45,7 +45,10 @@ RESULTS = [
     (ctypes.c_size_t, "encoded_len unit_len byte_len capacity unit_before"),
     (
         ctypes.c_bool,
-        "is_boundary is_utf8 is_ascii is_latin1 equal equal_units equal_utf8 starts_with starts_with_units divides_pair",
+        """
+        is_boundary is_utf8 is_ascii is_latin1 equal equal_units equal_utf8 starts_with_utf8 starts_with starts_with_units
+        divides_pair
+        """,
     ),
     (ctypes.c_uint64, "hash hash_units hash_utf8"),
     (
@@ -55,8 +58,8 @@ RESULTS = [
         push_units push_latin1 push_utf8 push_utf8_part push_utf8_lossy push_utf8_lossy_part push_string push_slice
         utf8_unit_len position_at unit_at next_surrogate next_code_point previous_code_point code_point_before
         truncate_bytes truncate_units pop slice_units insert_units remove_units replace_units copy_code_points
-        copy_units copy_slice copy_utf8 copy_lossy copy_latin1 compare_units compare_code_points compare_with_units find
-        find_units rfind rfind_units
+        copy_units copy_slice copy_utf8 copy_lossy copy_latin1 compare_units compare_code_points compare_with_units
+        compare_with_utf8 find find_units rfind rfind_units
         """,
     ),
 ]

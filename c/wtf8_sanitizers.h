@@ -244,6 +244,10 @@ WTF8_TELLS(int32_t, compare_with_units, (const wtf8_string *string, const uint16
            wtf8_asks(string); wtf8_reads(units, n * 2))
 WTF8_TELLS(bool, equal_utf8, (const wtf8_string *string, const uint8_t *text, size_t n), (string, text, n),
            wtf8_asks(string); wtf8_reads(text, n))
+WTF8_TELLS(int32_t, compare_with_utf8, (const wtf8_string *string, const uint8_t *text, size_t n), (string, text, n),
+           wtf8_asks(string); wtf8_reads(text, n))
+WTF8_TELLS(bool, starts_with_utf8, (const wtf8_string *string, const uint8_t *text, size_t n), (string, text, n),
+           wtf8_asks(string); wtf8_reads(text, n))
 WTF8_TELLS(bool, starts_with, (const wtf8_string *string, size_t index, const wtf8_string *other), (string, index, other),
            wtf8_asks(string); wtf8_asks(other))
 WTF8_TELLS(bool, starts_with_units, (const wtf8_string *string, size_t index, const uint16_t *units, size_t n),
@@ -367,6 +371,8 @@ WTF8_TELLS_AFTER(copy_latin1, (const wtf8_string *string, uint8_t *out, size_t s
 #define wtf8_equal_units wtf8_told_equal_units
 #define wtf8_compare_with_units wtf8_told_compare_with_units
 #define wtf8_equal_utf8 wtf8_told_equal_utf8
+#define wtf8_compare_with_utf8 wtf8_told_compare_with_utf8
+#define wtf8_starts_with_utf8 wtf8_told_starts_with_utf8
 #define wtf8_starts_with wtf8_told_starts_with
 #define wtf8_starts_with_units wtf8_told_starts_with_units
 #define wtf8_find wtf8_told_find

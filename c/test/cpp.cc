@@ -252,6 +252,16 @@ static void test_texts() {
     must(s == u8"z\u00E9\u4E2D\U0001F4A9" && u8"z\u00E9\u4E2D\U0001F4A9" == s, "a literal with u8");
     must(s != u8"z\u00E9" && u8"" != s && string() == u8"" && !(s == u8"z"), "another literal with u8");
     must(s == std::string("z\xC3\xA9\xE4\xB8\xAD\xF0\x9F\x92\xA9") && string(u"\xD83D") != "\xED\xA0\xBD", "a text");
+    must(s < u8"z\u00E9\uE000" && u8"z\u00E9\u4E2D" < s && s <= u8"{" && u8"{" >= s, "the order of a literal with u8");
+    must(s > u8"z" && !(s > u8"{") && s >= u8"" && !(u8"{" <= s) && u8"z" <= s, "the order of another literal with u8");
+    must(string(u"\xD83D\xDCA9") < "\xEE\x80\x80" && string(u"\xE000") > "\xF0\x9F\x92\xA9", "the order is by units");
+    must(std::string("b") > string(u"a") && string(u"b") < "a\xFF" && string(u"\xD83D") < "\xED\xA0\xBD", "no UTF-8 comes after");
+    must(s.compare_utf8("z") == 1 && s.compare_utf8(u8"z\u00E9\u4E2D\U0001F4A9") == 0 && s.compare_utf8("\xC3") == -1, "compare_utf8");
+    must(s.starts_with_utf8(u8"z\u00E9") && s.starts_with_utf8("") && !s.starts_with_utf8("z\xC3") && !s.starts_with_utf8(u8"\u00E9"),
+         "starts_with_utf8");
+#ifdef __cpp_impl_three_way_comparison
+    must((s <=> u8"z") > 0 && (u8"z" <=> s) < 0 && (s <=> std::string("z\xC3\xA9\xE4\xB8\xAD\xF0\x9F\x92\xA9")) == 0, "<=> of a text");
+#endif
     must(string::from_utf8(u8"\u00E9") == u"\xE9" && string().assign_utf8(u8"\u00E9") == u"\xE9", "from_utf8, assign_utf8");
     must(string().append_utf8(u8"\u00E9").equals_utf8(u8"\u00E9"), "append_utf8, equals_utf8");
     must(string::utf8_unit_len("z\xC3\xA9\xF0\x9F\x92\xA9") == 4 && string::utf8_unit_len("") == 0, "utf8_unit_len");

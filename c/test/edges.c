@@ -563,10 +563,22 @@ static void lengths(void) {
                 must(wtf8_equal_utf8(&other, n ? bytes : NULL, len) &&
                      wtf8_hash_utf8(n ? bytes : NULL, len, n, kind) == hash_of(&p, n, kind), "a text that is asked for");
                 must(len == 0 || !wtf8_equal_utf8(&other, bytes, len - 1), "a front of the text");
+                must(wtf8_compare_with_utf8(&other, n ? bytes : NULL, len) == 0 &&
+                     wtf8_starts_with_utf8(&other, n ? bytes : NULL, len), "the order of a text");
+                for (size_t i = 0; i < len && n < 80; i++) {
+                    /* A front that ends within a code point is not UTF-8. */
+                    int is_front = (text[i] & 0xC0) != 0x80;
+                    uint8_t *front = array_of(text, i);
+                    must(wtf8_starts_with_utf8(&other, front, i) == is_front, "a text that is a front");
+                    must(wtf8_compare_with_utf8(&other, front, i) == (is_front ? 1 : -1), "the order of a front");
+                    must_begin(front, i, text, i, "the front itself");
+                }
                 must_begin(bytes, len, text, len, "the text itself");
                 for (size_t i = 0; i < len; i++) {
                     bytes[i] ^= 1;
                     must(!wtf8_equal_utf8(&other, bytes, len), "a text with another byte");
+                    must(wtf8_compare_with_utf8(&other, bytes, len) != 0 && !wtf8_starts_with_utf8(&other, bytes, len),
+                         "the order of a text with another byte");
                     bytes[i] ^= 1;
                 }
             }
@@ -579,10 +591,75 @@ static void lengths(void) {
     wtf8_free(&other);
 }
 
+/* A text beside a string: their order is that of the units, and bytes that are not UTF-8 come after each string. */
+static void asked_texts(void) {
+    static const struct {
+        uint16_t units[3];
+        size_t n;
+        const char *text;
+        size_t len;
+        int32_t order;
+        bool starts;
+    } rows[] = {
+        {{0}, 0, "", 0, 0, 1},
+        {{0}, 0, "a", 1, -1, 0},
+        {{'a'}, 1, "", 0, 1, 1},
+        {{'a'}, 1, "a", 1, 0, 1},
+        {{'a'}, 1, "ab", 2, -1, 0},
+        {{'a', 'b'}, 2, "a", 1, 1, 1},
+        {{'a', 0}, 2, "a", 1, 1, 1},
+        {{'a', 'b'}, 2, "b", 1, -1, 0},
+        {{0xE9}, 1, "\xC3\xA9", 2, 0, 1},
+        {{0xD83D, 0xDCA9}, 2, "\xF0\x9F\x92\xA9", 4, 0, 1},
+        {{0xD83D, 0xDCA9, 'a'}, 3, "\xF0\x9F\x92\xA9", 4, 1, 1},
+        {{'a', 0xD83D}, 2, "a", 1, 1, 1},
+        {{0xD83D}, 1, "", 0, 1, 1},
+        /* By units a pair is greater than D7FF and less than E000. */
+        {{0xD83D, 0xDCA9}, 2, "\xED\x9F\xBF", 3, 1, 0},
+        {{0xD7FF}, 1, "\xF0\x9F\x92\xA9", 4, -1, 0},
+        {{0xD83D, 0xDCA9}, 2, "\xEE\x80\x80", 3, -1, 0},
+        {{0xE000}, 1, "\xF0\x9F\x92\xA9", 4, 1, 0},
+        /* A surrogate without its other half beside a pair: the lead is equal, and then the next units differ. */
+        {{0xD83D}, 1, "\xF0\x9F\x92\xA9", 4, -1, 0},
+        {{0xD83D, 'a'}, 2, "\xF0\x9F\x92\xA9", 4, -1, 0},
+        {{0xD83D, 0xD83D}, 2, "\xF0\x9F\x92\xA9", 4, -1, 0},
+        {{0xD83D, 0xE000}, 2, "\xF0\x9F\x92\xA9", 4, 1, 0},
+        {{0xD83C, 0xE000}, 2, "\xF0\x9F\x92\xA9", 4, -1, 0},
+        {{0xD83E}, 1, "\xF0\x9F\x92\xA9", 4, 1, 0},
+        {{0xDCA9}, 1, "\xF0\x9F\x92\xA9", 4, 1, 0},
+        /* No UTF-8: a code point that is cut, wrong bytes after a greater or an equal string, an overlong 0, surrogates. */
+        {{0xE9}, 1, "\xC3", 1, -1, 0},
+        {{0x4E2D}, 1, "\xE4\xB8", 2, -1, 0},
+        {{0xD83D, 0xDCA9}, 2, "\xF0\x9F\x92", 3, -1, 0},
+        {{0}, 0, "\xFF", 1, -1, 0},
+        {{'b'}, 1, "a\xFF", 2, -1, 0},
+        {{'a'}, 1, "a\xFF", 2, -1, 0},
+        {{0xFFFF}, 1, "\x80", 1, -1, 0},
+        {{0}, 1, "\xC0\x80", 2, -1, 0},
+        {{0xD83D}, 1, "\xED\xA0\xBD", 3, -1, 0},
+        {{0xD83D, 0xDCA9}, 2, "\xED\xA0\xBD\xED\xB2\xA9", 6, -1, 0},
+    };
+    wtf8_string string = WTF8_EMPTY;
+    for (size_t i = 0; i < sizeof rows / sizeof rows[0]; i++) {
+        must(wtf8_set_units(&string, rows[i].units, rows[i].n) == WTF8_OK, "a string beside a text");
+        uint8_t *array = array_of(rows[i].text, rows[i].len), *text = rows[i].len ? array : NULL;
+        long requested = requests;
+        refuse_after = 0;
+        must(wtf8_compare_with_utf8(&string, text, rows[i].len) == rows[i].order, "the order of a string and a text");
+        must(wtf8_starts_with_utf8(&string, text, rows[i].len) == rows[i].starts, "whether a string begins with a text");
+        must(wtf8_equal_utf8(&string, text, rows[i].len) == (rows[i].order == 0), "whether a string is a text");
+        must(requests == requested, "requests of questions about a text");
+        refuse_after = -1;
+        must_begin(array, rows[i].len, rows[i].text, rows[i].len, "the text beside a string");
+    }
+    wtf8_free(&string);
+}
+
 /* Each unit of a string counts: one that is another by one bit is noticed by each question of two. */
 static void each_unit(void) {
     enum { LONG = 300 };
     uint16_t units[LONG];
+    uint8_t text[3 * LONG];
     wtf8_string string = WTF8_EMPTY, other = WTF8_EMPTY;
     for (size_t n = 1; n <= LONG; n += n < 36 ? 1 : n < 62 || n > 66 ? n / 3 : 1) {
         for (int kind = 0; kind < 2; kind++) {
@@ -597,6 +674,10 @@ static void each_unit(void) {
                      wtf8_compare_code_points(&string, &other) == order, "a unit orders");
                 must(wtf8_compare_with_units(&string, units, n) == order && !wtf8_starts_with(&string, 0, &other),
                      "a unit that is given orders");
+                size_t len = 0;
+                for (size_t k = 0; k < n; k++) len += encode(units[k], text + len);
+                must(wtf8_compare_with_utf8(&string, text, len) == order && !wtf8_starts_with_utf8(&string, text, len),
+                     "a unit of a text orders");
                 must(wtf8_hash(&string, 1, 2) != wtf8_hash(&other, 1, 2), "a unit is hashed");
                 must(wtf8_hash_units(units, n, 1, 2) == wtf8_hash(&other, 1, 2), "the hash of units");
                 units[i] ^= 1;
@@ -2197,6 +2278,7 @@ int main(void) {
     sip_vectors();
     hash();
     asked_units();
+    asked_texts();
     orders();
     short_strings();
     short_strings_in_two();

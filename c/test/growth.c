@@ -77,6 +77,8 @@ int main(int argc, char **argv) {
     /* Linear in what they are given, or in what two begin with alike. */
     COUNT(starts_with, wtf8_starts_with(&s, index, &part));
     must(answer == 1, "a string begins with its part");
+    COUNT(starts_with_utf8, wtf8_starts_with_utf8(&s, text, FEW));
+    must(answer == 1, "a string begins with its text");
     COUNT(starts_with_units, wtf8_starts_with_units(&s, index, units + index, FEW));
     must(answer == 1, "a string begins with its units");
     COUNT_OK(find, wtf8_find(&s, index - FEW, &part, &position));
@@ -89,6 +91,7 @@ int main(int argc, char **argv) {
     COUNT(compare_units, wtf8_compare_units(&s, &part));
     COUNT(compare_code_points, wtf8_compare_code_points(&s, &part));
     COUNT(compare_with_units, wtf8_compare_with_units(&s, other, FEW));
+    COUNT(compare_with_utf8, wtf8_compare_with_utf8(&s, text, FEW));
     COUNT_OK(push_unit, wtf8_push_unit(&s, 'a'));
     COUNT_OK(push_code_point, wtf8_push_code_point(&s, 0x10FFFF));
     COUNT_OK(push_units, wtf8_push_units(&s, units, FEW));

@@ -274,6 +274,8 @@ static void units(size_t place) {
         must(wtf8_push_utf8(&roomy, bytes, len, NULL) == WTF8_OK, "push_utf8");
         must_be_list(&roomy, hash, "a pushed text");
         must(wtf8_equal_utf8(&new, bytes, len) && wtf8_hash_utf8(bytes, len, 1, 2) == hash, "equal_utf8, hash_utf8");
+        must(wtf8_compare_with_utf8(&new, bytes, len) == 0, "compare_with_utf8");
+        must(wtf8_starts_with_utf8(&new, bytes, len), "starts_with_utf8");
         size_t count = SPARE;
         must(wtf8_utf8_unit_len(bytes, len, &count, NULL) == WTF8_OK && count == n, "utf8_unit_len");
     }

@@ -6,7 +6,7 @@
 
 #include <string.h>
 
-enum { QUESTIONS = 40, SEED_0 = 77, SEED_1 = 88 };
+enum { QUESTIONS = 42, SEED_0 = 77, SEED_1 = 88 };
 
 /* What the calls must answer of one string, and of it and another. */
 struct answers {
@@ -134,6 +134,8 @@ static inline int is_right(unsigned kind, size_t number, const struct pair *p, c
             code = wtf8_code_point_before(s, index, &point);
             return code == must_be_before(p, index, &must_be) && point == must_be;
         case 38: return !a->is_utf8 || (wtf8_utf8_unit_len(a->lossy, a->byte_len, &len, NULL) == WTF8_OK && len == p->n);
+        case 39: return wtf8_compare_with_utf8(s, a->lossy, a->byte_len) == (a->is_utf8 ? 0 : -1);
+        case 40: return wtf8_starts_with_utf8(s, a->lossy, a->byte_len) == a->is_utf8;
         default:
             wtf8_clear(own);
             return wtf8_push_string(own, s) == WTF8_OK && has_units(own, p->units, p->n);

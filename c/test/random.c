@@ -13,8 +13,8 @@ enum call {
     /* Calls that only read. */
     UNIT_LEN, CAPACITY, POSITION_AT, UNIT_BEFORE, UNIT_AT, IS_BOUNDARY, NEXT, PREVIOUS, POINT_BEFORE, NEXT_SURROGATE, UTF8_UNIT_LEN,
     IS_UTF8, IS_ASCII, IS_LATIN1, EQUAL,
-    ORDER_UNITS, ORDER_POINTS, HASH, HASH_UNITS, EQUAL_UNITS, ORDER_WITH_UNITS, EQUAL_UTF8, HASH_UTF8, STARTS_WITH,
-    STARTS_WITH_UNITS, COPY_UNITS, COPY_POINTS, COPY_SLICE,
+    ORDER_UNITS, ORDER_POINTS, HASH, HASH_UNITS, EQUAL_UNITS, ORDER_WITH_UNITS, EQUAL_UTF8, HASH_UTF8,
+    ORDER_WITH_UTF8, STARTS_WITH_UTF8, STARTS_WITH, STARTS_WITH_UNITS, COPY_UNITS, COPY_POINTS, COPY_SLICE,
     COPY_UTF8, COPY_LOSSY, COPY_LATIN1, CALLS
 };
 
@@ -570,17 +570,27 @@ static void step(enum call call, struct pair *p, struct pair *q) {
             break;
         }
         case EQUAL_UTF8:
-        case HASH_UTF8: {
+        case HASH_UTF8:
+        case ORDER_WITH_UTF8:
+        case STARTS_WITH_UTF8: {
             /* The bytes of a string with surrogates are not UTF-8. */
             static uint8_t own[12 * MOST];
             alike(&asked, below(4) ? p : q);
+            if (call == STARTS_WITH_UTF8 && below(2)) asked.n = below((uint32_t)asked.n + 1);
             len = bytes_of(&asked, own);
+            /* Nor is a text that ends within a code point. */
+            int is_cut = EQUAL_UTF8 != call && HASH_UTF8 != call && len > 0 && own[len - 1] >= 0x80 && below(4) == 0;
+            len -= (size_t)is_cut;
+            int is_text = is_utf8(&asked) && !is_cut;
             bytes = array_of(own, len);
             const uint8_t *given = len || below(2) ? bytes : NULL;
             uint64_t seed_0 = a_seed(), seed_1 = a_seed();
-            int is_equal = is_utf8(&asked) && compare_units(p, &asked) == 0;
+            int order = is_text ? compare_units(p, &asked) : -1;
             refuse_after = 0;
-            if (call == EQUAL_UTF8) must(wtf8_equal_utf8(&p->string, given, len) == is_equal, "equal_utf8");
+            if (call == EQUAL_UTF8) must(wtf8_equal_utf8(&p->string, given, len) == (order == 0), "equal_utf8");
+            else if (call == ORDER_WITH_UTF8) must(wtf8_compare_with_utf8(&p->string, given, len) == order, "compare_with_utf8");
+            else if (call == STARTS_WITH_UTF8)
+                must(wtf8_starts_with_utf8(&p->string, given, len) == (is_text && has_at(p, 0, &asked)), "starts_with_utf8");
             else must(wtf8_hash_utf8(given, len, seed_0, seed_1) == hash_of(&asked, seed_0, seed_1), "hash_utf8");
             must_begin(bytes, len, own, len, "a text that is asked");
             break;

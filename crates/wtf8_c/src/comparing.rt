@@ -26,6 +26,28 @@ pub extern "C" fn wtf8_equal_utf8(string: &mut Wtf8String, text: &[u8]) -> bool
     string.buffer().as_wtf8().eq_utf8(text)
 }
 
+/// Whether the bytes are UTF-8, and the units of the string begin with those of the text.
+#[unsafe(no_mangle)]
+pub extern "C" fn wtf8_starts_with_utf8(string: &mut Wtf8String, text: &[u8]) -> bool
+    ensures starts { IsTrue result ↔ (IsUtf8 text.now × (take (length (units (chars text.now))) string.old.buf.units ≡ units (chars text.now))) }
+    ensures kept { IsKept string.old string.new }
+{
+    string.buffer().as_wtf8().starts_with_utf8(text)
+}
+
+/// Compares the units of the string with those of a text in UTF-8. Bytes that are not UTF-8 come after each string.
+#[unsafe(no_mangle)]
+pub extern "C" fn wtf8_compare_with_utf8(string: &mut Wtf8String, text: &[u8]) -> i32
+    ensures code { (result ≡ BEFORE) ⊎ ((result ≡ SAME) ⊎ (result ≡ AFTER)) }
+    ensures before { result ≡ BEFORE → IsUtf8 text.now → Before string.old.buf.units (units (chars text.now)) }
+    ensures same { result ≡ SAME → IsUtf8 text.now → string.old.buf.units ≡ units (chars text.now) }
+    ensures after { result ≡ AFTER → IsUtf8 text.now → Before (units (chars text.now)) string.old.buf.units }
+    ensures not_utf8 { ¬ (IsUtf8 text.now) → result ≡ BEFORE }
+    ensures kept { IsKept string.old string.new }
+{
+    code_of_order(string.buffer().as_wtf8().cmp_with_utf8(text))
+}
+
 /// Compares the units of the string with these.
 #[unsafe(no_mangle)]
 pub extern "C" fn wtf8_compare_with_units(string: &mut Wtf8String, units: &[u16]) -> i32

@@ -115,6 +115,23 @@ fn equals_itself(view: Wtf8<'_>) -> bool {
     view.eq_utf8(text) && !view.eq_utf8(&text[..text.len().saturating_sub(1)])
 }
 
+/// Whether a text begins with its front, and with no bytes that end within a code point.
+fn begins_with_fronts() -> bool {
+    let view = Wtf8::from_str("a💩b");
+    view.starts_with_utf8("a💩".as_bytes())
+        && !view.starts_with_utf8(b"a\xF0\x9F")
+        && !view.starts_with_utf8(b"b")
+}
+
+/// Whether texts are compared by their units, D83D DCA9 before E000, and bytes that are not UTF-8 come last.
+fn are_in_order() -> bool {
+    let view = Wtf8::from_str("a💩b");
+    view.cmp_with_utf8("a💩b".as_bytes()).is_eq()
+        && view.cmp_with_utf8("a\u{E000}".as_bytes()).is_lt()
+        && view.cmp_with_utf8(b"a").is_gt()
+        && view.cmp_with_utf8(b"a\xFF").is_lt()
+}
+
 /// Whether a string of a lone surrogate is equal to its bytes: they are no text.
 fn equals_surrogate(alloc: Global) -> bool {
     let mut text = Wtf8Buf::new(alloc);
@@ -134,6 +151,7 @@ fn bytes_of_utf8_are_taken_and_others_told(rt: HostRuntime) -> Result<(), Failed
     let alloc = rt.alloc();
     expect(is_made_and_pushed(alloc), Wrong::Bytes)?;
     expect(equals_itself(Wtf8::from_str(TEXT)), Wrong::Outcome)?;
+    expect(begins_with_fronts() && are_in_order(), Wrong::Outcome)?;
     expect(!equals_surrogate(alloc), Wrong::Outcome)?;
     let mut index = 0usize;
     for row in &NO_TEXTS {

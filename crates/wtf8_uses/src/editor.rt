@@ -91,8 +91,8 @@ impl<A: Allocator + Copy> Editor<A> {
         self.cursor
     }
 
-    /// Moves the cursor after the first `index` code units, of which there must be as many; out of a surrogate pair it
-    /// moves to the pair's start. It is no change that is undone.
+    /// Moves the cursor to index `index`, which must be at most the length, or before a surrogate pair that this divides.
+    /// It is no change, so `undo` does not take it back.
     pub fn move_to(&mut self, index: usize)
         requires { index ≤ length self.old.shown.units }
         ensures units { self.new.shown.units ≡ self.old.shown.units }

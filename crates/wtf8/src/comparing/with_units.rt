@@ -1,6 +1,7 @@
 // Strings compared with code units or a text that are in no string: of units the string's are decoded on the stack, part by
 // part.
 ghost use Rattle.std.specs.Cmp.Lexicographic.{slice_cmp};
+ghost use Rattle.std.specs.declared.cmp.Ordering.TheVariants.{Less};
 ghost use Rattle.std.specs.Ordering.{MatchOrdering, nat_cmp};
 ghost use Rattle.std.specs.Prelude.{◌≡◌, ◌↔◌, ◌++◌, ◌+◌, ◌^◌, ◌<◌, ◌≤◌, length, take, IsTrue};
 ghost use Rattle.std.specs.Str.{chars, IsUtf8};
@@ -9,6 +10,7 @@ ghost use Rattle.wtf8.specs.Unicode.{units};
 ghost use Rattle.wtf8.specs.View.{view_units};
 
 use crate::lanes::memcmp;
+use crate::lanes::utf8::from_utf8;
 use crate::strings::view::Wtf8;
 use crate::units::unit_ends::POSITIONS;
 use crate::units::writing::decode_all;
@@ -123,6 +125,31 @@ impl<'a> Wtf8<'a> {
             return false;
         }
         self.as_str().is_some()
+    }
+
+    /// Whether the bytes are UTF-8, and the code units of the string begin with those of the text. A surrogate is looked
+    /// for only if the bytes are equal. Does not allocate. Linear in the equal front.
+    pub fn starts_with_utf8(&self, text: &[u8]) -> bool
+        ensures { IsTrue result ↔ (IsUtf8 text.now × (take (length (units (chars text.now))) (view_units self.now) ≡ units (chars text.now))) }
+    {
+        if !self.is_code_point_boundary(text.len()) {
+            return false;
+        }
+        self.slice_to(text.len()).eq_utf8(text)
+    }
+
+    /// Compares the code units of the string with those of a text in UTF-8, as `cmp_units` compares two strings. Bytes
+    /// that are not UTF-8 come after each string. Does not allocate. Linear in the length of the text.
+    pub fn cmp_with_utf8(&self, text: &[u8]) -> Ordering
+        ensures value { IsUtf8 text.now → result ≡ slice_cmp nat_cmp (view_units self.now) (units (chars text.now)) }
+        ensures order { IsUtf8 text.now → let own = view_units self.now in let others = units (chars text.now) in
+            MatchOrdering result (Before own others) (own ≡ others) (Before others own) }
+        ensures other { ¬ (IsUtf8 text.now) → result ≡ Less }
+    {
+        match from_utf8(text) {
+            Ok(text) => self.cmp_units(&Wtf8::from_str(text)),
+            Err(_) => Ordering::Less,
+        }
     }
 
     /// Whether the code units of the string are these. Does not allocate. Linear in the equal front.

@@ -1,0 +1,35 @@
+-- A string that begins with a text in UTF-8.
+use Rattle.wtf8.proofs.Common.{◌≡◌, ℕ, List, ◌++◌, ◌∙◌, refl, sym, ap, arith, length, take, drop, take-append-drop, take_at, chars, units}
+use Rattle.wtf8.proofs.Common.{All-drop, IsForm, IsFront, IsUnit, IsUtf8, Wtf8, form_of, view_units}
+use Rattle.wtf8.proofs.lemmas.codec.Readings.{form-append, units-append}
+use Rattle.wtf8.proofs.lemmas.strings.Concatenation.{one_form, units_read}
+use Rattle.wtf8.proofs.lemmas.strings.ExtendedForms.{scalar_front_unpaired, scalar_text, well_formed_text}
+
+-- a list of units begins with those before a boundary
+pub begins_with_front : {u v : List ℕ} {k : ℕ} → IsFront u k v → take (length v) u ≡ v
+begins_with_front {u} {v} f =
+    let parts : u ≡ v ++ units f.back = sym f.splits.reads.same_units ∙ (units-append f.front f.back ∙ ap (λ z. z ++ units f.back) f.same_units) in
+    ap (take (length v)) parts ∙ take_at v (units f.back) (length v) refl
+
+-- in a string whose units begin with those of a text there is a boundary after its bytes
+pub text_front : (v : Wtf8) (w : List ℕ) → IsUtf8 w → take (length (units (chars w))) (view_units v) ≡ units (chars w)
+    → IsFront (view_units v) (length w) (units (chars w))
+text_front v w text begins =
+    let u = view_units v in
+    let n = length (units (chars w)) in
+    let read = units_read v.well_formed.points u record { clean = v.well_formed.clean; same_units = refl } in
+    let back = one_form (drop n u) (All-drop IsUnit n u read) in
+    let front : IsForm w (units (chars w)) = form_of (well_formed_text w text) in
+    let whole = form-append front back.has (scalar_front_unpaired (scalar_text text)) in
+    record {
+      front = chars w;
+      back = back.has.points;
+      splits = record {
+        reads = record {
+          clean = whole.reads.clean;
+          same_units = whole.reads.same_units ∙ (ap (λ z. z ++ drop n u) (sym begins) ∙ take-append-drop n u);
+        };
+        front_len = ap length (well_formed_text w text).encoded;
+      };
+      same_units = refl;
+    }
