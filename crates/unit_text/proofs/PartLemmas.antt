@@ -140,7 +140,7 @@ module _ (a part back front tail : List ℕ) where
       (omega (arith, length-append (a ++ part) back, length-append a part)) k after there in
       let own = ap (drop (length a)) (append_assoc a part back) ∙ drop-append_seam a (part ++ back) in
       unit_in_part part back (front ++ tail) (k - length a) d within (omega (arith, short, length-append front tail))
-          (subst (λ t. OccursAt t (front ++ tail) (k - length a)) own rest)
+      (subst (λ t. OccursAt t (front ++ tail) (k - length a)) own rest)
       ∙ get_or_append_left front tail 0 d short
 
   -- where the first two units do not begin nothing is found
