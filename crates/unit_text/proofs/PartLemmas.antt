@@ -1,12 +1,12 @@
 -- A search in a part of a text: how much of a front the part has reached.
-use Rattle.std.proofs.Common.{◌≡◌, ◌≢◌, zero, ℕ, ◌+◌, ◌-◌, ◌<◌, ◌≤◌, List, [], ◌∷◌, ◌++◌, length, take, drop, get_or, sym, ap, subst, ◌∙◌, arith, inl, inr, append_assoc, append-nil, length-append, length-drop, length-take, length-take-le, suc}
+use Rattle.std.proofs.Common.{◌≡◌, ℕ, ◌+◌, ◌-◌, ◌<◌, ◌≤◌, List, [], ◌∷◌, ◌++◌, length, take, drop, get_or, sym, ap, subst, ◌∙◌, arith, inl, inr, append_assoc, append-nil, length-append, length-drop, length-take, length-take-le, suc}
 use Rattle.std.proofs.Math.Seq.{drop-append_seam, drop-cons, take-append_seam, take-append-add}
 use Rattle.std.proofs.lemmas.Bool.{cases_eq, cases_lt}
 use Rattle.std.proofs.lemmas.List.{append_cancel_left, drop-append-le, get_or_append_left, take-append-drop, take-append-le, take-take, take_all, take_more}
 use Rattle.unit_text.specs.Search.{OccursAt, IsFirstIndex}
 use Rattle.unit_text.specs.private.Borders.{EndsWithFront, IsLongestFront}
 use Rattle.unit_text.specs.private.Search.{BeginsApart}
-use Rattle.unit_text.proofs.BorderLemmas.{all_is_candidate, longest_none, end_is_border, border_is_end, ends_append, ends_between, ends_trans, front_len, in_end, border_shorter}
+use Rattle.unit_text.proofs.BorderLemmas.{end_is_border, border_is_end, ends_append, ends_between, ends_trans, front_len, in_end, border_shorter}
 use Rattle.unit_text.proofs.SearchLemmas.{IsLastBelow, NoneBelow, NoneBetween, first_of_rest, occurs_in_rest, occurs_there, rest_of_part, unit_in_part}
 
 -- the text `l` and `y` after it, in which `front` and `tail` after it are searched for
