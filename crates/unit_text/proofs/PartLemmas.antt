@@ -1,12 +1,12 @@
 -- A search in a part of a text: how much of a front the part has reached.
-use Rattle.std.proofs.Common.{◌≡◌, ◌≢◌, zero, ℕ, ◌+◌, ◌-◌, ◌<◌, ◌≤◌, List, [], ◌∷◌, ◌++◌, length, take, drop, get_or, sym, ap, subst, ◌∙◌, arith, inl, inr, append_assoc, append-nil, length-append, length-drop, length-take, length-take-le, suc}
+use Rattle.std.proofs.Common.{◌≡◌, ℕ, ◌+◌, ◌-◌, ◌<◌, ◌≤◌, List, [], ◌∷◌, ◌++◌, length, take, drop, get_or, sym, ap, subst, ◌∙◌, arith, inl, inr, append_assoc, append-nil, length-append, length-drop, length-take, length-take-le, suc}
 use Rattle.std.proofs.Math.Seq.{drop-append_seam, drop-cons, take-append_seam, take-append-add}
 use Rattle.std.proofs.lemmas.Bool.{cases_eq, cases_lt}
 use Rattle.std.proofs.lemmas.List.{append_cancel_left, drop-append-le, get_or_append_left, take-append-drop, take-append-le, take-take, take_all, take_more}
 use Rattle.unit_text.specs.Search.{OccursAt, IsFirstIndex}
 use Rattle.unit_text.specs.private.Borders.{EndsWithFront, IsLongestFront}
 use Rattle.unit_text.specs.private.Search.{BeginsApart}
-use Rattle.unit_text.proofs.BorderLemmas.{all_is_candidate, longest_none, end_is_border, border_is_end, ends_append, ends_between, ends_trans, front_len, in_end, border_shorter}
+use Rattle.unit_text.proofs.BorderLemmas.{end_is_border, border_is_end, ends_append, ends_between, ends_trans, front_len, in_end, border_shorter}
 use Rattle.unit_text.proofs.SearchLemmas.{IsLastBelow, NoneBelow, NoneBetween, first_of_rest, occurs_in_rest, occurs_there, rest_of_part, unit_in_part}
 
 -- the text `l` and `y` after it, in which `front` and `tail` after it are searched for
@@ -140,7 +140,7 @@ module _ (a part back front tail : List ℕ) where
       (omega (arith, length-append (a ++ part) back, length-append a part)) k after there in
       let own = ap (drop (length a)) (append_assoc a part back) ∙ drop-append_seam a (part ++ back) in
       unit_in_part part back (front ++ tail) (k - length a) d within (omega (arith, short, length-append front tail))
-          (subst (λ t. OccursAt t (front ++ tail) (k - length a)) own rest)
+      (subst (λ t. OccursAt t (front ++ tail) (k - length a)) own rest)
       ∙ get_or_append_left front tail 0 d short
 
   -- where the first two units do not begin nothing is found

@@ -151,7 +151,7 @@ fn borders_of<const N: usize>(units: &[u16]) -> [u16; N]
     borders
 }
 
-/// Whether `front` does not begin at an index, by its first two units. Most candidates for one unit are none for two.
+/// Whether the first two units of `front` show that it does not begin at an index. With one, text has many candidates.
 #[inline(always)]
 fn begins_apart(part: &[u16], index: usize, front: &[u16]) -> bool
     requires within { index < length part.now }
