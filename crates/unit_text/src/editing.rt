@@ -41,8 +41,8 @@ impl<A: Allocator> IndexedBuf<A> {
     /// Replaces the code units from index `begin` to before `end`, which must be in order and at most the length, by
     /// others, paired or not. A pair that an end splits is cut, and a lead and a trail that then meet become one code
     /// point. If memory is refused, the string is unchanged; it is requested at most once, and not if the new string fits
-    /// the capacity, and no call is refused for a mark. Finds both indexes as `position_at` does, then linear in the number
-    /// of new units and of the bytes after `begin`. Marks after `begin` are made anew.
+    /// the capacity, and no call is refused for a mark. Finds `begin` as `position_at` does, and `end` from there or from a
+    /// nearer mark, then linear in the number of new units and of the bytes after `begin`. Marks after `begin` are made anew.
     pub fn replace_units(
         &mut self,
         begin: usize,
@@ -60,11 +60,7 @@ impl<A: Allocator> IndexedBuf<A> {
     {
         let marked = self.marked();
         let from = marked.mark_at(begin);
-        let to = if end == begin {
-            from
-        } else {
-            marked.mark_at(end)
-        };
+        let to = marked.mark_after(from, end);
         self.text.replace_units_at(from, begin, to, end, units)?;
         // There are no more units than bytes, so the sum fits.
         prove!(self.text.len() <= usize::MAX);

@@ -327,6 +327,22 @@ impl<'a> MarkedView<'a> {
         self.text.view.mark_at(from, units)
     }
 
+    /// The mark that `mark_at` returns for a number of units at or after the mark `from`. Counts from there if no kept mark
+    /// is nearer.
+    pub(crate) fn mark_after(&self, from: UnitMark, units: usize) -> UnitMark
+        requires mark { IsMarkOf self.now.text.view from }
+        requires order { from.units ≤ units }
+        requires within { units ≤ self.now.text.count }
+        ensures mark { IsMarkOf self.now.text.view result }
+        ensures last { RoundsDownTo (view_units self.now.text.view) units result.units }
+    {
+        let near = self.mark_at_or_before(units);
+        if near.units < from.units {
+            return self.text.view.mark_at(from, units);
+        }
+        self.text.view.mark_at(near, units)
+    }
+
     /// The mark at the last code point boundary at or before the byte `position`.
     pub(crate) fn mark_before(&self, position: usize) -> UnitMark
         requires within { position ≤ length self.now.text.view.bytes.now }

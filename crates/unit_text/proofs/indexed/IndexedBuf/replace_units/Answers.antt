@@ -1,7 +1,17 @@
-use Rattle.std.proofs.Common.{◌≤◌, ◌++◌, drop, ap, arith, length}
+use Rattle.std.proofs.Common.{inl, inr, rules, ◌≤◌, ◌++◌, drop, ap, arith, length}
 use Rattle.wtf8.specs.UnitString.{UnitString}
 use Rattle.unit_text.proofs.EditLemmas.{AreKept-edited}
 use Rattle.unit_text.proofs.indexed.IndexedBuf.replace_units.Goals as goal
+
+pub mark_after-to-requires : goal.mark_after-to-requires
+mark_after-to-requires g c = record {
+  mark = c.mark_at-from.ensures.mark;
+  order = elim c.mark_at-from.ensures.last [
+    | inl same ↦ omega (arith, same, c.requires.order)
+    | inr less ↦ omega (arith, less.0, c.requires.order)
+  ];
+  within = search rules;
+}
 
 pub renew_after-requires : goal.renew_after-requires
 renew_after-requires g c =
