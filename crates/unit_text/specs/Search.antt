@@ -22,10 +22,6 @@ pub record IsLastIndex (u s : List ℕ) (position k : ℕ) : Type 0 where
 abbrev pub FindsFirst : List ℕ → List ℕ → ℕ → Option ℕ → Type 0
 FindsFirst u s position r = MatchOption r ((k : ℕ) → position ≤ k → ¬ (OccursAt u s k)) (IsFirstIndex u s position)
 
--- The result is the first index below `end` at which `s` occurs in `u`, or `None` if there is none.
-abbrev pub FindsFirstBelow : List ℕ → List ℕ → ℕ → Option ℕ → Type 0
-FindsFirstBelow u s end r = MatchOption r ((k : ℕ) → k < end → ¬ (OccursAt u s k)) (λ k. IsFirstIndex u s 0 k × (k < end))
-
 -- The result is the last index below `end` at which `s` occurs in `u`, or `None` if there is none.
 abbrev pub FindsLastBelow : List ℕ → List ℕ → ℕ → Option ℕ → Type 0
 FindsLastBelow u s end r =

@@ -2,7 +2,7 @@
 ghost use Rattle.std.specs.Prelude.{◌≡◌, ◌≢◌, slice_index, ◌↔◌, ◌∷◌, [], ◌++◌, ◌+◌, ◌-◌, ◌≤◌, ◌<◌, ◌^◌, ℕ, length, take, IsTrue, IfSome, IfNone, IfOk, IfErr};
 ghost use Rattle.unit_text.specs.private.Borders.{AreBorders, EndsWithFront, IsLongestFront};
 ghost use Rattle.unit_text.specs.private.Search.{BeginsApart, pattern_units};
-ghost use Rattle.unit_text.specs.Search.{FindsFirst, FindsFirstBelow, FindsLastBelow, IsFirstIndex, IsLastIndex, OccursAt};
+ghost use Rattle.unit_text.specs.Search.{FindsFirst, FindsLastBelow, IsFirstIndex, IsLastIndex, OccursAt};
 ghost use Rattle.wtf8.specs.UnitMark.{IsMarkOf};
 ghost use Rattle.wtf8.specs.UnitPosition.{DividesPair};
 ghost use Rattle.wtf8.specs.View.{view_units};
@@ -446,7 +446,7 @@ fn last_of_string(view: Wtf8<'_>, end: UnitMark, other: Wtf8<'_>, count: usize) 
 
 impl<A: Allocator> IndexedBuf<A> {
     /// The first index at or after `from` at which these code units occur, also inside a surrogate pair, or `None` if
-    /// there is none. No units are found at `from`, but past the end nothing is. Does not allocate. Linear in the distance
+    /// there is none. An empty list is found at `from`, but past the end nothing is. Does not allocate. Linear in the distance
     /// to the index and the number of `units`; where the first 2,048 of more units occur, the others are compared until one
     /// differs.
     pub fn find_units(&self, from: usize, units: &[u16]) -> Option<usize>
@@ -496,7 +496,7 @@ impl<A: Allocator> IndexedBuf<A> {
     }
 
     /// The last index at or before `from` at which these code units occur, also inside a surrogate pair, or `None` if
-    /// there is none. No units are found at `from`, or at the end if that is before. Does not allocate. Linear in the
+    /// there is none. An empty list is found at `from`, or at the end if that is before. Does not allocate. Linear in the
     /// distance from there to the index and the number of `units`; more than 2,048 units are compared as by `find_units`.
     pub fn rfind_units(&self, from: usize, units: &[u16]) -> Option<usize>
         ensures some { IfSome result (λ k. IsLastIndex self.now.units units.now from k) }

@@ -92,8 +92,8 @@ fn code_of_index(found: Option<usize>, index: &mut usize) -> i32
     ensures none { IfNone found ((result ≡ END) × (index.new ≡ index.old)) }
 {
     match found {
-        Some(place) => {
-            *index = place;
+        Some(first) => {
+            *index = first;
             OK
         }
         None => END,

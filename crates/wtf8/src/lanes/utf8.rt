@@ -93,7 +93,7 @@ fn first_block(bytes: &[u8]) -> u8x32
     u8x32::from_slice(bytes)
 }
 
-/// The number of the first `BLOCK` bytes that may begin a text: zeros stand before them. The vectors of the bytes before
+/// The number of the first `BLOCK` bytes that may begin a text, if zeros are before them. The vectors of the bytes before
 /// each are made in registers: loaded from a copy on the stack, they would wait for its stores.
 #[inline(always)]
 fn begins_text(bytes: &[u8]) -> usize
