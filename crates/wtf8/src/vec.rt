@@ -96,7 +96,8 @@ pub(crate) fn push_block<T: Copy, const N: usize, A: Allocator>(list: &mut Vec<T
     }
 }
 
-/// Appends the first `count` bytes of a block: all are stored, and the others cut off.
+/// Appends the first `count` bytes of a block: all are stored, and the others cut off. By `push_block` each byte would be a
+/// store of its own.
 #[inline(always)]
 pub(crate) fn push_front<const N: usize, A: Allocator>(
     bytes: &mut Vec<u8, A>,
@@ -106,9 +107,9 @@ pub(crate) fn push_front<const N: usize, A: Allocator>(
     requires few { count ≤ N }
     requires room { length bytes.old.items + N ≤ vec_capacity bytes.old }
     ensures items { bytes.new.items ≡ bytes.old.items ++ take count block.entry }
-    ensures capacity { vec_capacity bytes.new ≡ vec_capacity bytes.old }
+    ensures capacity { vec_capacity bytes.old ≤ vec_capacity bytes.new }
 {
     let end = bytes.len() + count;
-    push_block(bytes, block);
+    bytes.extend_from_slice(&block).unwrap();
     bytes.truncate(end);
 }
