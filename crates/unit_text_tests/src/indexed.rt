@@ -221,6 +221,7 @@ fn is_lead(found: Option<(CodePoint, usize)>) -> bool {
 fn has_lead(alloc: Global) -> bool {
     let buf = buf_of(alloc, &[0x62, 0xD83D, 0x61]);
     is_lead(buf.next_surrogate(0))
+        && buf.as_wtf8().is_code_point_boundary(4)
         && buf.next_surrogate(4).is_none()
         && buf.as_str().is_none()
         && buf.as_ascii().is_none()
