@@ -1844,7 +1844,7 @@ static size_t plain_index(const uint16_t *units, size_t n, size_t from, const ui
 /* Lists that repeat, of up to 3,000 units, also with another unit in them, are found in texts that repeat, in which they
  * overlap: texts of one unit, of two by turns, of Fibonacci's word, of pairs and leads, and of 150 units, with another one
  * in the middle. */
-static void long_searches(void) {
+static void repeated_searches(void) {
     enum { LONG = NOWHERE - 1, LONGEST_PART = 3000, KINDS = 5 };
     static const size_t sizes[] = {1, 2, 33, 64, 255, 256, 257, 511, 2047, 2048, 2049, LONGEST_PART};
     static uint16_t text[LONG], part[LONGEST_PART];
@@ -2314,7 +2314,7 @@ int main(void) {
     structs();
     texts_of_codes();
     searches();
-    long_searches();
+    repeated_searches();
     edits();
     marked_edits();
     marks_at_cuts();
