@@ -260,7 +260,7 @@ static void test_texts() {
     must(s.starts_with_utf8(u8"z\u00E9") && s.starts_with_utf8("") && !s.starts_with_utf8("z\xC3") && !s.starts_with_utf8(u8"\u00E9"),
          "starts_with_utf8");
 #ifdef __cpp_impl_three_way_comparison
-    must((s <=> u8"z") > 0 && (u8"z" <=> s) < 0 && (s <=> std::string("z\xC3\xA9\xE4\xB8\xAD\xF0\x9F\x92\xA9")) == 0, "<=> of a text");
+    must(std::is_gt(s <=> u8"z") && std::is_lt(u8"z" <=> s) && std::is_eq(s <=> std::string("z\xC3\xA9\xE4\xB8\xAD\xF0\x9F\x92\xA9")), "<=> of a text");
 #endif
     must(string::from_utf8(u8"\u00E9") == u"\xE9" && string().assign_utf8(u8"\u00E9") == u"\xE9", "from_utf8, assign_utf8");
     must(string().append_utf8(u8"\u00E9").equals_utf8(u8"\u00E9"), "append_utf8, equals_utf8");
