@@ -24,6 +24,7 @@ ghost use Rattle.wtf8.specs.private.PackedUnits.{tagged_units, tagged_block, sca
 use crate::codec::code_point::{FIRST_LEAD, LEAD_KIND, SURROGATES_PER_HALF, TRAIL_KIND};
 use crate::from_utf16::room::{Growth, make_room};
 use crate::from_utf16::{BLOCK_UNITS, HALF_BLOCK, Progress, QUARTER_BLOCK, shuffle_table};
+use crate::lanes::ascii::{is_ascii_block, narrow_saturating};
 use std::alloc::{AllocError, Allocator};
 use std::simd::prelude::*;
 
@@ -209,6 +210,15 @@ fn write_block(units: u16x16, scratch: &mut [u8], len: usize) -> Written
     ensures bytes { take result.end scratch.new ≡ take len scratch.old ++ packed_units 0 (take result.units (tagged_block units)) }
     ensures scalar { IsTrue result.is_utf8 → Each1 IsUnit (tagged_block units) }
 {
+    let narrowed = narrow_saturating(units);
+    if is_ascii_block(narrowed) {
+        narrowed.copy_to_slice(&mut scratch[len..]);
+        return Written {
+            units: BLOCK_UNITS,
+            end: len + BLOCK_UNITS,
+            is_utf8: true,
+        };
+    }
     if are_scalar(units) {
         let bytes = scalar_unit_bytes(units);
         return Written {

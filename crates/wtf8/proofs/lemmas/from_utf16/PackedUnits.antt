@@ -10,6 +10,8 @@ use Rattle.std.proofs.lemmas.Simd.{chunk-fits}
 use Rattle.std.proofs.Math.Seq.{take-append_seam}
 use Rattle.wtf8.specs.private.Prefixes.{IsReadTo}
 use Rattle.wtf8.specs.private.PackedUnits.{packed_unit, packed_units, tagged, tagged_units, tagged_block}
+use Rattle.wtf8.proofs.Common.{AreAscii, map, min}
+use Rattle.wtf8.proofs.lemmas.lanes.AsciiFronts.{ascii_saturated, saturated}
 use Rattle.wtf8.proofs.lemmas.codec.Encoding.{encoding_one, encoding_two, encoding_three, encoding_four, third_row}
 use Rattle.wtf8.proofs.lemmas.codec.Readings.{unpaired-after_no_lead, unpaired-nil_right, unpaired-before_no_trail, units_one, units_pair}
 use Rattle.wtf8.proofs.lemmas.from_utf16.Transcode.{IsKnownForm-append, IsKnownForm-nil, IsReadTo-append, undivided-after_no_lead}
@@ -75,6 +77,28 @@ packed_units-after_tag b d (n ∷ u) k = ap (λ w. w ++ packed_units n u) (packe
 pub take-written_block : (block row rest : List ℕ) (n l : ℕ) → n ≤ length block → l ≤ length row
     → take (n + l) (take n block ++ (row ++ rest)) ≡ take n block ++ take l row
 take-written_block block row rest n l bound h = grind (arith, length-take-le, take-append-add, take-append-le)
+
+pub take_all_block : (u : List ℕ) → length u ≡ 16 → take 16 (tagged_block u) ≡ tagged_block u
+take_all_block u long = take_all 16 (tagged_block u) (omega (arith, length-tagged_units 0 u 0xDC00, long))
+
+-- ASCII units are their own bytes
+packed_units-ascii : (b : ℕ) (u : List ℕ) (a : ℕ) → AreAscii u → (packed_units b (tagged_units b u a) ≡ u) × Each1 IsUnit (tagged_units b u a)
+packed_units-ascii b [] a h = (refl, tt)
+packed_units-ascii b (x ∷ u) a h =
+    let own = tagged-scalar b x (get_or u 0 a) (λ s. omega (arith, s, h.0)) in
+    let more = packed_units-ascii x u a h.1 in
+    let one : packed_unit b x ≡ x ∷ [] = grind (arith, lt-ltb, h.0) in (
+      ap (λ t. packed_unit b t ++ packed_units t (tagged_units x u a)) own ∙ (λ i. one i ++ more.0 i),
+      (omega (arith, own, h.0), more.1),
+    )
+
+-- a block of ASCII units is its own bytes
+pub ascii_block : (u : List ℕ) {low : List ℕ} → length u ≡ 16 → low ≡ map (λ n. min n 0xFF) u → AreAscii low
+    → (low ≡ packed_units 0 (take 16 (tagged_block u))) × Each1 IsUnit (tagged_block u)
+ascii_block u long narrowed ascii =
+    let own = ascii_saturated u (subst AreAscii narrowed ascii) in
+    let all = packed_units-ascii 0 u 0xDC00 own in
+    (narrowed ∙ saturated u own ∙ sym (ap (packed_units 0) (take_all_block u long) ∙ all.0), all.1)
 
 -- The pieces of tagged units are the encodings of the code points that the units are read as.
 
