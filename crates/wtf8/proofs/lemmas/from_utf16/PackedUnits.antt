@@ -78,9 +78,6 @@ pub take-written_block : (block row rest : List ℕ) (n l : ℕ) → n ≤ lengt
     → take (n + l) (take n block ++ (row ++ rest)) ≡ take n block ++ take l row
 take-written_block block row rest n l bound h = grind (arith, length-take-le, take-append-add, take-append-le)
 
-pub take_all_block : (u : List ℕ) → length u ≡ 16 → take 16 (tagged_block u) ≡ tagged_block u
-take_all_block u long = take_all 16 (tagged_block u) (omega (arith, length-tagged_units 0 u 0xDC00, long))
-
 -- ASCII units are their own bytes
 packed_units-ascii : (b : ℕ) (u : List ℕ) (a : ℕ) → AreAscii u → (packed_units b (tagged_units b u a) ≡ u) × Each1 IsUnit (tagged_units b u a)
 packed_units-ascii b [] a h = (refl, tt)
@@ -98,7 +95,8 @@ pub ascii_block : (u : List ℕ) {low : List ℕ} → length u ≡ 16 → low �
 ascii_block u long narrowed ascii =
     let own = ascii_saturated u (subst AreAscii narrowed ascii) in
     let all = packed_units-ascii 0 u 0xDC00 own in
-    (narrowed ∙ saturated u own ∙ sym (ap (packed_units 0) (take_all_block u long) ∙ all.0), all.1)
+    let whole = take_all 16 (tagged_block u) (omega (arith, length-tagged_units 0 u 0xDC00, long)) in
+    (narrowed ∙ saturated u own ∙ sym (ap (packed_units 0) whole ∙ all.0), all.1)
 
 -- The pieces of tagged units are the encodings of the code points that the units are read as.
 

@@ -1,5 +1,5 @@
 -- UTF-8 at the front, and what is known of the bytes after it.
-use Rattle.wtf8.proofs.Common.{◌≡◌, ℕ, zero, suc, ◌+◌, ◌-◌, ◌<◌, ◌≤◌, List, [], ◌∷◌, length, take, drop, IsUtf8, subst, arith, take-add, take-take, take-append-drop}
+use Rattle.wtf8.proofs.Common.{◌≡◌, ℕ, suc, ◌+◌, ◌-◌, ◌<◌, ◌≤◌, List, [], ◌∷◌, length, take, drop, IsUtf8, subst, arith, take-add, take-take, take-append-drop}
 use Rattle.wtf8.proofs.Common.{length-take, length-drop, drop-take, length-append, append-nil, take_all, take_at, refl, sym, ap, ◌∙◌, common_steps, nat_tests}
 use Rattle.wtf8.proofs.Common.{Bool, true, false, ◌&&◌}
 use lib.Utf8.{encode, encodes, scalar, scalars}
