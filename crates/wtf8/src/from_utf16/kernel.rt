@@ -235,9 +235,8 @@ fn write_block(units: u16x16, scratch: &mut [u8], len: usize) -> Written
     }
 }
 
-/// `write_block` of the units from index `at` on; of ASCII by one store, which is tried if the first and the last of them
-/// are ASCII. So text without ASCII blocks pays two comparisons, not the test of a vector, and markup around words of
-/// another script takes .7 of the time.
+/// `write_block` of the units from index `at` on, in one store if they are ASCII. Their vector is tested only if the first and
+/// the last of them are ASCII, so prose of other letters takes 1.05 of the time, and Chinese and Korean in XML .7 to .8.
 #[inline(always)]
 fn write_next_block(v: &[u16], at: usize, scratch: &mut [u8], len: usize) -> Written
     requires within { at + BLOCK_UNITS ≤ length v.now }
@@ -248,7 +247,7 @@ fn write_next_block(v: &[u16], at: usize, scratch: &mut [u8], len: usize) -> Wri
     ensures scalar { IsTrue result.is_utf8 → Each1 IsUnit (tagged_block (take 16 (drop at v.now))) }
 {
     let units = u16x16::from_slice(&v[at..]);
-    if v[at].max(v[at + BLOCK_UNITS - 1]) < 0x80 {
+    if (v[at] | v[at + BLOCK_UNITS - 1]) < 0x80 {
         let narrowed = narrow_saturating(units);
         if is_ascii_block(narrowed) {
             narrowed.copy_to_slice(&mut scratch[len..]);
