@@ -26,7 +26,7 @@ const AFTER_16: [usize; 32] = [
 
 /// The bytes from lane `count` on, then zeros.
 #[inline(always)]
-fn without_first(bytes: u8x16, count: usize) -> u8x16
+pub(crate) fn without_first(bytes: u8x16, count: usize) -> u8x16
     requires { count ≤ VECTOR }
     ensures { result ≡ drop count bytes ++ replicate count 0 }
 {
