@@ -1,8 +1,9 @@
 // Finds the encodings of surrogates in bytes.
-ghost use Rattle.std.specs.Prelude.{◌+◌, ◌<◌, length};
+ghost use Rattle.std.specs.Prelude.{◌+◌, ◌<◌, ◌≤◌, length};
 ghost use Rattle.wtf8.specs.private.Search.{IsFirst, IsFirstIn, SurrogateAt, SurrogateInLane};
 
 use crate::lanes::first_set_lane;
+use crate::lanes::padding::{after_byte, padded};
 use std::simd::prelude::*;
 
 /// The least lane that is 0xED in `firsts` and at least 0xA0 in `seconds`: the first two bytes of a surrogate.
@@ -38,17 +39,21 @@ pub(crate) fn next_surrogate(bytes: &[u8], from: usize) -> Option<usize>
             at += 32;
         }
     }
-    next_surrogate_bytewise(bytes, at)
+    surrogate_in_last_block(bytes, at)
 }
 
+/// Searches at most 32 bytes as one block: one by one, 32 take more instructions than 200 in blocks. Zeros follow the
+/// second bytes, so no surrogate begins with the last byte.
 #[inline(always)]
-fn next_surrogate_bytewise(bytes: &[u8], from: usize) -> Option<usize>
+fn surrogate_in_last_block(bytes: &[u8], from: usize) -> Option<usize>
+    requires { length bytes.now ≤ from + 32 }
     ensures { IsFirst (SurrogateAt bytes.now) from result }
 {
-    for at in from..bytes.len().saturating_sub(1) {
-        if bytes[at] == 0xED && 0xA0 <= bytes[at + 1] {
-            return Some(at);
-        }
+    if bytes.len() <= from {
+        return None;
     }
-    None
+    let seconds = padded(&bytes[from + 1..]);
+    let firsts = after_byte(bytes[from], seconds);
+    let lane = block(firsts, seconds)?;
+    Some(from + lane)
 }
