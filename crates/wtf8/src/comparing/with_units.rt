@@ -127,8 +127,8 @@ impl<'a> Wtf8<'a> {
         self.as_str().is_some()
     }
 
-    /// Whether the bytes are UTF-8, and the code units of the string begin with those of the text. A surrogate is looked
-    /// for only if the bytes are equal. Does not allocate. Linear in the equal front.
+    /// Whether the bytes are UTF-8, and the code units of the string begin with the text's. A surrogate is looked for only
+    /// if the bytes are equal. Does not allocate. Linear in the equal front.
     pub fn starts_with_utf8(&self, text: &[u8]) -> bool
         ensures { IsTrue result ↔ (IsUtf8 text.now × (take (length (units (chars text.now))) (view_units self.now) ≡ units (chars text.now))) }
     {
@@ -138,8 +138,8 @@ impl<'a> Wtf8<'a> {
         self.slice_to(text.len()).eq_utf8(text)
     }
 
-    /// Compares the code units of the string with those of a text in UTF-8, as `cmp_units` compares two strings. Bytes
-    /// that are not UTF-8 come after each string. Does not allocate. Linear in the length of the text.
+    /// Compares the code units of the string with a text's in UTF-8, as `cmp_units` compares two strings. Bytes that are
+    /// not UTF-8 come after each string. Does not allocate. Linear in the length of the text.
     pub fn cmp_with_utf8(&self, text: &[u8]) -> Ordering
         ensures value { IsUtf8 text.now → result ≡ slice_cmp nat_cmp (view_units self.now) (units (chars text.now)) }
         ensures order { IsUtf8 text.now → let own = view_units self.now in let others = units (chars text.now) in
