@@ -20,8 +20,10 @@ use std::cmp::Ordering;
 /// stores may overwrite after them.
 const PART: usize = 512;
 
-/// The same for shorter strings: fewer bytes to zero.
+/// The same for shorter strings: fewer bytes to zero. Up to 64 units of any kind fit `MIDDLE_PART`.
 const SHORT_PART: usize = 96;
+
+const MIDDLE_PART: usize = 224;
 
 /// Decodes the first code points of a string, at most a byte for each unit of `block` but `POSITIONS`, to the front of it. Returns
 /// the number of their units and the rest of the string.
@@ -110,8 +112,14 @@ impl<'a> Wtf8<'a> {
         if self.len() < units.len() {
             return false;
         }
-        if units.len() <= SHORT_PART - POSITIONS {
+        let short = SHORT_PART - POSITIONS;
+        // Of a string that has more than three bytes for each of these units, a front is decoded.
+        let is_short_front = units.len() <= short && units.len() < self.len() / 3;
+        if self.len() <= short || is_short_front {
             return starts_by_parts::<SHORT_PART>(*self, units);
+        }
+        if self.len() <= MIDDLE_PART - POSITIONS {
+            return starts_by_parts::<MIDDLE_PART>(*self, units);
         }
         starts_by_parts::<PART>(*self, units)
     }
