@@ -1,8 +1,9 @@
 // Decodes blocks of WTF-8 code points of one encoded length to code units.
-ghost use Rattle.std.specs.Prelude.{◌≡◌, ◌*◌, ◌/◌, ◌<◌, ◌≤◌, ◌++◌, length, drop, get_or, IsTrue, IfSome};
+ghost use Rattle.std.specs.Prelude.{◌≡◌, ℕ, List, ◌*◌, ◌/◌, ◌<◌, ◌≤◌, ◌++◌, length, take, drop, get_or, IsTrue, IfSome};
 ghost use lib.Lanes.{Each1};
 ghost use Rattle.wtf8.specs.private.EncodedBytes.{BeginsWithUnits, map_run, unit_of_two, unit_of_three, pairs_of_fours};
 
+use crate::lanes::first_set_lane;
 use std::simd::prelude::*;
 
 /// Shuffle indices for bytes 0 to 15 and 8 to 23: the lead bytes of eight three-byte code points, twice each; below,
@@ -53,6 +54,18 @@ fn all_have_prefix<const N: usize>(lanes: Simd<u16, N>, size: u16, prefix: u16) 
     kinds.simd_ne(Simd::splat(prefix)).to_bitmask() == 0
 }
 
+/// The number of lanes at the front that have a prefix.
+#[inline(always)]
+fn front_with_prefix<const N: usize>(lanes: Simd<u16, N>, size: u16, prefix: u16) -> usize
+    requires lanes { N ≤ u64.BITS }
+    requires size { 0 < size }
+    ensures within { result ≤ N }
+    ensures prefix { Each1 (λ b. b / size ≡ prefix) (take result lanes.entry) }
+{
+    let kinds = lanes / Simd::splat(size);
+    first_set_lane(kinds.simd_ne(Simd::splat(prefix)).to_bitmask()).unwrap_or(N)
+}
+
 /// Decodes sixteen two-byte code points by words. Returns their lead bytes, not checked here, and their units.
 #[inline(always)]
 fn read_sixteen_twos(bytes: u8x32) -> (u16x16, [u16; 16])
@@ -97,6 +110,26 @@ fn read_eight_fours(bytes: u8x32) -> (u16x8, [u16; 16])
         + u16x8::splat(0xDC00);
     let units: u16x16 = leads.shuffle(trails, INTERLEAVE);
     (fronts % u16x8::splat(256), units.to_array())
+}
+
+/// The number of two-byte code points at the front of a block that has only zeros after them, and the units of these.
+#[inline(always)]
+pub(crate) fn twos_at_front(block: u8x32) -> (usize, [u16; 16])
+    ensures within { result.0 ≤ 16 }
+    ensures begins { (w z : List ℕ) → block ≡ w ++ z → 2 * result.0 ≡ length w → BeginsWithUnits w (take result.0 result.1) (2 * result.0) }
+{
+    let (firsts, units) = read_sixteen_twos(block);
+    (front_with_prefix(firsts, 32, 6), units)
+}
+
+/// The same of four-byte ones, which have two units each.
+#[inline(always)]
+pub(crate) fn fours_at_front(block: u8x32) -> (usize, [u16; 16])
+    ensures within { result.0 ≤ 8 }
+    ensures begins { (w z : List ℕ) → block ≡ w ++ z → 4 * result.0 ≡ length w → BeginsWithUnits w (take (2 * result.0) result.1) (4 * result.0) }
+{
+    let (firsts, units) = read_eight_fours(block);
+    (front_with_prefix(firsts, 8, 30), units)
 }
 
 impl EncodedLength<16, 32> for TwoBytes {

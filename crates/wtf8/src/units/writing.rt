@@ -11,7 +11,9 @@ ghost use Rattle.wtf8.specs.View.{view_units};
 use crate::lanes::ascii::{ascii_run_len, is_ascii_block, is_ascii_overlapping};
 use crate::lanes::padding::padded;
 use crate::strings::view::Wtf8;
-use crate::units::blocks::{EncodedLength, FourBytes, ThreeBytes, TwoBytes, widen};
+use crate::units::blocks::{
+    EncodedLength, FourBytes, ThreeBytes, TwoBytes, fours_at_front, twos_at_front, widen,
+};
 use crate::units::unit_ends::{
     POSITIONS, UnitEnds, end_positions, interleave, pack_words, unit_ends,
 };
@@ -234,7 +236,8 @@ fn decode_blocks<'a>(units: &mut [u16], from: usize, view: Wtf8<'a>, least: usiz
 }
 
 /// Decodes the last bytes as a block with zeros after them. One CJK unit takes 1.8 of the instructions of a code point read
-/// alone, four as many as read one by one, ten half.
+/// alone, four as many as read one by one, ten half. Two-byte code points alone, or four-byte ones, go without positions,
+/// so that some of them take no more than a full block.
 #[inline(always)]
 fn decode_last<'a>(units: &mut [u16], left: Undecoded<'a>) -> Undecoded<'a>
     requires room { left.at + POSITIONS ≤ length units.old }
@@ -249,6 +252,19 @@ fn decode_last<'a>(units: &mut [u16], left: Undecoded<'a>) -> Undecoded<'a>
     let block = padded(left.view.bytes);
     if is_ascii_block(block) {
         return write_front(units, left, widen(block), len, len);
+    }
+    let first = left.view.bytes[0];
+    if first / 32 == 6 {
+        let (count, row) = twos_at_front(block);
+        if 2 * count == len {
+            return write_front(units, left, row, count, len);
+        }
+    }
+    if first / 8 == 30 {
+        let (count, row) = fours_at_front(block);
+        if 4 * count == len {
+            return write_front(units, left, row, 2 * count, len);
+        }
     }
     decode_positions(units, left, block, POSITIONS - len)
 }

@@ -1,7 +1,7 @@
 -- Blocks of code points of one encoded length, decoded to units.
 use Rattle.wtf8.proofs.Common.{◌≡◌, ℕ, zero, suc, ◌<◌, ◌≤◌, List, [], ◌∷◌, ◌++◌, length, take, drop, get_or, refl, sym, ap, ◌∙◌, arith}
 use Rattle.wtf8.proofs.Common.{IsWellFormed, units, encoding, length-append, units_of, ◌+◌, ◌*◌, subst, Each1, drop-drop, length-drop}
-use Rattle.wtf8.proofs.Common.{length-take, take-append-drop, append_assoc, get_or_append_left, drop-append-le}
+use Rattle.wtf8.proofs.Common.{length-take, take-append-drop, append_assoc, get_or_append_left, drop-append-le, take-append-add, take_all}
 use Rattle.wtf8.proofs.Common.{BeginsWithUnits, unit_of_two, unit_of_three, ◌/◌, AreAscii}
 use Rattle.wtf8.proofs.lemmas.codec.Encoding.{encoding_cases, encoding-from_ascii_byte}
 use native.Mathlib.Nat.{mul-suc}
@@ -70,6 +70,40 @@ begins_with_run {P} n k f run rows w firsts block long e g each h =
     let after = units_then_rest n f run rows k w (take (n * k) w) (drop (n * k) w) h (sym (take-append-drop (n * k) w))
     (omega (arith, long, length-take (n * k) w)) (subst (Each1 P) e each) in
     (after.rest, after.whole ∙ ap (λ b. b ++ units after.rest.points) (sym g))
+
+-- of the units that `run` decodes from bytes and more after them, `c` for each code point, the first ones are of these bytes
+module _ (n c : ℕ) (f : List ℕ → List ℕ) (run : ℕ → List ℕ → List ℕ) (none : (w : List ℕ) → run 0 w ≡ [])
+    (more : (k : ℕ) (w : List ℕ) → run (suc k) w ≡ f w ++ run k (drop n w)) (count : (w : List ℕ) → length (f w) ≡ c)
+    (local : (b r : List ℕ) → n ≤ length b → f (b ++ r) ≡ f b) where
+  front_of_run : (k m : ℕ) (w z : List ℕ) → k ≤ m → n * k ≤ length w → take (c * k) (run m (w ++ z)) ≡ run k w
+  front_of_run zero m w z few fits =
+      let nothing : c * 0 ≡ 0 = omega arith in
+      ap (λ j. take j (run m (w ++ z))) nothing ∙ sym (none w)
+  front_of_run (suc k) zero w z few fits = absurd (omega (arith, few))
+  front_of_run (suc k) (suc m) w z few fits =
+      let wide : n * suc k ≡ n + n * k = omega (arith, mul-suc n k) in
+      let first : n ≤ length w = omega (arith, wide, fits) in
+      let counted : c * suc k ≡ length (f w) + c * k = omega (arith, mul-suc c k, count w) in
+      let rest = front_of_run k m (drop n w) z (omega (arith, few)) (omega (arith, wide, fits, length-drop n w)) in
+      ap (take (c * suc k)) (more m (w ++ z)) ∙ (λ i. take (counted i) (local w z first i ++ run m (drop-append-le n w z first i)))
+      ∙ take-append-add (f w) (run m (drop n w ++ z)) (c * k) ∙ ap (λ v. f w ++ v) rest ∙ sym (more k w)
+
+-- bytes that are `k` code points whose lead bytes satisfy `P`, decoded with the bytes after them
+pub begins_with_front : {P : ℕ → Type 0} (n c k m : ℕ) (f : List ℕ → List ℕ) (run : ℕ → List ℕ → List ℕ) → DecodesRun n P f run
+    → ((w : List ℕ) → length (f w) ≡ c) → (block w z firsts decoded : List ℕ) → block ≡ w ++ z → n * k ≡ length w → k ≤ m
+    → firsts ≡ map_run n lead_byte m block → decoded ≡ run m block → Each1 P (take k firsts) → BeginsWithUnits w (take (c * k) decoded) (n * k)
+begins_with_front {P} n c k m f run rows count block w z firsts decoded e all few g d each =
+    let own : take (n * k) w ≡ w = take_all (n * k) w (omega (arith, all)) in
+    let one : 1 * k ≡ k = omega arith in
+    let leads : take k firsts ≡ map_run n lead_byte k (take (n * k) w) =
+    ap (take k) (g ∙ ap (map_run n lead_byte m) e) ∙ ap (λ j. take j (map_run n lead_byte m (w ++ z))) (sym one)
+    ∙ front_of_run n 1 (λ w. lead_byte w ∷ []) (map_run n lead_byte) (λ w. refl) (λ k w. refl) (λ w. refl)
+    (λ b r l. ap (λ x. x ∷ []) (get_or_append_left b r 0 0 (omega (arith, l, rows.positive)))) k m w z few (omega (arith, all))
+    ∙ ap (map_run n lead_byte k) (sym own) in
+    let next : take (c * k) decoded ≡ run k (take (n * k) w) =
+    ap (take (c * k)) (d ∙ ap (run m) e) ∙ front_of_run n c f run rows.none rows.more count rows.local k m w z few (omega (arith, all))
+    ∙ ap (run k) (sym own) in
+    begins_with_run n k f run rows w (take k firsts) (take (c * k) decoded) (omega (arith, all)) leads next each
 
 -- ASCII bytes are their own lead bytes and units
 one_byte_run : (w : List ℕ) → w ≡ map_run 1 lead_byte (length w) w

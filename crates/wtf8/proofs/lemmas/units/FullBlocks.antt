@@ -3,6 +3,8 @@ use Rattle.wtf8.proofs.Common.{◌≡◌, ℕ, zero, suc, ◌+◌, ◌*◌, ◌/
 use Rattle.wtf8.proofs.Common.{take, drop, get_or, replicate, zip2, top, mask_l, refl, sym, ap, ◌∙◌, subst, arith, Each1, Fits, w8, w16}
 use Rattle.wtf8.proofs.Common.{cases_Bool, eqb-true, inl, inr, mask_l-mod, tops_compared, length-zip2, length-replicate, get_or-drop, drop-drop}
 use Rattle.wtf8.proofs.Common.{pick_l_whole, drop-take, take-add, unit_of_two, unit_of_three}
+use Rattle.wtf8.proofs.Common.{Option, None, Some, unwrap_or, IsFirstSet, IsFirstIn, IsSet, NoneIn, Each1-from_get_or, length-take}
+use Rattle.std.proofs.lemmas.List.{get_or-take}
 use Rattle.std.specs.List.{range_with_len}
 use lib.Lanes.{pick_l, digits_l, number_l}
 use Rattle.wtf8.specs.private.EncodedBytes.{map_run, lead_of_four, trail_of_four, pairs_of_fours}
@@ -33,6 +35,36 @@ all_quotients d y n xs few l e =
     let lanes = tops_compared w16 (λ a b. not (eqb a b)) quotients (replicate n y) in
     let count : length (unequal_quotients d y n xs) ≤ 64 = grind (arith, length-zip2, length-replicate) in
     none_unequal d y n xs l (sym (mask_l-mod (unequal_quotients d y n xs) 64 count) ∙ (sym (ap (λ ms. mask_l ms % 2 ^ 64) lanes) ∙ e))
+
+quotient_of_lane : (d y n : ℕ) (xs : List ℕ) (i : ℕ) → i < length xs → length xs ≡ n → ¬ (IsSet (unequal_quotients d y n xs) i) → get_or xs i 0 / d ≡ y
+quotient_of_lane d y n [] i within l unset = absurd (omega (arith, within))
+quotient_of_lane d y zero (x ∷ xs) i within l unset = absurd (omega (arith, l))
+quotient_of_lane d y (suc n) (x ∷ xs) zero within l unset = elim (cases_Bool (eqb (x / d) y)) [
+  | inl t ↦ eqb-true (x / d) y t
+  | inr f ↦ absurd (unset (ap not f))
+]
+quotient_of_lane d y (suc n) (x ∷ xs) (suc i) within l unset = quotient_of_lane d y n xs i (omega (arith, within)) (omega (arith, l)) unset
+
+-- the lanes before the first set bit of that mask, or all, have the quotient
+pub quotients_before : (d y n : ℕ) (xs : List ℕ) → n ≤ 64 → length xs ≡ n → (r : Option ℕ)
+    → IsFirstSet (mask_l (map (top 15) (zip2 (λ a b. cond (not (eqb a b)) 65535 0) (zip2 (λ a b. a / b) xs (replicate n d)) (replicate n y))) % 2 ^ 64) r
+    → (unwrap_or r n ≤ n) × Each1 (λ b. b / d ≡ y) (take (unwrap_or r n) xs)
+quotients_before d y n xs few l r first = by r (first n (unequal_quotients d y n xs) few count (ap (λ ms. mask_l ms % 2 ^ 64) lanes))
+  where
+    lanes : map (top 15) (zip2 (λ a b. cond (not (eqb a b)) 65535 0) (zip2 (λ a b. a / b) xs (replicate n d)) (replicate n y)) ≡ unequal_quotients d y n xs
+    lanes = tops_compared w16 (λ a b. not (eqb a b)) (zip2 (λ a b. a / b) xs (replicate n d)) (replicate n y)
+
+    count : length (unequal_quotients d y n xs) ≡ n
+    count = grind (arith, length-zip2, length-replicate)
+
+    front : (k : ℕ) → k ≤ n → NoneIn (IsSet (unequal_quotients d y n xs)) 0 k → Each1 (λ b. b / d ≡ y) (take k xs)
+    front k le none = Each1-from_get_or (λ b. b / d ≡ y) (take k xs) 0 (λ i within.
+        let inside : i < k = omega (arith, within, length-take k xs) in
+        ap (λ x. x / d) (get_or-take k xs i 0 inside) ∙ quotient_of_lane d y n xs i (omega (arith, inside, le, l)) l (none i (omega arith) inside))
+
+    by : (r : Option ℕ) → IsFirstIn (IsSet (unequal_quotients d y n xs)) 0 n r → (unwrap_or r n ≤ n) × Each1 (λ b. b / d ≡ y) (take (unwrap_or r n) xs)
+    by None none = (omega arith, front n (omega arith) none)
+    by (Some k) h = (omega (arith, h.1), front k (omega (arith, h.1)) h.0.none_between)
 
 -- Two-byte code points: a word is a lead byte and 256 times a continuation byte.
 
