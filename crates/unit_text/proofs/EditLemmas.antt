@@ -41,14 +41,3 @@ module _ (stay : MarksStay) (cut : MarksStayInFront) (old new : UnitString) (beg
       let fewer = length-take count marks in
       rw (get_or-take count marks i d (omega (arith, l, fewer)))
       (IsKept-edited ((i + 1) * spacing) (get_or marks i d) (omega (arith, l, fewer)) (h.kept i d (omega (arith, l, fewer))))
-
--- the number of units after a replacement
-pub length-spliced : (u v : List ℕ) (begin end : ℕ) → begin ≤ end → end ≤ length u
-    → length (spliced u begin end v) ≡ begin + length v + (length u - end)
-length-spliced u v begin end h k = omega (
-  arith,
-  length-append (take begin u) (v ++ drop end u),
-  length-append v (drop end u),
-  length-take-le begin u (omega (arith, h, k)),
-  length-drop end u,
-)

@@ -8,18 +8,6 @@ use Rattle.std.proofs.lemmas.Slice.{take-put_mid, drop-put_mid}
 use borrow.Rule.Slice.PartMut.{put_mid}
 use Rattle.unit_text.specs.Written.{WritesAt}
 
--- two parts, one after the other
-pub WritesAt-append : {old mid new : List ℕ} (at : ℕ) (v w : List ℕ) → WritesAt old at v mid → WritesAt mid (at + length v) w new
-    → WritesAt old at (v ++ w) new
-WritesAt-append {old} {mid} {new} at v w x y =
-    let count : at + length (v ++ w) ≡ (at + length v) + length w = omega (arith, length-append v w) in
-    record {
-      front = ap (λ n. take n new) count ∙ y.front ∙ ap (λ z. z ++ w) x.front ∙ append_assoc (take at old) v w;
-      back = ap (λ n. drop n new) count ∙ y.back ∙ sym (drop-drop (length w) (at + length v) mid) ∙ ap (drop (length w)) x.back
-          ∙ drop-drop (length w) (at + length v) old ∙ sym (ap (λ n. drop n old) count);
-      len = y.len ∙ x.len;
-    }
-
 -- a list whose part from index `at` on was replaced by one that begins with `v` and goes on as before
 pub WritesAt-part : (old ys v : List ℕ) (at k : ℕ) → k ≡ length old - at → at + length v ≤ length old → length ys ≡ k
     → take (length v) ys ≡ v → drop (length v) ys ≡ drop (length v) (drop at old) → WritesAt old at v (put_mid at k old ys)

@@ -1,5 +1,5 @@
 -- A string that begins with a text in UTF-8.
-use Rattle.wtf8.proofs.Common.{◌≡◌, ℕ, List, ◌++◌, ◌∙◌, refl, sym, ap, arith, length, take, drop, take-append-drop, take_at, chars, units}
+use Rattle.wtf8.proofs.Common.{◌≡◌, ℕ, List, ◌++◌, ◌∙◌, refl, sym, ap, length, take, drop, take-append-drop, take_at, chars, units}
 use Rattle.wtf8.proofs.Common.{All-drop, IsForm, IsFront, IsUnit, IsUtf8, Wtf8, form_of, view_units}
 use Rattle.wtf8.proofs.lemmas.codec.Readings.{form-append, units-append}
 use Rattle.wtf8.proofs.lemmas.strings.Concatenation.{one_form, units_read}

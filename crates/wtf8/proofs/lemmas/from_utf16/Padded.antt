@@ -1,6 +1,6 @@
 -- Units and zeros after them as the lanes of a block.
 use Rattle.wtf8.proofs.Common.{◌≡◌, ℕ, suc, ◌+◌, ◌-◌, ◌*◌, ◌/◌, ◌%◌, ◌<◌, ◌≤◌, List, [], ◌∷◌, ◌++◌, length, take, drop}
-use Rattle.wtf8.proofs.Common.{replicate, Each1, refl, sym, ap, ◌∙◌, arith, subst, Fits, w8, w16, swz_l, pick_l_whole, zero, rules}
+use Rattle.wtf8.proofs.Common.{replicate, Each1, refl, sym, ap, ◌∙◌, arith, subst, Fits, w16, pick_l_whole, zero}
 use Rattle.wtf8.proofs.Common.{length-append, length-drop, length-replicate}
 use Rattle.std.proofs.lemmas.Simd.{Each1-replicate}
 use lib.Lanes.{chunk, pick_l, digits_l, number_l}

@@ -1,6 +1,6 @@
 -- The text of bytes with U+FFFD for each maximal part that is not UTF-8.
 use Rattle.wtf8.proofs.Common.{◌≡◌, ℕ, zero, suc, ◌+◌, ◌<◌, ◌≤◌, List, [], ◌++◌, length, take, drop, Option, None, Some, unwrap_or, IsUtf8}
-use Rattle.wtf8.proofs.Common.{inl, inr, ◌∷◌, cases_Bool, cases_lt, take_all, on_ok_weaker, Result, Ok, Err, OnOk, OnErr, length-append, refl, sym, ap, ◌∙◌, subst, arith, append_assoc, append-nil, common_steps, nat_tests, length-drop, drop-drop, drop_all, take_at}
+use Rattle.wtf8.proofs.Common.{inl, inr, ◌∷◌, cases_Bool, cases_lt, take_all, on_ok_weaker, Result, Ok, Err, OnOk, OnErr, length-append, refl, sym, ap, ◌∙◌, subst, arith, append_assoc, append-nil, common_steps, nat_tests, length-drop, drop-drop, take_at}
 use Rattle.wtf8.proofs.Common.{chars, form_of, units, IsForm, IsFront}
 use Rattle.wtf8.proofs.Common.{◌-◌, get_or-drop, slice_index}
 use Rattle.wtf8.specs.Utf8.{IsUnfinished, LeavesUnfinished}

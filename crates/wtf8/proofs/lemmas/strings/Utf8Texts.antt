@@ -1,7 +1,7 @@
 -- Bytes each of which may follow the three before it are UTF-8.
 use Rattle.wtf8.proofs.Common.{◌≡◌, ℕ, zero, suc, ◌+◌, ◌-◌, ◌*◌, ◌/◌, ◌%◌, ◌<◌, ◌≤◌, inl, inr, List, [], ◌∷◌, ◌++◌, length, get_or, sym, ap}
 use Rattle.wtf8.proofs.Common.{refl, ◌∙◌, arith, cases_lt, IsUtf8, IsCodePoint, IsSurrogate, encoding, encoding_is_encode, IsUtf8-from_ascii}
-use Rattle.wtf8.proofs.Common.{chunk, get_or-chunk, take, AreAscii, subst, length-take, get_or_append_left}
+use Rattle.wtf8.proofs.Common.{chunk, get_or-chunk, take, AreAscii, subst, length-take}
 use Rattle.std.proofs.lemmas.List.{get_or-take}
 use Rattle.std.proofs.lemmas.Simd.{Each1-get_or}
 use Rattle.std.proofs.lemmas.Str.Ascii.{IsAscii-from_reads}

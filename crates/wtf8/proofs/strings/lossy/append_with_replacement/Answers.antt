@@ -1,4 +1,4 @@
-use Rattle.wtf8.proofs.Common.{◌++◌, ◌≡◌, take, ap, refl, append_assoc, take-take, arith, ◌∙◌}
+use Rattle.wtf8.proofs.Common.{◌++◌, take, ap, refl, append_assoc, take-take, arith, ◌∙◌}
 use Rattle.std.specs.Str.Lossy.{replacement_bytes}
 use Rattle.wtf8.proofs.strings.lossy.append_with_replacement.Goals as goal
 

@@ -1,4 +1,4 @@
-use Rattle.wtf8.proofs.Common.{◌≡◌, ◌∙◌, ap, chars, false≢true, length, sym, take, units, view_units}
+use Rattle.wtf8.proofs.Common.{◌∙◌, ap, chars, false≢true, length, sym, take, units, view_units}
 use Rattle.wtf8.proofs.lemmas.comparing.TextFronts.{begins_with_front, text_front}
 use Rattle.wtf8.proofs.lemmas.strings.Positions.{front_boundary, front_unique}
 use Rattle.wtf8.proofs.strings.view.Wtf8.starts_with_utf8.Goals as goal
