@@ -1,10 +1,9 @@
 -- Marks before units that were replaced.
 use Rattle.std.proofs.Common.{◌≡◌, ℕ, ◌+◌, ◌-◌, ◌*◌, ◌/◌, ◌<◌, ◌≤◌, List, ◌++◌, length, take, drop, sym, ap, subst, arith}
-use Rattle.std.proofs.Common.{Box, Option, Some, None, IfSome, get_or, length-append, length-drop, take-append-drop}
+use Rattle.std.proofs.Common.{Box, Option, Some, None, IfSome, get_or, length-append, take-append-drop}
 use Rattle.std.proofs.lemmas.List.{length-take, length-take-le, get_or-take}
 use Rattle.std.specs.Prelude.{vec_capacity}
 use Rattle.std.specs.declared.vec.Vec.{Vec}
-use Rattle.wtf8.specs.Editing.{spliced}
 use Rattle.wtf8.specs.Form.{IsForm}
 use Rattle.wtf8.specs.UnitMark.{IsMark, MarksStay, MarksStayInFront}
 use Rattle.wtf8.specs.UnitString.{UnitString}

@@ -1,6 +1,6 @@
 -- Numbers of units, and units that are written one part after another.
 use Rattle.std.proofs.Common.{◌≡◌, ◌+◌, ◌-◌, ◌<◌, ◌≤◌, ◌++◌, ℕ, List, [], ◌∷◌, Option, Some, None, length, take, drop, slice_get, suc, ap, sym, ◌∙◌, arith}
-use Rattle.std.proofs.Common.{MatchOption, append_assoc, append-nil, length-append, length-take}
+use Rattle.std.proofs.Common.{MatchOption, append-nil, length-append, length-take}
 use Rattle.std.proofs.Math.Seq.{take-append-add, drop-append-add, drop-cons}
 use Rattle.std.proofs.lemmas.List.{drop-drop, drop_all, take-append-drop}
 use Rattle.std.proofs.lemmas.Option.{get_or_from_slice_get, slice_get_within}
