@@ -113,12 +113,15 @@ impl<'a> Wtf8<'a> {
             return false;
         }
         let short = SHORT_PART - POSITIONS;
-        // Of a string that has more than three bytes for each of these units, a front is decoded.
-        let is_short_front = units.len() <= short && units.len() < self.len() / 3;
-        if self.len() <= short || is_short_front {
+        let middle = MIDDLE_PART - POSITIONS;
+        // A unit takes at most three bytes. Of a longer string, few units are compared with parts of a front.
+        if self.len() <= short
+            || units.len() <= short / 3
+            || middle < self.len() && units.len() <= short
+        {
             return starts_by_parts::<SHORT_PART>(*self, units);
         }
-        if self.len() <= MIDDLE_PART - POSITIONS {
+        if self.len() <= middle {
             return starts_by_parts::<MIDDLE_PART>(*self, units);
         }
         starts_by_parts::<PART>(*self, units)

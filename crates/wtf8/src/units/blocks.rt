@@ -112,7 +112,7 @@ fn read_eight_fours(bytes: u8x32) -> (u16x8, [u16; 16])
     (fronts % u16x8::splat(256), units.to_array())
 }
 
-/// The number of two-byte code points at the front of a block that has only zeros after them, and the units of these.
+/// The number of two-byte code points at the front of a block, and their units, followed by others.
 #[inline(always)]
 pub(crate) fn twos_at_front(block: u8x32) -> (usize, [u16; 16])
     ensures within { result.0 ≤ 16 }
@@ -120,16 +120,6 @@ pub(crate) fn twos_at_front(block: u8x32) -> (usize, [u16; 16])
 {
     let (firsts, units) = read_sixteen_twos(block);
     (front_with_prefix(firsts, 32, 6), units)
-}
-
-/// The same of four-byte ones, which have two units each.
-#[inline(always)]
-pub(crate) fn fours_at_front(block: u8x32) -> (usize, [u16; 16])
-    ensures within { result.0 ≤ 8 }
-    ensures begins { (w z : List ℕ) → block ≡ w ++ z → 4 * result.0 ≡ length w → BeginsWithUnits w (take (2 * result.0) result.1) (4 * result.0) }
-{
-    let (firsts, units) = read_eight_fours(block);
-    (front_with_prefix(firsts, 8, 30), units)
 }
 
 impl EncodedLength<16, 32> for TwoBytes {

@@ -11,9 +11,7 @@ ghost use Rattle.wtf8.specs.View.{view_units};
 use crate::lanes::ascii::{ascii_run_len, is_ascii_block, is_ascii_overlapping};
 use crate::lanes::padding::padded;
 use crate::strings::view::Wtf8;
-use crate::units::blocks::{
-    EncodedLength, FourBytes, ThreeBytes, TwoBytes, fours_at_front, twos_at_front, widen,
-};
+use crate::units::blocks::{EncodedLength, FourBytes, ThreeBytes, TwoBytes, twos_at_front, widen};
 use crate::units::unit_ends::{
     POSITIONS, UnitEnds, end_positions, interleave, pack_words, unit_ends,
 };
@@ -253,17 +251,10 @@ fn decode_last<'a>(units: &mut [u16], left: Undecoded<'a>) -> Undecoded<'a>
     if is_ascii_block(block) {
         return write_front(units, left, widen(block), len, len);
     }
-    let first = left.view.bytes[0];
-    if first / 32 == 6 {
+    if left.view.bytes[0] / 32 == 6 {
         let (count, row) = twos_at_front(block);
         if 2 * count == len {
             return write_front(units, left, row, count, len);
-        }
-    }
-    if first / 8 == 30 {
-        let (count, row) = fours_at_front(block);
-        if 4 * count == len {
-            return write_front(units, left, row, 2 * count, len);
         }
     }
     decode_positions(units, left, block, POSITIONS - len)

@@ -60,29 +60,3 @@ returns-then-count-len-clause-all c =
     let rest = c.write_front-then-count-len.result.view.well_formed in
     let none = ap length (rest.encoded ∙ c.write_front-then-count-len.ensures.bytes) ∙ length-drop c.len-len.result c.args.left.view.bytes.now in
     nil_from_length _ (omega (arith, none, c.len-len.ensures.bytes, (lists_have_lengths rest.points).units_least))
-
-pub write_front-requires-then-count-len-2 : goal.write_front-requires-then-count-len-2
-write_front-requires-then-count-len-2 c =
-    let w = c.args.left.view.bytes.now in
-    let row = c.fours_at_front-count in
-    let len : c.len-len.result ≡ length w = c.len-len.ensures.bytes in
-    let all : 4 * row.result.0 ≡ c.len-len.result = omega (arith, c.if-count-len-2.true) in
-    let begins = row.ensures.begins w (replicate (32 - length w) 0) c.padded-block.ensures (all ∙ len) in (
-      omega arith,
-      (
-        omega arith,
-        (
-          omega (arith, c.requires.room),
-          (
-            (omega (arith, row.ensures.within), omega (arith, len)),
-            subst (BeginsWithUnits w (take (2 * row.result.0) row.result.1)) all begins,
-          ),
-        ),
-      ),
-    )
-
-pub returns-then-count-len-2-clause-all : goal.returns-then-count-len-2-clause-all
-returns-then-count-len-2-clause-all c =
-    let rest = c.write_front-then-count-len-2.result.view.well_formed in
-    let none = ap length (rest.encoded ∙ c.write_front-then-count-len-2.ensures.bytes) ∙ length-drop c.len-len.result c.args.left.view.bytes.now in
-    nil_from_length _ (omega (arith, none, c.len-len.ensures.bytes, (lists_have_lengths rest.points).units_least))
