@@ -234,8 +234,8 @@ fn decode_blocks<'a>(units: &mut [u16], from: usize, view: Wtf8<'a>, least: usiz
 }
 
 /// Decodes the last bytes as a block with zeros after them. One CJK unit takes 1.8 of the instructions of a code point read
-/// alone, four as many as read one by one, ten half. Two-byte code points alone, or four-byte ones, go without positions,
-/// so that some of them take no more than a full block.
+/// alone, four as many as read one by one, ten half. Two-byte code points alone go without positions: by these, 17 take
+/// 1.3 of the instructions of 32.
 #[inline(always)]
 fn decode_last<'a>(units: &mut [u16], left: Undecoded<'a>) -> Undecoded<'a>
     requires room { left.at + POSITIONS ≤ length units.old }
