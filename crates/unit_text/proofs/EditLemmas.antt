@@ -1,10 +1,9 @@
 -- Marks before units that were replaced.
 use Rattle.std.proofs.Common.{◌≡◌, ℕ, ◌+◌, ◌-◌, ◌*◌, ◌/◌, ◌<◌, ◌≤◌, List, ◌++◌, length, take, drop, sym, ap, subst, arith}
-use Rattle.std.proofs.Common.{Box, Option, Some, None, IfSome, get_or, length-append, length-drop, take-append-drop}
+use Rattle.std.proofs.Common.{Box, Option, Some, None, IfSome, get_or, length-append, take-append-drop}
 use Rattle.std.proofs.lemmas.List.{length-take, length-take-le, get_or-take}
 use Rattle.std.specs.Prelude.{vec_capacity}
 use Rattle.std.specs.declared.vec.Vec.{Vec}
-use Rattle.wtf8.specs.Editing.{spliced}
 use Rattle.wtf8.specs.Form.{IsForm}
 use Rattle.wtf8.specs.UnitMark.{IsMark, MarksStay, MarksStayInFront}
 use Rattle.wtf8.specs.UnitString.{UnitString}
@@ -41,14 +40,3 @@ module _ (stay : MarksStay) (cut : MarksStayInFront) (old new : UnitString) (beg
       let fewer = length-take count marks in
       rw (get_or-take count marks i d (omega (arith, l, fewer)))
       (IsKept-edited ((i + 1) * spacing) (get_or marks i d) (omega (arith, l, fewer)) (h.kept i d (omega (arith, l, fewer))))
-
--- the number of units after a replacement
-pub length-spliced : (u v : List ℕ) (begin end : ℕ) → begin ≤ end → end ≤ length u
-    → length (spliced u begin end v) ≡ begin + length v + (length u - end)
-length-spliced u v begin end h k = omega (
-  arith,
-  length-append (take begin u) (v ++ drop end u),
-  length-append v (drop end u),
-  length-take-le begin u (omega (arith, h, k)),
-  length-drop end u,
-)

@@ -1,24 +1,12 @@
 -- Numbers of units, and units that are written one part after another.
 use Rattle.std.proofs.Common.{◌≡◌, ◌+◌, ◌-◌, ◌<◌, ◌≤◌, ◌++◌, ℕ, List, [], ◌∷◌, Option, Some, None, length, take, drop, slice_get, suc, ap, sym, ◌∙◌, arith}
-use Rattle.std.proofs.Common.{MatchOption, append_assoc, append-nil, length-append, length-take}
+use Rattle.std.proofs.Common.{MatchOption, append-nil, length-append, length-take}
 use Rattle.std.proofs.Math.Seq.{take-append-add, drop-append-add, drop-cons}
 use Rattle.std.proofs.lemmas.List.{drop-drop, drop_all, take-append-drop}
 use Rattle.std.proofs.lemmas.Option.{get_or_from_slice_get, slice_get_within}
 use Rattle.std.proofs.lemmas.Slice.{take-put_mid, drop-put_mid}
 use borrow.Rule.Slice.PartMut.{put_mid}
 use Rattle.unit_text.specs.Written.{WritesAt}
-
--- two parts, one after the other
-pub WritesAt-append : {old mid new : List ℕ} (at : ℕ) (v w : List ℕ) → WritesAt old at v mid → WritesAt mid (at + length v) w new
-    → WritesAt old at (v ++ w) new
-WritesAt-append {old} {mid} {new} at v w x y =
-    let count : at + length (v ++ w) ≡ (at + length v) + length w = omega (arith, length-append v w) in
-    record {
-      front = ap (λ n. take n new) count ∙ y.front ∙ ap (λ z. z ++ w) x.front ∙ append_assoc (take at old) v w;
-      back = ap (λ n. drop n new) count ∙ y.back ∙ sym (drop-drop (length w) (at + length v) mid) ∙ ap (drop (length w)) x.back
-          ∙ drop-drop (length w) (at + length v) old ∙ sym (ap (λ n. drop n old) count);
-      len = y.len ∙ x.len;
-    }
 
 -- a list whose part from index `at` on was replaced by one that begins with `v` and goes on as before
 pub WritesAt-part : (old ys v : List ℕ) (at k : ℕ) → k ≡ length old - at → at + length v ≤ length old → length ys ≡ k

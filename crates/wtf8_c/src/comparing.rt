@@ -26,7 +26,7 @@ pub extern "C" fn wtf8_equal_utf8(string: &mut Wtf8String, text: &[u8]) -> bool
     string.buffer().as_wtf8().eq_utf8(text)
 }
 
-/// Whether the bytes are UTF-8, and the units of the string begin with those of the text.
+/// Whether the bytes are UTF-8, and the units of the string begin with the text's.
 #[unsafe(no_mangle)]
 pub extern "C" fn wtf8_starts_with_utf8(string: &mut Wtf8String, text: &[u8]) -> bool
     ensures starts { IsTrue result ↔ (IsUtf8 text.now × (take (length (units (chars text.now))) string.old.buf.units ≡ units (chars text.now))) }
@@ -35,7 +35,7 @@ pub extern "C" fn wtf8_starts_with_utf8(string: &mut Wtf8String, text: &[u8]) ->
     string.buffer().as_wtf8().starts_with_utf8(text)
 }
 
-/// Compares the units of the string with those of a text in UTF-8. Bytes that are not UTF-8 come after each string.
+/// Compares the units of the string with a text's in UTF-8. Bytes that are not UTF-8 come after each string.
 #[unsafe(no_mangle)]
 pub extern "C" fn wtf8_compare_with_utf8(string: &mut Wtf8String, text: &[u8]) -> i32
     ensures code { (result ≡ BEFORE) ⊎ ((result ≡ SAME) ⊎ (result ≡ AFTER)) }

@@ -7,7 +7,7 @@ use Rattle.wtf8.specs.UnitString.{UnitString}
 use Rattle.wtf8_uses.specs.Editor.{Edited}
 use Rattle.wtf8_uses.specs.declared.editor.Change.{Change}
 
--- The units `u` without those that the change put in and with those that it took out, and the cursor before it.
+-- The units `u` with the removed units of the change in place of the inserted ones, and the cursor before it.
 abbrev pub undone : {A : Type 0} → List ℕ → Change A → Edited
 undone u c = record { units = spliced u c.begin (c.begin + length c.inserted.items) c.removed.items; cursor = c.cursor }
 

@@ -20,7 +20,7 @@ pub struct Editor<A: Allocator + Copy> {
     change: Option<Change<A>>,
 }
 
-/// A change of a text: the units that it took out at index `begin`, those that it put in there, and the cursor before it.
+/// A change of a text: the units that were removed at index `begin`, the units inserted there, and the cursor before it.
 #[derive(Drop)]
 struct Change<A: Allocator> {
     begin: usize,

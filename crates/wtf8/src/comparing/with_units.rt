@@ -20,8 +20,10 @@ use std::cmp::Ordering;
 /// stores may overwrite after them.
 const PART: usize = 512;
 
-/// The same for shorter strings: fewer bytes to zero.
+/// The same for shorter strings: fewer bytes to zero. Up to 64 units of any kind fit `MIDDLE_PART`.
 const SHORT_PART: usize = 96;
+
+const MIDDLE_PART: usize = 224;
 
 /// Decodes the first code points of a string, at most a byte for each unit of `block` but `POSITIONS`, to the front of it. Returns
 /// the number of their units and the rest of the string.
@@ -110,8 +112,17 @@ impl<'a> Wtf8<'a> {
         if self.len() < units.len() {
             return false;
         }
-        if units.len() <= SHORT_PART - POSITIONS {
+        let short = SHORT_PART - POSITIONS;
+        let middle = MIDDLE_PART - POSITIONS;
+        // A unit takes at most three bytes. Of a longer string, few units are compared with parts of a front.
+        if self.len() <= short
+            || units.len() <= short / 3
+            || middle < self.len() && units.len() <= short
+        {
             return starts_by_parts::<SHORT_PART>(*self, units);
+        }
+        if self.len() <= middle {
+            return starts_by_parts::<MIDDLE_PART>(*self, units);
         }
         starts_by_parts::<PART>(*self, units)
     }
@@ -127,8 +138,8 @@ impl<'a> Wtf8<'a> {
         self.as_str().is_some()
     }
 
-    /// Whether the bytes are UTF-8, and the code units of the string begin with those of the text. A surrogate is looked
-    /// for only if the bytes are equal. Does not allocate. Linear in the equal front.
+    /// Whether the bytes are UTF-8, and the code units of the string begin with the text's. A surrogate is looked for only
+    /// if the bytes are equal. Does not allocate. Linear in the equal front.
     pub fn starts_with_utf8(&self, text: &[u8]) -> bool
         ensures { IsTrue result ↔ (IsUtf8 text.now × (take (length (units (chars text.now))) (view_units self.now) ≡ units (chars text.now))) }
     {
@@ -138,8 +149,8 @@ impl<'a> Wtf8<'a> {
         self.slice_to(text.len()).eq_utf8(text)
     }
 
-    /// Compares the code units of the string with those of a text in UTF-8, as `cmp_units` compares two strings. Bytes
-    /// that are not UTF-8 come after each string. Does not allocate. Linear in the length of the text.
+    /// Compares the code units of the string with a text's in UTF-8, as `cmp_units` compares two strings. Bytes that are
+    /// not UTF-8 come after each string. Does not allocate. Linear in the length of the text.
     pub fn cmp_with_utf8(&self, text: &[u8]) -> Ordering
         ensures value { IsUtf8 text.now → result ≡ slice_cmp nat_cmp (view_units self.now) (units (chars text.now)) }
         ensures order { IsUtf8 text.now → let own = view_units self.now in let others = units (chars text.now) in

@@ -24,6 +24,7 @@ ghost use Rattle.wtf8.specs.private.PackedUnits.{tagged_units, tagged_block, sca
 use crate::codec::code_point::{FIRST_LEAD, LEAD_KIND, SURROGATES_PER_HALF, TRAIL_KIND};
 use crate::from_utf16::room::{Growth, make_room};
 use crate::from_utf16::{BLOCK_UNITS, HALF_BLOCK, Progress, QUARTER_BLOCK, shuffle_table};
+use crate::lanes::padding;
 use crate::lanes::ascii::{is_ascii_block, narrow_saturating};
 use std::alloc::{AllocError, Allocator};
 use std::simd::prelude::*;
@@ -53,12 +54,6 @@ const BOTH_HALVES: [usize; 16] = [0, 1, 2, 3, 4, 5, 6, 7, 8, 9, 10, 11, 12, 13, 
 
 /// Lanes 0 to 3 of two vectors, then lanes 4 to 7 of the first, twice.
 const BOTH_QUARTERS: [usize; 16] = [0, 1, 2, 3, 8, 9, 10, 11, 4, 5, 6, 7, 4, 5, 6, 7];
-
-/// Shuffle indices that move 16 bytes to the front: from index `n` on these select bytes `n` to 15, then, by 128, zeros.
-static BYTE_SHIFTS: [u8; 32] = [
-    0, 1, 2, 3, 4, 5, 6, 7, 8, 9, 10, 11, 12, 13, 14, 15, 128, 128, 128, 128, 128, 128, 128, 128,
-    128, 128, 128, 128, 128, 128, 128, 128,
-];
 
 /// Heads and lasts of a block's units, and whether none of these is a lone surrogate.
 #[derive(Clone, Copy)]
@@ -267,8 +262,7 @@ fn without_first(units: u16x8, count: usize) -> u16x8
     requires { count ≤ HALF_BLOCK }
     ensures { result ≡ drop count units ++ replicate count 0 }
 {
-    let indexes = u8x16::from_slice(&BYTE_SHIFTS[2 * count..]);
-    u16x8::from_le_bytes(units.to_le_bytes().swizzle_dyn(indexes))
+    u16x8::from_le_bytes(padding::without_first(units.to_le_bytes(), 2 * count))
 }
 
 /// The first `QUARTER_BLOCK` units, then zeros.

@@ -1,6 +1,6 @@
 // Fewer than 32 bytes as a block, with zeros after them. They are loaded twice, from their front and from their end, and
 // put together in registers: stored to the stack and loaded from there, the block would wait for the stores, some 20 ns.
-ghost use Rattle.std.specs.Prelude.{◌≡◌, ◌+◌, ◌-◌, ◌*◌, ◌<◌, ◌≤◌, ◌++◌, length, take, drop, replicate};
+ghost use Rattle.std.specs.Prelude.{◌≡◌, ◌+◌, ◌-◌, ◌*◌, ◌<◌, ◌≤◌, ◌++◌, ◌∷◌, length, take, drop, replicate};
 
 use crate::lanes::VECTOR;
 use std::simd::prelude::*;
@@ -24,9 +24,15 @@ const AFTER_16: [usize; 32] = [
     26, 27, 28, 29, 30, 31,
 ];
 
+/// Shuffle indices: a lane of a vector, then all lanes of another vector but the last.
+const AFTER_1: [usize; 32] = [
+    0, 32, 33, 34, 35, 36, 37, 38, 39, 40, 41, 42, 43, 44, 45, 46, 47, 48, 49, 50, 51, 52, 53, 54,
+    55, 56, 57, 58, 59, 60, 61, 62,
+];
+
 /// The bytes from lane `count` on, then zeros.
 #[inline(always)]
-fn without_first(bytes: u8x16, count: usize) -> u8x16
+pub(crate) fn without_first(bytes: u8x16, count: usize) -> u8x16
     requires { count ≤ VECTOR }
     ensures { result ≡ drop count bytes ++ replicate count 0 }
 {
@@ -72,4 +78,12 @@ pub(crate) fn padded(bytes: &[u8]) -> u8x32
         _ => first_bytes::<8>(bytes).shuffle(other_bytes::<8>(bytes), AFTER_8),
     };
     vector.shuffle(u8x16::splat(0), AFTER_16)
+}
+
+/// The lanes moved on by one, after another byte. The last lane is left out.
+#[inline(always)]
+pub(crate) fn after_byte(byte: u8, lanes: u8x32) -> u8x32
+    ensures { result ≡ byte ∷ take 31 lanes }
+{
+    u8x32::splat(byte).shuffle(lanes, AFTER_1)
 }

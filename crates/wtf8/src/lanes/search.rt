@@ -1,8 +1,9 @@
 // Finds the encodings of surrogates in bytes.
-ghost use Rattle.std.specs.Prelude.{◌+◌, ◌<◌, length};
+ghost use Rattle.std.specs.Prelude.{◌+◌, ◌<◌, ◌≤◌, length};
 ghost use Rattle.wtf8.specs.private.Search.{IsFirst, IsFirstIn, SurrogateAt, SurrogateInLane};
 
 use crate::lanes::first_set_lane;
+use crate::lanes::padding::{after_byte, padded};
 use std::simd::prelude::*;
 
 /// The least lane that is 0xED in `firsts` and at least 0xA0 in `seconds`: the first two bytes of a surrogate.
@@ -28,17 +29,11 @@ fn surrogate_in_block(bytes: &[u8], at: usize) -> Option<usize>
 pub(crate) fn next_surrogate(bytes: &[u8], from: usize) -> Option<usize>
     ensures { IsFirst (SurrogateAt bytes.now) from result }
 {
-    let mut at = from;
-    if 32 < bytes.len() {
-        let end = bytes.len() - 32;
-        while at < end {
-            if let Some(found) = surrogate_in_block(bytes, at) {
-                return Some(found);
-            }
-            at += 32;
-        }
+    match bytes.len().saturating_sub(from) {
+        ..8 => next_surrogate_bytewise(bytes, from),
+        8..=32 => surrogate_in_short(bytes, from),
+        _ => surrogate_in_long(bytes, from),
     }
-    next_surrogate_bytewise(bytes, at)
 }
 
 #[inline(always)]
@@ -51,4 +46,35 @@ fn next_surrogate_bytewise(bytes: &[u8], from: usize) -> Option<usize>
         }
     }
     None
+}
+
+/// Searches at most 32 bytes as one block: one by one, 32 take more instructions than 100 in blocks. Zeros follow the
+/// second bytes, so no surrogate begins with the last byte.
+#[inline(always)]
+fn surrogate_in_short(bytes: &[u8], from: usize) -> Option<usize>
+    requires some { from < length bytes.now }
+    requires few { length bytes.now ≤ from + 32 }
+    ensures { IsFirst (SurrogateAt bytes.now) from result }
+{
+    let seconds = padded(&bytes[from + 1..]);
+    let firsts = after_byte(bytes[from], seconds);
+    let lane = block(firsts, seconds)?;
+    Some(from + lane)
+}
+
+/// Searches more than 32 bytes. The last block overlaps the one before it, in which no surrogate begins.
+#[inline(always)]
+fn surrogate_in_long(bytes: &[u8], from: usize) -> Option<usize>
+    requires { from + 32 < length bytes.now }
+    ensures { IsFirst (SurrogateAt bytes.now) from result }
+{
+    let last = bytes.len() - 33;
+    let mut at = from;
+    while at < last {
+        if let Some(found) = surrogate_in_block(bytes, at) {
+            return Some(found);
+        }
+        at += 32;
+    }
+    surrogate_in_block(bytes, last)
 }

@@ -8,7 +8,7 @@ ghost use Rattle.wtf8.specs.private.Utf8Bytes.{MayFollow, FollowsIn, FollowsUpTo
 
 use crate::lanes::ascii::{ascii_front_len, is_ascii_block, is_ascii_overlapping};
 use crate::lanes::first_set_lane;
-use crate::lanes::padding::padded;
+use crate::lanes::padding::{after_byte, padded};
 use crate::lanes::utf8_error::Utf8Error;
 use std::simd::prelude::*;
 use std::str;
@@ -27,12 +27,6 @@ pub(crate) const NEAR: usize = 16;
 
 /// The most bytes of a code point.
 const MAX_POINT_BYTES: usize = 4;
-
-/// Shuffle indices: a lane of zeros, then all lanes of another vector but the last.
-const AFTER_ZERO: [usize; 32] = [
-    0, 32, 33, 34, 35, 36, 37, 38, 39, 40, 41, 42, 43, 44, 45, 46, 47, 48, 49, 50, 51, 52, 53, 54,
-    55, 56, 57, 58, 59, 60, 61, 62,
-];
 
 /// The number of lanes of `bytes`, at most `BLOCK`, each of which may follow the bytes in the same lanes of `first`, just
 /// before it, `second` and `third`. A byte of A0 or more is wrong after ED, a smaller one after E0; one of 90 or more
@@ -74,14 +68,6 @@ fn follows_in_block(bytes: &[u8], at: usize) -> usize
     )
 }
 
-/// The lanes moved one on, after a zero.
-#[inline(always)]
-fn after_zero(bytes: u8x32) -> u8x32
-    ensures { result ≡ 0 ∷ take 31 bytes }
-{
-    u8x32::splat(0).shuffle(bytes, AFTER_ZERO)
-}
-
 /// The first `BLOCK` bytes; if there are fewer, then zeros.
 #[inline(always)]
 fn first_block(bytes: &[u8]) -> u8x32
@@ -100,9 +86,9 @@ fn begins_text(bytes: &[u8]) -> usize
     ensures { FollowsUpTo bytes.now result }
 {
     let block = first_block(bytes);
-    let first = after_zero(block);
-    let second = after_zero(first);
-    let third = after_zero(second);
+    let first = after_byte(0, block);
+    let second = after_byte(0, first);
+    let third = after_byte(0, second);
     follows_in_lanes(third, second, first, block).min(bytes.len())
 }
 

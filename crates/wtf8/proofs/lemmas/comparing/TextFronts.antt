@@ -5,13 +5,13 @@ use Rattle.wtf8.proofs.lemmas.codec.Readings.{form-append, units-append}
 use Rattle.wtf8.proofs.lemmas.strings.Concatenation.{one_form, units_read}
 use Rattle.wtf8.proofs.lemmas.strings.ExtendedForms.{scalar_front_unpaired, scalar_text, well_formed_text}
 
--- a list of units begins with those before a boundary
+-- a list of units begins with the units before a boundary
 pub begins_with_front : {u v : List ℕ} {k : ℕ} → IsFront u k v → take (length v) u ≡ v
 begins_with_front {u} {v} f =
     let parts : u ≡ v ++ units f.back = sym f.splits.reads.same_units ∙ (units-append f.front f.back ∙ ap (λ z. z ++ units f.back) f.same_units) in
     ap (take (length v)) parts ∙ take_at v (units f.back) (length v) refl
 
--- in a string whose units begin with those of a text there is a boundary after its bytes
+-- in a string whose units begin with a text's there is a boundary after the text's bytes
 pub text_front : (v : Wtf8) (w : List ℕ) → IsUtf8 w → take (length (units (chars w))) (view_units v) ≡ units (chars w)
     → IsFront (view_units v) (length w) (units (chars w))
 text_front v w text begins =

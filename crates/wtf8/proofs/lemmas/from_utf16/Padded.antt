@@ -1,11 +1,10 @@
 -- Units and zeros after them as the lanes of a block.
 use Rattle.wtf8.proofs.Common.{◌≡◌, ℕ, suc, ◌+◌, ◌-◌, ◌*◌, ◌/◌, ◌%◌, ◌<◌, ◌≤◌, List, [], ◌∷◌, ◌++◌, length, take, drop}
-use Rattle.wtf8.proofs.Common.{replicate, Each1, refl, sym, ap, ◌∙◌, arith, subst, Fits, w8, w16, swz_l, pick_l_whole, zero, rules}
+use Rattle.wtf8.proofs.Common.{replicate, Each1, refl, sym, ap, ◌∙◌, arith, subst, Fits, w16, pick_l_whole, zero}
 use Rattle.wtf8.proofs.Common.{length-append, length-drop, length-replicate}
-use Rattle.std.proofs.lemmas.Simd.{SwzOk, Each1-replicate}
+use Rattle.std.proofs.lemmas.Simd.{Each1-replicate}
 use lib.Lanes.{chunk, pick_l, digits_l, number_l}
 use Rattle.wtf8.proofs.lemmas.lanes.Padding.{of_below, of_length}
-use Rattle.wtf8.specs.declared.from_utf16.kernel.TheConstants.{BYTE_SHIFTS}
 
 -- the bytes of units, the low one first
 abbrev le_bytes : List ℕ → List ℕ
@@ -33,33 +32,15 @@ from_le_bytes (x ∷ u) f =
     let rest : y / 65536 ≡ number_l 256 (le_bytes u) = omega (arith, f.0.fits) in
     (λ i. unit i ∷ digits_l 65536 (length u) (rest i)) ∙ ap (λ w. x ∷ w) (from_le_bytes u f.1)
 
-abbrev indexes : ℕ → List ℕ
-indexes n = chunk 0 16 (take (32 - 2 * n) (drop (2 * n) BYTE_SHIFTS))
-
 abbrev eight : List ℕ → List ℕ
 eight u = pick_l 0 u (0 ∷ 1 ∷ 2 ∷ 3 ∷ 4 ∷ 5 ∷ 6 ∷ 7 ∷ [])
 
+-- two bytes for each unit that is left out
 abbrev Drops : List ℕ → ℕ → Type 0
-Drops u n = SwzOk w8 16 16 0 (indexes n) × (swz_l w8 16 (le_bytes (eight u)) 0 (indexes n) ≡ le_bytes (drop n (eight u) ++ replicate n 0))
+Drops u n = drop (2 * n) (le_bytes (eight u)) ++ replicate (2 * n) 0 ≡ le_bytes (drop n (eight u) ++ replicate n 0)
 
 drops : (u : List ℕ) (n : ℕ) → n ≤ 8 → Drops u n
-drops u n l = of_below (Drops u) 9 n (
-  (search rules, refl),
-  (
-    (search rules, refl),
-    (
-      (search rules, refl),
-      (
-        (search rules, refl),
-        ((search rules, refl), ((search rules, refl), ((search rules, refl), ((search rules, refl), ((search rules, refl), tt))))),
-      ),
-    ),
-  ),
-)
-    (omega arith)
-
-pub indexes-ok : (n : ℕ) → n ≤ 8 → SwzOk w8 16 16 0 (indexes n)
-indexes-ok n l = (drops [] n l).0
+drops u n l = of_below (Drops u) 9 n (refl, (refl, (refl, (refl, (refl, (refl, (refl, (refl, (refl, tt))))))))) (omega arith)
 
 fits : (n m : ℕ) (u : List ℕ) → Each1 (Fits w16) u → Each1 (Fits w16) (drop n u ++ replicate m 0)
 fits zero m [] f = Each1-replicate (Fits w16) m 0 (record { fits = omega arith })
@@ -67,16 +48,16 @@ fits (suc n) m [] f = Each1-replicate (Fits w16) m 0 (record { fits = omega arit
 fits zero m (x ∷ u) f = (f.0, fits zero m u f.1)
 fits (suc n) m (x ∷ u) f = fits n m u f.1
 
-pub swz_l-drop : (u : List ℕ) (n : ℕ) → n ≤ 8 → length u ≡ 8 → Each1 (Fits w16) u
-    → digits_l 65536 8 (number_l 256 (swz_l w8 16 (digits_l 256 16 (number_l 65536 u)) 0 (indexes n))) ≡ drop n u ++ replicate n 0
-swz_l-drop u n few long f =
+pub without_first : (u : List ℕ) (n : ℕ) → n ≤ 8 → length u ≡ 8 → Each1 (Fits w16) u
+    → digits_l 65536 8 (number_l 256 (drop (2 * n) (digits_l 256 16 (number_l 65536 u)) ++ replicate (2 * n) 0)) ≡ drop n u ++ replicate n 0
+without_first u n few long f =
     let all : eight u ≡ u = pick_l_whole 0 u 8 long in
     let g : Each1 (Fits w16) (eight u) = subst (Each1 (Fits w16)) (sym all) f in
     let v = drop n (eight u) ++ replicate n 0 in
     let m : length v ≡ 8 = omega (arith, few, length-append (drop n (eight u)) (replicate n 0), length-drop n (eight u), length-replicate {A = ℕ} n 0) in
-    subst (λ u. digits_l 65536 8 (number_l 256 (swz_l w8 16 (digits_l 256 16 (number_l 65536 u)) 0 (indexes n))) ≡ drop n u ++ replicate n 0) all
-    (ap (λ w. digits_l 65536 8 (number_l 256 (swz_l w8 16 w 0 (indexes n)))) (to_le_bytes (eight u) g)
-    ∙ ap (λ w. digits_l 65536 8 (number_l 256 w)) (drops u n few).1 ∙ ap (λ k. digits_l 65536 k (number_l 256 (le_bytes v))) (sym m)
+    subst (λ u. digits_l 65536 8 (number_l 256 (drop (2 * n) (digits_l 256 16 (number_l 65536 u)) ++ replicate (2 * n) 0)) ≡ drop n u ++ replicate n 0) all
+    (ap (λ w. digits_l 65536 8 (number_l 256 (drop (2 * n) w ++ replicate (2 * n) 0))) (to_le_bytes (eight u) g)
+    ∙ ap (λ w. digits_l 65536 8 (number_l 256 w)) (drops u n few) ∙ ap (λ k. digits_l 65536 k (number_l 256 (le_bytes v))) (sym m)
     ∙ from_le_bytes v (fits n n (eight u) g))
 
 abbrev Halves : List ℕ → Type 0

@@ -3,19 +3,18 @@ use Rattle.wtf8.proofs.Common.{◌≡◌, ℕ, zero, suc, ◌-◌, ◌%◌, ◌^
 use Rattle.wtf8.proofs.Common.{replicate, Fits, refl, sym, ap, ◌∙◌, arith, and_parts, cases_Bool, Each1, zip2, mask_l, top}
 use Rattle.wtf8.proofs.Common.{AreAscii, IsSurrogate, ◌+◌, ◌/◌, ◌++◌, IsTrue, take, drop, get_or, subst, take-append-drop, common_steps}
 use Rattle.wtf8.proofs.Common.{append_assoc, append-nil, length-chunk, MeetsAsPair, IsKnownForm, DividesPair, w16, get_or-drop}
-use Rattle.wtf8.proofs.Common.{length-take, take-add, take_at, AreScalarUnits}
+use Rattle.wtf8.proofs.Common.{length-take, take-add, AreScalarUnits}
 use Rattle.wtf8.proofs.Common.{take-append-add, min, length-map, take-take, zip2_splat, IsLead, IsReadTo}
-use Rattle.wtf8.proofs.Common.{IsForm, ReadsOn, HasRoomFrom, take_all, vec_capacity}
+use Rattle.wtf8.proofs.Common.{ReadsOn, HasRoomFrom, vec_capacity}
 use Rattle.std.specs.declared.vec.Vec.{Vec}
 use Rattle.wtf8.specs.declared.from_utf16.Progress.{Progress}
 use Rattle.std.proofs.Math.Bool.{and-true}
-use Rattle.std.proofs.lemmas.List.{take-append-le}
 use Rattle.std.proofs.Math.Seq.{take-suc}
 use Rattle.wtf8.proofs.lemmas.lanes.AsciiFronts.{saturated_front}
 use Rattle.std.proofs.lemmas.Bool.{eqb-false}
 use Rattle.std.proofs.lemmas.List.{get_or-take}
 use Rattle.std.proofs.lemmas.Simd.{bitmask_splat, map-map, Each1-get_or}
-use Rattle.wtf8.proofs.lemmas.codec.Readings.{form_append-unpaired, meets_by, same_form, unpaired-after_no_lead, unpaired-nil_left}
+use Rattle.wtf8.proofs.lemmas.codec.Readings.{form_append-unpaired, meets_by, unpaired-after_no_lead, unpaired-nil_left}
 use Rattle.wtf8.proofs.lemmas.codec.Readings.{MeetsAsPair-back}
 use Rattle.wtf8.proofs.lemmas.codec.Scalars.{IsKnownForm-ascii, scalar-append}
 
@@ -49,17 +48,6 @@ IsKnownForm-nil known e =
 -- before the first unit of a new string
 pub read_none : {w u : List ℕ} (known : Bool) → w ≡ [] → IsReadTo w [] u 0 known
 read_none known e = record { within = omega arith; divides_no_pair = unpaired-nil_left; form = IsKnownForm-nil known e }
-
--- no units need no room
-pub HasRoomFrom-none : {Z : Type 0} (new : Vec ℕ Z) {u : List ℕ} (known : Bool) → new.items ≡ [] → u ≡ [] → HasRoomFrom new u 0 known
-HasRoomFrom-none new {u} known e none =
-    let fits : (n : ℕ) (w : List ℕ) → IsForm w (take n u) → length w ≤ vec_capacity new =
-    λ n w form. omega (
-      arith,
-      ap length (same_form w [] [] (subst (IsForm w) (take_all n u (omega (arith, ap length none)) ∙ none) form)
-          (IsKnownForm-nil {w = []} true refl).form),
-    ) in
-    ([], read_none known e, fits)
 
 -- no pair is divided after a unit that is no lead
 pub undivided-after_no_lead : (u : List ℕ) (j : ℕ) → j < length u → ¬ (IsLead (get_or u j 0)) → ¬ (DividesPair u (j + 1))
@@ -169,15 +157,3 @@ pub begins_after : {a b : List ℕ} (c : List ℕ) → take (length a) b ≡ a �
 begins_after {a} {b} c x y =
     let short : length a ≤ length b = omega (arith, ap length x, length-take (length a) b) in
     sym (take-take (length a) (length b) c short) ∙ ap (take (length a)) y ∙ x
-
--- bytes were written after the old ones, and all but the first `n` cut off
-pub front_written : (old out zeros rest more : List ℕ) (n : ℕ) {now : List ℕ} {start total : ℕ} → start ≡ length old → now ≡ old ++ zeros
-    → n ≤ length out → start + n ≤ total → take (start + n) (take total ((take start now ++ (out ++ rest)) ++ more)) ≡ old ++ take n out
-front_written old out zeros rest more n {now} {start} {total} begin added within fits =
-    let kept : take start now ≡ old = ap (take start) added ∙ take_at old zeros start (sym begin) in
-    let back = out ++ (rest ++ more) in
-    let joined : (old ++ (out ++ rest)) ++ more ≡ old ++ back =
-    append_assoc old (out ++ rest) more ∙ ap (λ z. old ++ z) (append_assoc out rest more) in
-    take-take (start + n) total _ fits ∙ ap (λ z. take (start + n) ((z ++ (out ++ rest)) ++ more)) kept ∙ ap (take (start + n)) joined
-    ∙ ap (λ k. take (k + n) (old ++ back)) begin ∙ take-append-add old back n
-    ∙ ap (λ z. old ++ z) (take-append-le n out (rest ++ more) within)

@@ -121,6 +121,6 @@ joined_zeros u few =
     omega (arith, length-append u (replicate (32 - length u) 0), length-replicate {A = ℕ} (32 - length u) 0, few) in
     pick_l_whole 0 ((u ++ more) ++ replicate 16 0) 32 (ap length both ∙ long) ∙ both
 
--- the lanes of a vector after a lane of zeros, but the last
-pub moved_lanes : (u : List ℕ) → length u ≡ 32 → pick_l 0 (replicate 32 0 ++ u) (0 ∷ range_with_len 32 31) ≡ 0 ∷ take 31 u
-moved_lanes u l = of_length (λ u. pick_l 0 (replicate 32 0 ++ u) (0 ∷ range_with_len 32 31) ≡ 0 ∷ take 31 u) u 32 refl l
+-- the lanes of a vector after a byte, but the last
+pub moved_lanes : (b : ℕ) (u : List ℕ) → length u ≡ 32 → pick_l 0 (replicate 32 b ++ u) (0 ∷ range_with_len 32 31) ≡ b ∷ take 31 u
+moved_lanes b u l = of_length (λ u. pick_l 0 (replicate 32 b ++ u) (0 ∷ range_with_len 32 31) ≡ b ∷ take 31 u) u 32 refl l

@@ -3,6 +3,8 @@ use Rattle.wtf8.proofs.Common.{◌≡◌, ◌↔◌, ℕ, zero, suc, ◌+◌, �
 use Rattle.wtf8.proofs.Common.{length, get_or, replicate, sym, ap, ◌∙◌, arith, le-leb, eq-eqb, eqb-true, length-zip2, get_or-chunk, chunk}
 use Rattle.wtf8.proofs.Common.{zip2, mask_l, top, SurrogateAt, refl, Option, get_or-zip2, ◌&&◌, bit_and, subst, and_parts, and_from}
 use Rattle.wtf8.proofs.Common.{leb-true, MatchOption, IsFirstIn, IsFirstSet, IsLeast, IsSet, NoneIn, SurrogateInLane}
+use Rattle.wtf8.proofs.Common.{◌-◌, ◌≤◌, ◌++◌, take, drop, take_all, length-drop, get_or-drop, cases_lt, inl, inr, None, Some}
+use Rattle.std.proofs.lemmas.List.{get_or-take, get_or_past}
 use Rattle.wtf8.proofs.lemmas.lanes.Masks.{first_at_offset, IsFirstIn-iff}
 
 -- The search for a surrogate in two vectors, the second shifted by one byte.
@@ -56,3 +58,39 @@ first_surrogate_at_offset w i bound = first_at_offset (SurrogateAt w) (Surrogate
         get_or-chunk (i + 1) 32 w k 0 l ∙ ap (λ m. get_or w m 0) (omega arith) in
         let within : i + k + 1 < length w = omega arith in
         rw (get_or-chunk i 32 w k 0 l, next) (λ h. record { within = within; first = h.0; second = h.1 }, λ s. (s.first, s.second))
+
+get_or-append_zeros : (u : List ℕ) (n k : ℕ) → get_or (u ++ replicate n 0) k 0 ≡ get_or u k 0
+get_or-append_zeros [] zero k = refl
+get_or-append_zeros [] (suc n) zero = refl
+get_or-append_zeros [] (suc n) (suc k) = get_or-append_zeros [] n k
+get_or-append_zeros (x ∷ u) n zero = refl
+get_or-append_zeros (x ∷ u) n (suc k) = get_or-append_zeros u n k
+
+-- in the last bytes, of which all but the first are a block with zeros after them, the first lane gives the first position
+pub first_surrogate_in_last : (w : List ℕ) (i : ℕ) → i < length w → length w ≤ i + 32 → (xs ys : List ℕ) (n : ℕ)
+    → ys ≡ take (length w - (i + 1)) (drop (i + 1) w) ++ replicate n 0 → xs ≡ get_or w i 0 ∷ take 31 ys → (r : Option ℕ)
+    → IsFirstIn (SurrogateInLane xs ys) 0 32 r → MatchOption r ((j : ℕ) → i ≤ j → ¬ (SurrogateAt w j)) (λ k. IsLeast (SurrogateAt w) i (i + k))
+first_surrogate_in_last w i bound few xs ys n seconds firsts r first = by r (first_at_offset (SurrogateAt w) (SurrogateInLane xs ys) i 32 begins r first)
+  where
+    rest : take (length w - (i + 1)) (drop (i + 1) w) ≡ drop (i + 1) w
+    rest = take_all (length w - (i + 1)) (drop (i + 1) w) (omega (arith, length-drop (i + 1) w))
+
+    second : (k : ℕ) → get_or ys k 0 ≡ get_or w (i + k + 1) 0
+    second k = ap (λ v. get_or v k 0) (seconds ∙ ap (λ v. v ++ replicate n 0) rest)
+        ∙ (get_or-append_zeros (drop (i + 1) w) n k ∙ (get_or-drop (i + 1) w k 0 ∙ ap (λ m. get_or w m 0) (omega arith)))
+
+    lane : (k : ℕ) → k < 32 → get_or (get_or w i 0 ∷ take 31 ys) k 0 ≡ get_or w (i + k) 0
+    lane zero l = ap (λ m. get_or w m 0) (omega arith)
+    lane (suc k) l = get_or-take 31 ys k 0 (omega (arith, l)) ∙ (second k ∙ ap (λ m. get_or w m 0) (omega arith))
+
+    within : (k : ℕ) → 0xA0 ≤ get_or w (i + k + 1) 0 → i + k + 1 < length w
+    within k h = elim (cases_lt (i + k + 1) (length w)) [ inl l ↦ l | inr l ↦ absurd (omega (arith, h, get_or_past w (i + k + 1) 0 (omega (arith, l)))) ]
+
+    begins : (k : ℕ) → k < 32 → SurrogateInLane xs ys k ↔ SurrogateAt w (i + k)
+    begins k l = rw (ap (λ v. get_or v k 0) firsts ∙ lane k l, second k)
+        (λ h. record { within = within k h.1; first = h.0; second = h.1 }, λ s. (s.first, s.second))
+
+    by : (r : Option ℕ) → MatchOption r (NoneIn (SurrogateAt w) i (i + 32)) (λ k. IsLeast (SurrogateAt w) i (i + k) × (i + k < i + 32))
+        → MatchOption r ((j : ℕ) → i ≤ j → ¬ (SurrogateAt w j)) (λ k. IsLeast (SurrogateAt w) i (i + k))
+    by None none = λ j l s. none j l (omega (arith, s.within, few)) s
+    by (Some k) found = found.0

@@ -16,7 +16,7 @@ use Rattle.wtf8.proofs.lemmas.codec.Readings.{IsWellFormed-equal_bytes, form-app
 use Rattle.wtf8.proofs.lemmas.strings.Concatenation.{form-glue, form_meeting, lead_last, length-paired_bytes, meeting_bytes, one_form}
 use Rattle.wtf8.proofs.lemmas.strings.Concatenation.{paired_bytes, units_read}
 use Rattle.wtf8.proofs.lemmas.strings.ExtendedForms.{utf8_prefix_after_append, CompletedPair, CompletedPair-from_lead, all_back}
-use Rattle.wtf8.proofs.lemmas.strings.ExtendedForms.{all_scalar, beginning_of_form, both_length, scalar_front_unpaired}
+use Rattle.wtf8.proofs.lemmas.strings.ExtendedForms.{all_scalar, beginning_of_form, scalar_front_unpaired}
 
 -- The first unit, and a lead before it.
 
@@ -88,10 +88,6 @@ whole_form-is h v u = form-glue _ (one_form v u).one (units h.points) v (form_of
 pub whole_form-extends : {w : List ℕ} (h : IsWellFormed w) (v : List ℕ) (u : All IsUnit v) → ExtendsForm w (whole_form h v u) v
 whole_form-extends {w} h v u a f =
     subst (λ b. IsForm (whole_form h v u) (b ++ v)) (units_from_form w (units h.points) a (form_of h) f) (whole_form-is h v u)
-
--- the whole form has at least one byte for each unit more
-pub whole_form-longer : {w : List ℕ} (h : IsWellFormed w) (v : List ℕ) (u : All IsUnit v) → length w + length v ≤ length (whole_form h v u)
-whole_form-longer h v u = (both_length (form_of h) (one_form v u).has (whole_form-is h v u)).0
 
 -- if the form of the whole fits, so does that of each front
 pub fronts_fit : {w : List ℕ} (h : IsWellFormed w) (v : List ℕ) (u : All IsUnit v) (capacity : ℕ) → length (whole_form h v u) ≤ capacity

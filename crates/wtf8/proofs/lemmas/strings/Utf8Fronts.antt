@@ -1,6 +1,6 @@
 -- UTF-8 at the front, and what is known of the bytes after it.
 use Rattle.wtf8.proofs.Common.{◌≡◌, ℕ, suc, ◌+◌, ◌-◌, ◌<◌, ◌≤◌, List, [], ◌∷◌, length, take, drop, IsUtf8, subst, arith, take-add, take-take, take-append-drop}
-use Rattle.wtf8.proofs.Common.{length-take, length-drop, drop-take, length-append, append-nil, take_all, take_at, refl, sym, ap, ◌∙◌, common_steps, nat_tests}
+use Rattle.wtf8.proofs.Common.{length-take, length-drop, drop-take, length-append, append-nil, take_at, refl, sym, ap, ◌∙◌, common_steps, nat_tests}
 use Rattle.wtf8.proofs.Common.{Bool, true, false, ◌&&◌}
 use lib.Utf8.{encode, encodes, scalar, scalars}
 use Rattle.std.specs.Str.Lossy.{utf8_error_len}
@@ -25,10 +25,6 @@ valid_after w n k within front rest =
           let later = rest_of_text (take m w) n (omega (arith, length-take m w)) (rw (take-take n m w (omega arith)) front) whole in
           rest.longest (m - n) (omega arith) (rw (← drop-take n (m - n) w, same) later);
     }
-
--- bytes that begin with a wrong part after UTF-8 are not UTF-8
-pub not_text : (w : List ℕ) (k : ℕ) → IsValidUpTo w k → ¬ (IsUtf8 w)
-not_text w k v u = v.longest (length w) v.short (subst IsUtf8 (sym (take_all (length w) w (omega arith))) u)
 
 and_first : (a b : Bool) → (a && b) ≡ true → a ≡ true
 and_first true b e = refl

@@ -178,7 +178,7 @@ moved : (v r : List ℕ) → r ≡ 0 ∷ take 31 v → (k : ℕ) → k < 32 → 
 moved v r e zero l = ap (λ r. get_or r 0 0) e
 moved v r e (suc k) l = ap (λ r. get_or r (suc k) 0) e ∙ get_or-take 31 v k 0 (omega (arith, l))
 
--- lanes that are moved on behind zeros, once, twice and thrice, are the bytes before each lane
+-- lanes that are moved on after a zero, once, twice and thrice, are the bytes before each lane
 module _ (b first second third : List ℕ) (once : first ≡ 0 ∷ take 31 b) (twice : second ≡ 0 ∷ take 31 first) (thrice : third ≡ 0 ∷ take 31 second) where
   moved_twice : (k : ℕ) → k < 32 → get_or second k 0 ≡ get_or (0 ∷ 0 ∷ b) k 0
   moved_twice zero l = moved first second twice 0 l

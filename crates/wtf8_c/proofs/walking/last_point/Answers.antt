@@ -47,7 +47,7 @@ ends_paired v l t f lead trail =
 pair_before : (u : List ℕ) (x y : ℕ) → MeetsAsPair (u ++ y ∷ []) (x ∷ []) → IsLead y
 pair_before u x y m = subst IsLead (sym (same_from_push u m.front y m.lead m.ends).1) m.is_lead
 
--- the units before an index: those before the last, and that
+-- the units before an index: all but the last of them, then the last
 last_taken : (u : List ℕ) (k j x : ℕ) → j + 1 ≡ k → k ≤ length u → x ≡ get_or u j 0 → take k u ≡ take j u ++ x ∷ []
 last_taken u k j x e l is =
     ap (λ m. take m u) (sym e) ∙ (take_more u j 0 (omega (arith, e, l)) ∙ ap (λ y. take j u ++ y ∷ []) (sym is))

@@ -1,5 +1,5 @@
 use Rattle.wtf8.proofs.Common.{◌≤◌, ◌-◌, length, NoneIn, SurrogateAt}
-use Rattle.wtf8.proofs.lanes.search.next_surrogate.Given as goal
+use Rattle.wtf8.proofs.lanes.search.surrogate_in_long.Given as goal
 
 -- no surrogate begins in `from..at`
 abbrev pub invariant-loop-at : goal.invariant-loop-at
