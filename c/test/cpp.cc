@@ -63,6 +63,16 @@ void __wrap_free(void *at) {
 }
 }
 
+static size_t most; /* the most bytes of a block of operator new */
+void *operator new(size_t size) {
+    void *at = __real_malloc(size);
+    if (most < size) most = size;
+    if (at == nullptr) std::abort();
+    return at;
+}
+void operator delete(void *at) noexcept { __real_free(at); }
+void operator delete(void *at, size_t) noexcept { __real_free(at); }
+
 /* "a", U+1F4A9 and a lone trail: 4 units, and the bytes 61, F0 9F 92 A9, ED B0 80. */
 static const std::u16string mixed = u"a\xD83D\xDCA9\xDC00";
 static const size_t huge = static_cast<size_t>(-1);
@@ -433,7 +443,8 @@ static void test_failures() {
     const std::vector<std::function<void()>> out_of_range = {
         [&] { (void)s.at(4); },           [&] { (void)s.at(huge); },       [&] { (void)s[4]; },
         [&] { (void)s.position_at(5); },  [&] { (void)s.slice(2, 1); },    [&] { (void)s.slice(0, 5); },
-        [&] { (void)s.units(2, 1); },     [&] { (void)s.units(5, 5); },    [&] { s.append(other, 0, 3); },
+        [&] { (void)s.units(2, 1); },     [&] { (void)s.units(5, 5); },    [&] { (void)s.units(1, huge); },
+        [&] { s.append(other, 0, 3); },
         [&] { s.append(s, 3, 2); },       [&] { s.assign(other, 2, 3); },  [&] { s.truncate_units(5); },
         [&] { s.truncate_bytes(2); },     [&] { s.truncate_bytes(9); },    [&] { (void)s.substr(5); },
         [&] { s.insert(5, u"a"); },       [&] { s.erase(5, 0); },          [&] { s.replace(5, 0, u"a"); }};
@@ -562,6 +573,16 @@ static string a_full_string() {
 
 #if WITH_EXCEPTIONS
 
+/* Units that are not there are not allocated for. */
+static void test_no_parts() {
+    const size_t n = 200, parts[][2] = {{0, n + 1}, {1, n + 1}, {n, n + 1}, {n + 1, n + 1}, {0, 2 * n}, {n, 0}, {2 * n, 3 * n}};
+    const string s(std::u16string(n, u'x'));
+    most = 0;
+    for (const auto &part : parts) must(is_out_of_range([&] { (void)s.units(part[0], part[1]); }), "no such units");
+    must(most < n * sizeof(char16_t), "no memory for units that are not there");
+    must(s.units(0, n).size() == n && n * sizeof(char16_t) <= most, "memory for units that are there");
+}
+
 /* Each call that takes memory, with the first requests granted and the next refused, until it is done. */
 static void test_refusals() {
     const string other(std::u16string(100, u'\x4E2D') + mixed);
@@ -651,6 +672,7 @@ int main() {
     test_vectors();
     test_moves();
 #if WITH_EXCEPTIONS
+    test_no_parts();
     test_refusals();
 #endif
     test_without_memory();

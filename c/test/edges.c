@@ -1993,10 +1993,10 @@ static void must_be_marked(const struct pair *p, const char *what) {
     must(wtf8_unit_before(&p->string, position) == p->n, what);
 }
 
-/* A string with marks is cut at each index about a mark, by each call that cuts, behind a lead, a trail or another unit, and
+/* A string with marks is cut at each index about a mark, by each call that cuts, after a lead, a trail or another unit, and
  * goes on with a trail or another unit. A mark that stays at the end would be within a pair then. */
 static void marks_at_cuts(void) {
-    enum { LONG = 400, ABOUT = 3, WAYS = 4, TAIL = 21 };
+    enum { LONG = 400, ABOUT = 3, WAYS = 5, TAIL = 21 };
     static const uint16_t kinds[] = {0xE9, 0x4E2D, 0xD83D}, lasts[] = {'a', 0x4E2D, 0xDBFF, 0xDC00}, nexts[] = {'b', 0x3042, 0xDFFF, 0xD800};
     static struct pair p;
     size_t number = 0;
@@ -2009,18 +2009,24 @@ static void marks_at_cuts(void) {
                 p.n = LONG;
                 for (size_t i = 0; i < LONG; i++) p.units[i] = kind == 0xD83D && i % 2 == 1 ? 0xDCA9 : kind;
                 p.units[cut - 1] = last;
-                /* No pair is cut here by truncate_bytes or pop. */
-                p.units[cut] = 'c';
+                /* No pair is cut here by truncate_bytes, and one is taken off by the last way. */
+                p.units[cut] = way == 4 ? 0xD83D : 'c';
+                if (way == 4) p.units[cut + 1] = 0xDCA9;
                 must(wtf8_set_units(&p.string, p.units, LONG) == WTF8_OK && wtf8_mark(&p.string) == WTF8_OK, "a string to cut");
                 switch (way) {
                     case 0: must(wtf8_truncate_units(&p.string, cut) == WTF8_OK, "truncate_units at a mark"); break;
                     case 1: must(wtf8_truncate_bytes(&p.string, position_of(&p, cut)) == WTF8_OK, "truncate_bytes at a mark"); break;
                     case 2: must(wtf8_remove_units(&p.string, cut, LONG) == WTF8_OK, "remove_units at a mark"); break;
-                    default:
+                    case 3:
                         must(wtf8_truncate_units(&p.string, cut + 1) == WTF8_OK, "truncate_units after a mark");
                         must(wtf8_pop(&p.string, &point) == WTF8_OK && point == 'c', "pop at a mark");
+                        break;
+                    default:
+                        must(wtf8_truncate_units(&p.string, cut + 2) == WTF8_OK, "truncate_units two units after a mark");
+                        must(wtf8_pop(&p.string, &point) == WTF8_OK && point == 0x1F4A9, "pop of a pair at a mark");
                 }
                 p.n = cut;
+                if (way == 4) must_be_marked(&p, "a marked string without its last pair");
                 for (size_t i = 0; i < TAIL; i++) p.units[p.n + i] = i % 5 == 4 ? 0xE9 : 'x';
                 p.units[p.n] = next;
                 if (number++ % 2 == 0) must(wtf8_push_units(&p.string, p.units + p.n, TAIL) == WTF8_OK, "units after a cut");
@@ -2105,6 +2111,32 @@ static void letters_that_fit(void) {
                 must_begin(array, 2 * n, units, 2 * n, "the letters");
                 must(wtf8_unit_len(&string) == before + n && wtf8_starts_with_units(&string, before, units, n), "letters that were appended");
                 must(wtf8_byte_len(&string) == before + bytes, "the bytes of letters that were appended");
+                wtf8_free(&string);
+            }
+        }
+}
+
+/* Two letters at each two places of the first 32 units, in room for the units if all were ASCII but not for the letters: they
+ * are refused, and the string stays, though 32 bytes may be stored at once after the last letter. */
+static void letters_that_do_not_fit(void) {
+    enum { BLOCK = 32 };
+    static const uint16_t kinds[] = {0xE9, 0x4E2D};
+    static const size_t lengths[] = {63, 64, 65, 96};
+    uint16_t units[96];
+    for (size_t k = 0; k < 2 * 4; k++)
+        for (size_t i = 0; i < BLOCK * BLOCK; i++) {
+            size_t n = lengths[k / 2];
+            for (size_t at = 0; at < n; at++) units[at] = (uint16_t)('a' + at % 26);
+            units[i / BLOCK] = units[i % BLOCK] = kinds[k % 2];
+            for (size_t spare = n - 1; spare < wtf8_encoded_len(units, n); spare++) {
+                wtf8_string string = WTF8_EMPTY;
+                must(wtf8_reserve_bytes(&string, spare) == WTF8_OK, "too little room for letters");
+                size_t before = wtf8_capacity(&string) - spare;
+                must(wtf8_push_utf8(&string, letters, before, NULL) == WTF8_OK, "what is before letters");
+                refuse_after = 0;
+                must(wtf8_push_units(&string, units, n) == WTF8_NO_MEMORY, "letters that do not fit");
+                refuse_after = -1;
+                must(wtf8_equal_utf8(&string, letters, before), "a string without the letters");
                 wtf8_free(&string);
             }
         }
@@ -2320,6 +2352,7 @@ int main(void) {
     marks_at_cuts();
     long_searches();
     letters_that_fit();
+    letters_that_do_not_fit();
     latin1_requests();
     marks_of_others();
     refused_after_leads();
