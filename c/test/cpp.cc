@@ -233,6 +233,7 @@ static void test_as_std() {
                 must(s.rfind(string(part), from) == whole.rfind(part, from), "rfind of a string");
             }
             must(s.find(part) == whole.find(part) && s.rfind(part) == whole.rfind(part), "find and rfind of all");
+            must(s.find(u'a') == whole.find(u'a') && s.rfind(u'a') == whole.rfind(u'a'), "find and rfind of a unit");
             must((s + string(part)).units() == whole + part && (s + part).units() == whole + part, "+");
             must((part + s).units() == part + whole && (s.clone() + part).units() == whole + part, "+ of units and a string");
             must((s.clone() + string(part) + s).units() == whole + part + whole, "+ of three");
@@ -436,6 +437,8 @@ static void test_walks() {
     must(s.copy_code_points(position, copied, 2) == 2 && copied[1] == 0x1F4A9 && position == 5, "copy_code_points");
     must(s.copy_code_points(position, copied, 2) == 1 && copied[0] == 0xDC00 && position == 8, "the last code points");
     must(s.copy_code_points(position, copied, 2) == 0 && position == 8, "copy_code_points at the end");
+    position = 2;
+    must(is_out_of_range([&] { (void)s.copy_code_points(position, copied, 2); }) && position == 2, "copy_code_points off a boundary");
 }
 
 static void test_failures() {

@@ -2188,6 +2188,28 @@ static void marks_of_others(void) {
     wtf8_free(&p.string);
 }
 
+/* A string is appended to itself, or cut out of itself, with each request refused in turn: it stays until all are granted. */
+static void parts_of_itself(void) {
+    enum { LONG = 100, BEGIN = 10, END = 90, WAYS = 3 };
+    for (int way = 0; way < WAYS; way++) {
+        wtf8_result code = WTF8_NO_MEMORY;
+        for (long granted_first = 0; code != WTF8_OK; granted_first++) {
+            wtf8_string string = WTF8_EMPTY;
+            must(wtf8_set_utf8(&string, letters, LONG, NULL) == WTF8_OK && wtf8_capacity(&string) == LONG, "a full string");
+            long before = blocks;
+            refuse_after = granted_first;
+            code = way == 0 ? wtf8_push_string(&string, &string)
+                 : way == 1 ? wtf8_push_slice(&string, &string, BEGIN, END)
+                            : wtf8_slice_units(&string, &string, BEGIN, END);
+            refuse_after = -1;
+            must(code == WTF8_NO_MEMORY || (code == WTF8_OK && granted_first == (way < 2 ? 2 : 1)), "the requests for its own units");
+            size_t n = code != WTF8_OK ? LONG : way == 0 ? 2 * LONG : way == 1 ? LONG + END - BEGIN : END - BEGIN;
+            must(wtf8_equal_utf8(&string, letters, n) && blocks == before, "a string with its own units");
+            wtf8_free(&string);
+        }
+    }
+}
+
 /* A trail and units after it are pushed to a string that ends with its lead, and do not fit, however much room there is: the
  * string stays, and its lead can still be completed. */
 static void refused_after_leads(void) {
@@ -2298,6 +2320,11 @@ static void memory_with_context(void) {
     must(grow(&string) == WTF8_OK && counted.allocated == 2, "a string by the functions of before");
     wtf8_free(&string);
     must(counted.released == 2 && blocks == 0, "the block of a string");
+    wtf8_use_memory_with(counting);
+    wtf8_use_memory(__wrap_malloc, __wrap_realloc, __wrap_free);
+    must(grow(&string) == WTF8_OK && counted.allocated == 2, "a string by functions without a context");
+    wtf8_free(&string);
+    must(counted.released == 2 && blocks == 0 && wtf8_memory_in_use().context == NULL, "no context in use");
 }
 
 int main(void) {
@@ -2355,6 +2382,7 @@ int main(void) {
     letters_that_do_not_fit();
     latin1_requests();
     marks_of_others();
+    parts_of_itself();
     refused_after_leads();
     far_lens();
     memory_with_context();
