@@ -38,10 +38,12 @@ static_assert(std::is_same<decltype(string().units()), std::u16string>::value, "
 
 static long refuse_after = -1; /* the number of requests that are granted before all are refused; -1: all are granted */
 static long blocks;            /* the number of blocks that were granted and not freed */
+static long requests;          /* the number of requests that were granted */
 
 static bool is_refused() { return refuse_after == 0 || (0 < refuse_after && refuse_after-- == 0); }
 
 static void *granted(void *at, bool is_new) {
+    if (at != nullptr) requests++;
     if (at != nullptr && is_new) blocks++;
     return at;
 }
@@ -245,6 +247,9 @@ static void test_as_std() {
         must(pushed == whole && inserted == whole, "push_back");
     }
     must((u"x" + string(u"y") + u"z").units() == u"xyz" && string(u"a\xD83D") + u"\xDCA9" == u"a\xD83D\xDCA9", "+ of literals");
+    const string front(std::u16string(100, u'\x4E2D')), end(std::u16string(300, u'a'));
+    const long before = requests;
+    must((front + end).byte_len() == 600 && requests == before + 1, "+ takes one request");
     string twice(u"ab");
     must((std::move(twice) + twice.clone()).units() == u"abab", "+ of a string and its copy");
     std::ostringstream out;
@@ -271,6 +276,7 @@ static void test_texts() {
     must(s.starts_with_utf8(u8"z\u00E9") && s.starts_with_utf8("") && !s.starts_with_utf8("z\xC3") && !s.starts_with_utf8(u8"\u00E9"),
          "starts_with_utf8");
 #ifdef __cpp_impl_three_way_comparison
+    must(std::is_gt(s <=> std::string("z")) && std::is_lt(std::string("z") <=> s), "<=> of another text");
     must(std::is_gt(s <=> u8"z") && std::is_lt(u8"z" <=> s) && std::is_eq(s <=> std::string("z\xC3\xA9\xE4\xB8\xAD\xF0\x9F\x92\xA9")), "<=> of a text");
 #endif
     must(string::from_utf8(u8"\u00E9") == u"\xE9" && string().assign_utf8(u8"\u00E9") == u"\xE9", "from_utf8, assign_utf8");
