@@ -1762,7 +1762,7 @@ static void texts_of_codes(void) {
         "did", "memory", "position", "array", "surrogate", "not a code point", "UTF-8", "no further", "FF"};
     for (int i = WTF8_OK; i <= WTF8_NOT_LATIN1; i++)
         must(strstr(wtf8_result_text((wtf8_result)i), words[i]) != NULL, "a word in the text of a code");
-    must(wtf8_result_text((wtf8_result)(WTF8_NOT_LATIN1 + 1)) != NULL, "a text of no code");
+    must(strstr(wtf8_result_text((wtf8_result)(WTF8_NOT_LATIN1 + 1)), "not a code") != NULL, "a text of no code");
     for (int i = WTF8_OK; i <= WTF8_NOT_LATIN1 + 1; i++)
         for (int k = WTF8_OK; k < i; k++)
             must(strcmp(wtf8_result_text((wtf8_result)i), wtf8_result_text((wtf8_result)k)) != 0, "the text of a code");

@@ -124,13 +124,18 @@ class Name(String):
     """A subclass, which what is made of its strings has too."""
 
 
-def raised(call):
-    """The type of what a call raises, or None."""
+def error_of(call):
+    """What a call raises, or None."""
     try:
         call()
     except Exception as error:
-        return type(error)
+        return error
     return None
+
+
+def raised(call):
+    """The type of what a call raises."""
+    return type(error_of(call))
 
 
 def wrong_kinds():
@@ -150,6 +155,10 @@ def wrong_kinds():
     }
     wrong += [call for call, of in others.items() if raised(of) is not TypeError]
     wrong += ["refused memory"] * (raised(lambda: wtf8.check(lib.wtf8_reserve_bytes(name, huge))) is not MemoryError)
+    wrong += ["an error"] * ("not a boundary" not in str(error_of(lambda: name.replace(1, 9, ""))))
+    same = name
+    same += "c"
+    wrong += ["+="] * (same is not name)
     wrong += ["units that are none"] * (raised(lambda: Name.from_units([65536])) is not OverflowError)
     return wrong + ["blocks"] * (blocks_left() != 0) + ["the library beside the module"] * (not is_beside_read())
 
