@@ -80,7 +80,7 @@ static void hash(void) { sum += wtf8_hash(&string, 1, 2); }
 static void hash_plainly(void) { uint64_t h = 14695981039346656037u; for (size_t i = 0; i < UNITS; i++) h = (h ^ units[i]) * 1099511628211u; sum += h; }
 static void look_up(void) { sum += wtf8_hash_units(units, 12, 1, 2) + wtf8_equal_units(&string, units, 12); }
 
-// A look-up hashes 12 units, and compares them with those of a string.
+// A look-up hashes 12 units, and compares them with the units of a string.
 static const struct { const char *name; void (*call)(void), (*plain)(void); int n; } CALLS[] = {
     {"set_units", make, make_plainly, UNITS}, {"copy_units", copy_out, copy_out_plainly, UNITS}, {"set_utf8", take_utf8, NULL, UNITS},
     {"equal", ask_equal, ask_equal_plainly, UNITS}, {"hash", hash, hash_plainly, UNITS}, {"look-up", look_up, NULL, 12},

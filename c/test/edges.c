@@ -2116,7 +2116,7 @@ static void letters_that_fit(void) {
         }
 }
 
-/* Two letters at each two places of the first 32 units, in room for the units if all were ASCII but not for the letters: they
+/* Two letters at each two indexes of the first 32 units, with room for the units if all were ASCII but not for the letters: they
  * are refused, and the string stays, though 32 bytes may be stored at once after the last letter. */
 static void letters_that_do_not_fit(void) {
     enum { BLOCK = 32 };

@@ -26,7 +26,7 @@ def tokens_of(code):
 
 
 def split_at(tokens, sign):
-    """Returns the parts of a list of tokens between those signs of it that are in no brackets."""
+    """Returns the parts of a list of tokens between the signs that are in no brackets."""
     parts, depth = [[]], 0
     for token in tokens:
         depth += (token in OPENING) - (token in CLOSING)
@@ -147,7 +147,7 @@ def until_return(tokens):
     return tokens
 
 
-# How assertions begin: macros, and what the tests have in place of one.
+# How assertions begin: macros, and the function of the tests that returns an error.
 ASSERTIONS = {name: (name, "!") for name in ("assert", "assert_eq", "assert_ne")} | {"expect": ("expect",)}
 
 
