@@ -344,6 +344,7 @@ static void test_iteration() {
     must((--it).position() == 5 && *it == 0xDC00 && *--it == 0x1F4A9, "backwards");
     must(*it-- == 0x1F4A9 && it == s.begin(), "to the start");
     must(*it++ == U'a' && *it == 0x1F4A9 && ++it != s.end() && ++it == s.end() && it.position() == 8, "forwards");
+    must(++it == s.end() && it++ == s.end() && it.position() == 8 && ++string::iterator(s.end()) == s.end(), "a step at the end");
     must(string().begin() == string().end(), "no code points");
     const char32_t kinds[] = {U'a', 0xE9, 0x4E2D, 0x1F4A9, 0xDC00};
     for (size_t n = 0; n <= 100; n++) {
