@@ -179,6 +179,20 @@ def without_certain_assertions(tokens):
     return kept
 
 
+def faults_of(code):
+    """Returns what is wrong with a body of tests: conditions that are the same in every run, and what no run reaches.
+
+    >>> faults_of("if true { f(); } g()")
+    ['this is the same in every run: if true']
+    >>> faults_of("return f(); g()")
+    ['no run reaches this: g ( )']
+    """
+    tokens = tokens_of(code)
+    rest = " ".join(tokens[len(until_return(tokens)) :]).lstrip(";} ")
+    found = [f"this is the same in every run: {condition}" for condition in certain_conditions(tokens)]
+    return found + [f"no run reaches this: {rest}"] * bool(rest)
+
+
 def can_fail(code):
     """Whether a run of a test's body may end in a failure: by an assertion, an error that is returned, or by what a call
     returns. It is not seen if a call of which `?` takes the value cannot fail.
