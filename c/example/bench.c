@@ -1,4 +1,4 @@
-// Times calls of the library beside plain loops over arrays, in ns a unit, on six texts of 4,096 units:
+// Times calls of the library, in ns a unit, on six texts of 4,096 units, and after each call the plain loop for it:
 // cc -O2 bench.c $(pkg-config --cflags --libs wtf8) -o bench && ./bench
 #define _DEFAULT_SOURCE
 #include <stdio.h>
@@ -24,7 +24,6 @@ static uint8_t utf8[3 * UNITS];
 static size_t utf8_len, len;
 static wtf8_string string = WTF8_EMPTY, equal = WTF8_EMPTY;
 static volatile uint64_t sum;
-
 static void must(int holds) { if (!holds) exit(1); }
 
 // The units of a text, again and again. The last one's lone surrogates are no text.
@@ -41,10 +40,7 @@ static size_t encode(uint8_t *to) {
     size_t at = 0;
     for (size_t i = 0; i < UNITS; i++) {
         uint32_t c = units[i];
-        if (c < 0x80) {
-            to[at++] = (uint8_t)c;
-            continue;
-        }
+        if (c < 0x80) { to[at++] = (uint8_t)c; continue; }
         if (c >> 10 == 0x36 && i + 1 < UNITS && units[i + 1] >> 10 == 0x37) c = 0x10000 + ((c & 0x3FF) << 10 | (units[++i] & 0x3FF));
         if (c < 0x800) to[at++] = (uint8_t)(0xC0 | c >> 6);
         else {
@@ -58,7 +54,6 @@ static size_t encode(uint8_t *to) {
 }
 
 static uint32_t six_bits(size_t i) { return utf8[i] & 63u; }
-
 static size_t decode(uint16_t *to) {
     size_t n = 0;
     for (size_t i = 0; i < utf8_len;) {
@@ -85,35 +80,41 @@ static void hash(void) { sum += wtf8_hash(&string, 1, 2); }
 static void hash_plainly(void) { uint64_t h = 14695981039346656037u; for (size_t i = 0; i < UNITS; i++) h = (h ^ units[i]) * 1099511628211u; sum += h; }
 static void look_up(void) { sum += wtf8_hash_units(units, 12, 1, 2) + wtf8_equal_units(&string, units, 12); }
 
-static const struct { const char *name; void (*call)(void), (*plain)(void); } CALLS[] = {
-    {"wtf8_set_units", make, make_plainly}, {"wtf8_copy_units", copy_out, copy_out_plainly}, {"wtf8_set_utf8", take_utf8, NULL},
-    {"wtf8_equal", ask_equal, ask_equal_plainly}, {"wtf8_hash", hash, hash_plainly}, {"hash_units, equal_units of 12", look_up, NULL},
+// A look-up hashes 12 units, and compares them with the units of a string.
+static const struct { const char *name; void (*call)(void), (*plain)(void); int n; } CALLS[] = {
+    {"set_units", make, make_plainly, UNITS}, {"copy_units", copy_out, copy_out_plainly, UNITS}, {"set_utf8", take_utf8, NULL, UNITS},
+    {"equal", ask_equal, ask_equal_plainly, UNITS}, {"hash", hash, hash_plainly, UNITS}, {"look-up", look_up, NULL, 12},
 };
+
+static double now(void) { struct timespec t; clock_gettime(CLOCK_MONOTONIC, &t); return (double)t.tv_sec * 1e9 + (double)t.tv_nsec; }
 
 // The least time of a call, in ns.
 static double time_of(void (*call)(void)) {
     double least = 1e9;
     for (int try = 0; try < TRIES; try++) {
-        struct timespec begin, end;
-        clock_gettime(CLOCK_MONOTONIC, &begin);
+        double begin = now();
         for (int i = 0; i < ROUNDS; i++) call();
-        clock_gettime(CLOCK_MONOTONIC, &end);
-        double took = ((double)(end.tv_sec - begin.tv_sec) * 1e9 + (double)(end.tv_nsec - begin.tv_nsec)) / ROUNDS;
+        double took = (now() - begin) / ROUNDS;
         if (took < least) least = took;
     }
     return least;
 }
 
 int main(void) {
-    for (size_t t = 0; t < sizeof TEXTS / sizeof *TEXTS; t++) {
-        fill(TEXTS[t].text, t + 1 == sizeof TEXTS / sizeof *TEXTS);
+    enum { TEXT_COUNT = sizeof TEXTS / sizeof *TEXTS, CALL_COUNT = sizeof CALLS / sizeof *CALLS };
+    printf("ns a unit");
+    for (int c = 0; c < CALL_COUNT; c++) printf("%12s", CALLS[c].name);
+    for (int t = 0; t < TEXT_COUNT; t++) {
+        fill(TEXTS[t].text, t + 1 == TEXT_COUNT);
         must(wtf8_set_units(&string, units, UNITS) == WTF8_OK && wtf8_set_string(&equal, &string) == WTF8_OK);
         utf8_len = encode(utf8);
         must(utf8_len == wtf8_byte_len(&string) && decode(out) == UNITS && memcmp(out, units, sizeof units) == 0);
-        for (size_t c = 0; c < sizeof CALLS / sizeof *CALLS; c++) {
-            printf("%-8s %-30s %7.3f ns a unit", TEXTS[t].name, CALLS[c].name, time_of(CALLS[c].call) / UNITS);
-            if (CALLS[c].plain) printf(", a plain loop %7.3f", time_of(CALLS[c].plain) / UNITS);
-            printf("\n");
+        printf("\n%-9s", TEXTS[t].name);
+        for (int c = 0; c < CALL_COUNT; c++) {
+            if (CALLS[c].call == take_utf8 && !wtf8_is_utf8(&string)) printf("%12s", "no UTF-8");
+            else printf(CALLS[c].plain ? "%7.2f" : "%12.2f", time_of(CALLS[c].call) / CALLS[c].n);
+            if (CALLS[c].plain) printf("%5.2f", time_of(CALLS[c].plain) / CALLS[c].n);
         }
     }
+    printf("\n");
 }

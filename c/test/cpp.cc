@@ -38,10 +38,12 @@ static_assert(std::is_same<decltype(string().units()), std::u16string>::value, "
 
 static long refuse_after = -1; /* the number of requests that are granted before all are refused; -1: all are granted */
 static long blocks;            /* the number of blocks that were granted and not freed */
+static long requests;          /* the number of requests that were granted */
 
 static bool is_refused() { return refuse_after == 0 || (0 < refuse_after && refuse_after-- == 0); }
 
 static void *granted(void *at, bool is_new) {
+    if (at != nullptr) requests++;
     if (at != nullptr && is_new) blocks++;
     return at;
 }
@@ -62,6 +64,16 @@ void __wrap_free(void *at) {
     __real_free(at);
 }
 }
+
+static size_t most; /* the most bytes of a block of operator new */
+void *operator new(size_t size) {
+    void *at = __real_malloc(size);
+    if (most < size) most = size;
+    if (at == nullptr) std::abort();
+    return at;
+}
+void operator delete(void *at) noexcept { __real_free(at); }
+void operator delete(void *at, size_t) noexcept { __real_free(at); }
 
 /* "a", U+1F4A9 and a lone trail: 4 units, and the bytes 61, F0 9F 92 A9, ED B0 80. */
 static const std::u16string mixed = u"a\xD83D\xDCA9\xDC00";
@@ -223,6 +235,7 @@ static void test_as_std() {
                 must(s.rfind(string(part), from) == whole.rfind(part, from), "rfind of a string");
             }
             must(s.find(part) == whole.find(part) && s.rfind(part) == whole.rfind(part), "find and rfind of all");
+            must(s.find(u'a') == whole.find(u'a') && s.rfind(u'a') == whole.rfind(u'a'), "find and rfind of a unit");
             must((s + string(part)).units() == whole + part && (s + part).units() == whole + part, "+");
             must((part + s).units() == part + whole && (s.clone() + part).units() == whole + part, "+ of units and a string");
             must((s.clone() + string(part) + s).units() == whole + part + whole, "+ of three");
@@ -234,6 +247,9 @@ static void test_as_std() {
         must(pushed == whole && inserted == whole, "push_back");
     }
     must((u"x" + string(u"y") + u"z").units() == u"xyz" && string(u"a\xD83D") + u"\xDCA9" == u"a\xD83D\xDCA9", "+ of literals");
+    const string front(std::u16string(100, u'\x4E2D')), end(std::u16string(300, u'a'));
+    const long before = requests;
+    must((front + end).byte_len() == 600 && requests == before + 1, "+ takes one request");
     string twice(u"ab");
     must((std::move(twice) + twice.clone()).units() == u"abab", "+ of a string and its copy");
     std::ostringstream out;
@@ -260,6 +276,7 @@ static void test_texts() {
     must(s.starts_with_utf8(u8"z\u00E9") && s.starts_with_utf8("") && !s.starts_with_utf8("z\xC3") && !s.starts_with_utf8(u8"\u00E9"),
          "starts_with_utf8");
 #ifdef __cpp_impl_three_way_comparison
+    must(std::is_gt(s <=> std::string("z")) && std::is_lt(std::string("z") <=> s), "<=> of another text");
     must(std::is_gt(s <=> u8"z") && std::is_lt(u8"z" <=> s) && std::is_eq(s <=> std::string("z\xC3\xA9\xE4\xB8\xAD\xF0\x9F\x92\xA9")), "<=> of a text");
 #endif
     must(string::from_utf8(u8"\u00E9") == u"\xE9" && string().assign_utf8(u8"\u00E9") == u"\xE9", "from_utf8, assign_utf8");
@@ -327,6 +344,7 @@ static void test_iteration() {
     must((--it).position() == 5 && *it == 0xDC00 && *--it == 0x1F4A9, "backwards");
     must(*it-- == 0x1F4A9 && it == s.begin(), "to the start");
     must(*it++ == U'a' && *it == 0x1F4A9 && ++it != s.end() && ++it == s.end() && it.position() == 8, "forwards");
+    must(++it == s.end() && it++ == s.end() && it.position() == 8 && ++string::iterator(s.end()) == s.end(), "a step at the end");
     must(string().begin() == string().end(), "no code points");
     const char32_t kinds[] = {U'a', 0xE9, 0x4E2D, 0x1F4A9, 0xDC00};
     for (size_t n = 0; n <= 100; n++) {
@@ -426,6 +444,8 @@ static void test_walks() {
     must(s.copy_code_points(position, copied, 2) == 2 && copied[1] == 0x1F4A9 && position == 5, "copy_code_points");
     must(s.copy_code_points(position, copied, 2) == 1 && copied[0] == 0xDC00 && position == 8, "the last code points");
     must(s.copy_code_points(position, copied, 2) == 0 && position == 8, "copy_code_points at the end");
+    position = 2;
+    must(is_out_of_range([&] { (void)s.copy_code_points(position, copied, 2); }) && position == 2, "copy_code_points off a boundary");
 }
 
 static void test_failures() {
@@ -433,7 +453,8 @@ static void test_failures() {
     const std::vector<std::function<void()>> out_of_range = {
         [&] { (void)s.at(4); },           [&] { (void)s.at(huge); },       [&] { (void)s[4]; },
         [&] { (void)s.position_at(5); },  [&] { (void)s.slice(2, 1); },    [&] { (void)s.slice(0, 5); },
-        [&] { (void)s.units(2, 1); },     [&] { (void)s.units(5, 5); },    [&] { s.append(other, 0, 3); },
+        [&] { (void)s.units(2, 1); },     [&] { (void)s.units(5, 5); },    [&] { (void)s.units(1, huge); },
+        [&] { s.append(other, 0, 3); },
         [&] { s.append(s, 3, 2); },       [&] { s.assign(other, 2, 3); },  [&] { s.truncate_units(5); },
         [&] { s.truncate_bytes(2); },     [&] { s.truncate_bytes(9); },    [&] { (void)s.substr(5); },
         [&] { s.insert(5, u"a"); },       [&] { s.erase(5, 0); },          [&] { s.replace(5, 0, u"a"); }};
@@ -562,6 +583,16 @@ static string a_full_string() {
 
 #if WITH_EXCEPTIONS
 
+/* Units that are not there are not allocated for. */
+static void test_no_parts() {
+    const size_t n = 200, parts[][2] = {{0, n + 1}, {1, n + 1}, {n, n + 1}, {n + 1, n + 1}, {0, 2 * n}, {n, 0}, {2 * n, 3 * n}};
+    const string s(std::u16string(n, u'x'));
+    most = 0;
+    for (const auto &part : parts) must(is_out_of_range([&] { (void)s.units(part[0], part[1]); }), "no such units");
+    must(most < n * sizeof(char16_t), "no memory for units that are not there");
+    must(s.units(0, n).size() == n && n * sizeof(char16_t) <= most, "memory for units that are there");
+}
+
 /* Each call that takes memory, with the first requests granted and the next refused, until it is done. */
 static void test_refusals() {
     const string other(std::u16string(100, u'\x4E2D') + mixed);
@@ -651,6 +682,7 @@ int main() {
     test_vectors();
     test_moves();
 #if WITH_EXCEPTIONS
+    test_no_parts();
     test_refusals();
 #endif
     test_without_memory();

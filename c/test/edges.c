@@ -1762,7 +1762,7 @@ static void texts_of_codes(void) {
         "did", "memory", "position", "array", "surrogate", "not a code point", "UTF-8", "no further", "FF"};
     for (int i = WTF8_OK; i <= WTF8_NOT_LATIN1; i++)
         must(strstr(wtf8_result_text((wtf8_result)i), words[i]) != NULL, "a word in the text of a code");
-    must(wtf8_result_text((wtf8_result)(WTF8_NOT_LATIN1 + 1)) != NULL, "a text of no code");
+    must(strstr(wtf8_result_text((wtf8_result)(WTF8_NOT_LATIN1 + 1)), "not a code") != NULL, "a text of no code");
     for (int i = WTF8_OK; i <= WTF8_NOT_LATIN1 + 1; i++)
         for (int k = WTF8_OK; k < i; k++)
             must(strcmp(wtf8_result_text((wtf8_result)i), wtf8_result_text((wtf8_result)k)) != 0, "the text of a code");
@@ -1993,10 +1993,10 @@ static void must_be_marked(const struct pair *p, const char *what) {
     must(wtf8_unit_before(&p->string, position) == p->n, what);
 }
 
-/* A string with marks is cut at each index about a mark, by each call that cuts, behind a lead, a trail or another unit, and
+/* A string with marks is cut at each index about a mark, by each call that cuts, after a lead, a trail or another unit, and
  * goes on with a trail or another unit. A mark that stays at the end would be within a pair then. */
 static void marks_at_cuts(void) {
-    enum { LONG = 400, ABOUT = 3, WAYS = 4, TAIL = 21 };
+    enum { LONG = 400, ABOUT = 3, WAYS = 5, TAIL = 21 };
     static const uint16_t kinds[] = {0xE9, 0x4E2D, 0xD83D}, lasts[] = {'a', 0x4E2D, 0xDBFF, 0xDC00}, nexts[] = {'b', 0x3042, 0xDFFF, 0xD800};
     static struct pair p;
     size_t number = 0;
@@ -2009,18 +2009,24 @@ static void marks_at_cuts(void) {
                 p.n = LONG;
                 for (size_t i = 0; i < LONG; i++) p.units[i] = kind == 0xD83D && i % 2 == 1 ? 0xDCA9 : kind;
                 p.units[cut - 1] = last;
-                /* No pair is cut here by truncate_bytes or pop. */
-                p.units[cut] = 'c';
+                /* No pair is cut here by truncate_bytes, and one is taken off by the last way. */
+                p.units[cut] = way == 4 ? 0xD83D : 'c';
+                if (way == 4) p.units[cut + 1] = 0xDCA9;
                 must(wtf8_set_units(&p.string, p.units, LONG) == WTF8_OK && wtf8_mark(&p.string) == WTF8_OK, "a string to cut");
                 switch (way) {
                     case 0: must(wtf8_truncate_units(&p.string, cut) == WTF8_OK, "truncate_units at a mark"); break;
                     case 1: must(wtf8_truncate_bytes(&p.string, position_of(&p, cut)) == WTF8_OK, "truncate_bytes at a mark"); break;
                     case 2: must(wtf8_remove_units(&p.string, cut, LONG) == WTF8_OK, "remove_units at a mark"); break;
-                    default:
+                    case 3:
                         must(wtf8_truncate_units(&p.string, cut + 1) == WTF8_OK, "truncate_units after a mark");
                         must(wtf8_pop(&p.string, &point) == WTF8_OK && point == 'c', "pop at a mark");
+                        break;
+                    default:
+                        must(wtf8_truncate_units(&p.string, cut + 2) == WTF8_OK, "truncate_units two units after a mark");
+                        must(wtf8_pop(&p.string, &point) == WTF8_OK && point == 0x1F4A9, "pop of a pair at a mark");
                 }
                 p.n = cut;
+                if (way == 4) must_be_marked(&p, "a marked string without its last pair");
                 for (size_t i = 0; i < TAIL; i++) p.units[p.n + i] = i % 5 == 4 ? 0xE9 : 'x';
                 p.units[p.n] = next;
                 if (number++ % 2 == 0) must(wtf8_push_units(&p.string, p.units + p.n, TAIL) == WTF8_OK, "units after a cut");
@@ -2110,6 +2116,32 @@ static void letters_that_fit(void) {
         }
 }
 
+/* Two letters at each two indexes of the first 32 units, with room for the units if all were ASCII but not for the letters: they
+ * are refused, and the string stays, though 32 bytes may be stored at once after the last letter. */
+static void letters_that_do_not_fit(void) {
+    enum { BLOCK = 32 };
+    static const uint16_t kinds[] = {0xE9, 0x4E2D};
+    static const size_t lengths[] = {63, 64, 65, 96};
+    uint16_t units[96];
+    for (size_t k = 0; k < 2 * 4; k++)
+        for (size_t i = 0; i < BLOCK * BLOCK; i++) {
+            size_t n = lengths[k / 2];
+            for (size_t at = 0; at < n; at++) units[at] = (uint16_t)('a' + at % 26);
+            units[i / BLOCK] = units[i % BLOCK] = kinds[k % 2];
+            for (size_t spare = n - 1; spare < wtf8_encoded_len(units, n); spare++) {
+                wtf8_string string = WTF8_EMPTY;
+                must(wtf8_reserve_bytes(&string, spare) == WTF8_OK, "too little room for letters");
+                size_t before = wtf8_capacity(&string) - spare;
+                must(wtf8_push_utf8(&string, letters, before, NULL) == WTF8_OK, "what is before letters");
+                refuse_after = 0;
+                must(wtf8_push_units(&string, units, n) == WTF8_NO_MEMORY, "letters that do not fit");
+                refuse_after = -1;
+                must(wtf8_equal_utf8(&string, letters, before), "a string without the letters");
+                wtf8_free(&string);
+            }
+        }
+}
+
 /* A text in Latin-1 that does not fit takes one request; if it is as short as a list of units that is pushed at once, it may
  * take two. */
 static void latin1_requests(void) {
@@ -2154,6 +2186,28 @@ static void marks_of_others(void) {
             must_be_marked(&p, "a string with marks that got other units");
         }
     wtf8_free(&p.string);
+}
+
+/* A string is appended to itself, or cut out of itself, with each request refused in turn: it stays until all are granted. */
+static void parts_of_itself(void) {
+    enum { LONG = 100, BEGIN = 10, END = 90, WAYS = 3 };
+    for (int way = 0; way < WAYS; way++) {
+        wtf8_result code = WTF8_NO_MEMORY;
+        for (long granted_first = 0; code != WTF8_OK; granted_first++) {
+            wtf8_string string = WTF8_EMPTY;
+            must(wtf8_set_utf8(&string, letters, LONG, NULL) == WTF8_OK && wtf8_capacity(&string) == LONG, "a full string");
+            long before = blocks;
+            refuse_after = granted_first;
+            code = way == 0 ? wtf8_push_string(&string, &string)
+                 : way == 1 ? wtf8_push_slice(&string, &string, BEGIN, END)
+                            : wtf8_slice_units(&string, &string, BEGIN, END);
+            refuse_after = -1;
+            must(code == WTF8_NO_MEMORY || (code == WTF8_OK && granted_first == (way < 2 ? 2 : 1)), "the requests for its own units");
+            size_t n = code != WTF8_OK ? LONG : way == 0 ? 2 * LONG : way == 1 ? LONG + END - BEGIN : END - BEGIN;
+            must(wtf8_equal_utf8(&string, letters, n) && blocks == before, "a string with its own units");
+            wtf8_free(&string);
+        }
+    }
 }
 
 /* A trail and units after it are pushed to a string that ends with its lead, and do not fit, however much room there is: the
@@ -2266,6 +2320,11 @@ static void memory_with_context(void) {
     must(grow(&string) == WTF8_OK && counted.allocated == 2, "a string by the functions of before");
     wtf8_free(&string);
     must(counted.released == 2 && blocks == 0, "the block of a string");
+    wtf8_use_memory_with(counting);
+    wtf8_use_memory(__wrap_malloc, __wrap_realloc, __wrap_free);
+    must(grow(&string) == WTF8_OK && counted.allocated == 2, "a string by functions without a context");
+    wtf8_free(&string);
+    must(counted.released == 2 && blocks == 0 && wtf8_memory_in_use().context == NULL, "no context in use");
 }
 
 int main(void) {
@@ -2320,8 +2379,10 @@ int main(void) {
     marks_at_cuts();
     long_searches();
     letters_that_fit();
+    letters_that_do_not_fit();
     latin1_requests();
     marks_of_others();
+    parts_of_itself();
     refused_after_leads();
     far_lens();
     memory_with_context();

@@ -1,16 +1,23 @@
 """Random lists of units, pushed in pieces to a string of the module's class, against Python's own strings; what the class
-has of them, on texts of CPython's tests of surrogatepass too; and the types of the calls' results against the header.
+has of them, on texts of CPython's tests of surrogatepass too; what it does with other types, refused memory and blocks; and
+the types of the calls' results against the header.
 Arguments: a seed, and the number of lists."""
 import copy
 import ctypes
+import gc
+import importlib.util
+import operator
 import pathlib
 import pickle
 import random
 import re
+import shutil
 import struct
 import sys
+import tempfile
 
 sys.path.insert(0, str(pathlib.Path(__file__).resolve().parent.parent))
+import wtf8
 from wtf8 import Memory, String, Struct, lib
 
 HEADER = pathlib.Path(__file__).resolve().parent.parent / "wtf8.h"
@@ -113,6 +120,89 @@ def wrong_ranges():
     return wrong
 
 
+class Name(String):
+    """A subclass, which what is made of its strings has too."""
+
+
+def error_of(call):
+    """What a call raises, or None."""
+    try:
+        call()
+    except Exception as error:
+        return error
+    return None
+
+
+def raised(call):
+    """The type of what a call raises."""
+    return type(error_of(call))
+
+
+def wrong_kinds():
+    """What differs for strings of a subclass, values of other types, refused memory, blocks that are not freed, and the
+    library beside the module."""
+    name, huge = Name("ab"), ctypes.c_size_t(1 << 62)
+    made = {
+        "slice": name[1:], "slice by step": name[::-1], "+": name + "c", "+ of a text": "c" + name, "copy": copy.copy(name),
+        "pickle": pickle.loads(pickle.dumps(name)), "from_units": Name.from_units([1]),
+    }
+    wrong = [call for call, string in made.items() if type(string) is not Name]
+    wrong += ["repr"] * (repr(name) != "Name('ab')")
+    wrong += ["=="] * (name == "ab" or not name != "ab" or name == 1 or name == None)  # noqa: E711
+    others = {
+        "+ of a number": lambda: name + 1, "number +": lambda: 1 + name, "+= of a number": lambda: operator.iadd(name, 1),
+        "< of a text": lambda: name < "b", ">= of a text": lambda: name >= "b", "hash": lambda: hash(name), "index": lambda: name["a"],
+    }
+    wrong += [call for call, of in others.items() if raised(of) is not TypeError]
+    wrong += ["refused memory"] * (raised(lambda: wtf8.check(lib.wtf8_reserve_bytes(name, huge))) is not MemoryError)
+    wrong += ["an error"] * ("not a boundary" not in str(error_of(lambda: name.replace(1, 9, ""))))
+    same = name
+    same += "c"
+    wrong += ["+="] * (same is not name)
+    wrong += ["units that are none"] * (raised(lambda: Name.from_units([65536])) is not OverflowError)
+    return wrong + ["blocks"] * (blocks_left() != 0) + ["the library beside the module"] * (not is_beside_read())
+
+
+def blocks_left():
+    """The number of blocks that are left of strings which are made, changed and let go."""
+    libc, blocks = ctypes.CDLL(None), set()
+    libc.malloc.restype = libc.realloc.restype = ctypes.c_void_p
+
+    def allocate(size):
+        blocks.add(at := libc.malloc(ctypes.c_size_t(size)))
+        return at
+
+    def reallocate(at, size):
+        blocks.discard(at)
+        blocks.add(at := libc.realloc(ctypes.c_void_p(at), ctypes.c_size_t(size)))
+        return at
+
+    def release(at):
+        blocks.discard(at)
+        libc.free(ctypes.c_void_p(at))
+
+    word, size = ctypes.c_void_p, ctypes.c_size_t
+    functions = ctypes.CFUNCTYPE(word, size)(allocate), ctypes.CFUNCTYPE(word, word, size)(reallocate), ctypes.CFUNCTYPE(None, word)(release)
+    gc.collect()
+    lib.wtf8_use_memory(*functions)
+    made = [String("text" * n) for n in range(9)]
+    made += [string + "more" for string in made] + [string[1:3] for string in made] + [copy.copy(string) for string in made]
+    counts = len(blocks)
+    del made
+    gc.collect()
+    lib.wtf8_use_memory(*(ctypes.cast(of, word) for of in (libc.malloc, libc.realloc, libc.free)))
+    return len(blocks) if counts else -1
+
+
+def is_beside_read():
+    """Whether a copy of the module reads the library that lies beside it: here a file that is none."""
+    with tempfile.TemporaryDirectory() as folder:
+        module = pathlib.Path(shutil.copy(wtf8.__file__, folder))
+        module.with_name("libwtf8.so.0").write_bytes(b"none")
+        spec = importlib.util.spec_from_file_location("beside", module)
+        return raised(lambda: spec.loader.exec_module(importlib.util.module_from_spec(spec))) is OSError
+
+
 def latin1_of(string):
     """The string's text in Latin-1, or no bytes if it has none."""
     try:
@@ -160,7 +250,7 @@ def main(seed, count):
         wrong += (last.key() > string.key()) - (last.key() < string.key()) != order
         last, last_units = string, units
         lone += any(0xD800 <= ord(point) < 0xE000 for point in text)
-    for found in (wrong_results(), wrong_pairs(), wrong_ranges()):
+    for found in (wrong_results(), wrong_pairs(), wrong_ranges(), wrong_kinds()):
         wrong += len(found)
         print(*map(ascii, found), sep="\n", end="\n" * bool(found))
     print(f"lists.py: {wrong} differences in {count} lists, of which {lone} have a lone surrogate")
