@@ -98,6 +98,7 @@ impl<A: Allocator> Wtf8Buf<A> {
     pub fn new(alloc: A) -> Wtf8Buf<A>
         ensures units { result.units ≡ [] }
         ensures bytes { result.bytes ≡ [] }
+        ensures capacity { result.capacity ≡ 0 }
     {
         from_well_formed(Vec::new(alloc), Utf8Prefix::ALL)
     }
