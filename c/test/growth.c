@@ -111,6 +111,8 @@ int main(int argc, char **argv) {
     COUNT_OK(insert_units, wtf8_insert_units(&s, n - FEW, units, FEW));
     COUNT_OK(replace_units, wtf8_replace_units(&s, n - FEW, n, other, FEW));
     COUNT_OK(remove_units, wtf8_remove_units(&s, n - FEW, n));
+    COUNT_OK(insert, wtf8_insert(&s, n - FEW, &part));
+    COUNT_OK(replace, wtf8_replace(&s, n - FEW, n, &part));
 
     /* Linear in what they hand out. */
     COUNT_OK(copy_slice, wtf8_copy_slice(&same, index, index + FEW, out, FEW, &len));
