@@ -33,7 +33,7 @@ fn replace_by_string<A: Allocator>(
         return Err(AllocError);
     }
     let from = view.mark_at(view.start_mark(), begin);
-    let to = view.mark_at(from, end);
+    let to = view.mark_at(view.start_mark(), end);
     text.replace_at(from, begin, to, end, new)
 }
 
