@@ -135,6 +135,8 @@ DECLARE(wtf8_result, slice_units, handle *, handle *, size_t, size_t)
 DECLARE(wtf8_result, insert_units, handle *, size_t, const uint16_t *, size_t)
 DECLARE(wtf8_result, remove_units, handle *, size_t, size_t)
 DECLARE(wtf8_result, replace_units, handle *, size_t, size_t, const uint16_t *, size_t)
+DECLARE(wtf8_result, insert, handle *, size_t, handle *)
+DECLARE(wtf8_result, replace, handle *, size_t, size_t, handle *)
 DECLARE(wtf8_result, copy_code_points, handle *, size_t *, uint32_t *, size_t, size_t *)
 DECLARE(wtf8_result, copy_units, handle *, uint16_t *, size_t, size_t *)
 DECLARE(wtf8_result, copy_slice, handle *, size_t, size_t, uint16_t *, size_t, size_t *)
@@ -370,6 +372,36 @@ wtf8_result wtf8_push_slice(wtf8_string *string, const wtf8_string *other, size_
     handle made = {&part};
     wtf8_result code = PROVED(slice_units)(&made, &changed, begin, end);
     if (code == WTF8_OK) code = PROVED(push_string)(&changed, &made);
+    PROVED(free)(&made);
+    return code;
+}
+
+wtf8_result wtf8_insert(wtf8_string *string, size_t index, const wtf8_string *other) {
+    wtf8_string second;
+    handle changed = opened(string);
+    if (string != other) {
+        handle copy = asked(other, &second);
+        return PROVED(insert)(&changed, index, &copy);
+    }
+    init(&second);
+    handle made = {&second};
+    wtf8_result code = PROVED(set_string)(&made, &changed);
+    if (code == WTF8_OK) code = PROVED(insert)(&changed, index, &made);
+    PROVED(free)(&made);
+    return code;
+}
+
+wtf8_result wtf8_replace(wtf8_string *string, size_t begin, size_t end, const wtf8_string *other) {
+    wtf8_string second;
+    handle changed = opened(string);
+    if (string != other) {
+        handle copy = asked(other, &second);
+        return PROVED(replace)(&changed, begin, end, &copy);
+    }
+    init(&second);
+    handle made = {&second};
+    wtf8_result code = PROVED(set_string)(&made, &changed);
+    if (code == WTF8_OK) code = PROVED(replace)(&changed, begin, end, &made);
     PROVED(free)(&made);
     return code;
 }

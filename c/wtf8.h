@@ -432,7 +432,8 @@ wtf8_result wtf8_slice_units(wtf8_string *into, const wtf8_string *string, size_
  *
  * A pair that an index divides is cut, and a lead and a trail that then meet become one code point. The marks find the
  * index; then each call is linear in the new units and in the bytes after them, which move once. A call whose bytes fit the
- * capacity is never refused, and each makes at most one request, but for marks: those after the index are made anew.
+ * capacity is never refused, and each makes at most one request, but for marks: those after the index are made anew. If
+ * wtf8_insert or wtf8_replace is passed one string twice, a copy of it is requested first, which may be refused.
  */
 
 /* Inserts `n` units before the one at `index`. Codes: OK, NO_MEMORY, BAD_POSITION (`index` is greater than the length).
@@ -448,6 +449,15 @@ wtf8_result wtf8_remove_units(wtf8_string *string, size_t begin, size_t end);
 /* Replaces the units from `begin` to before `end` by `n` units. Codes: as of wtf8_remove_units, and NO_MEMORY. Since 0.2.0. */
 WTF8_CODE WTF8_CHANGES(1) WTF8_READS(4, 5)
 wtf8_result wtf8_replace_units(wtf8_string *string, size_t begin, size_t end, const uint16_t *units, size_t n);
+
+/* Inserts another string before the unit at `index`: its bytes are copied, not encoded. Codes: as of wtf8_insert_units.
+ * Since 0.2.0. */
+WTF8_CODE WTF8_CHANGES(1)
+wtf8_result wtf8_insert(wtf8_string *string, size_t index, const wtf8_string *other);
+
+/* Replaces the units from `begin` to before `end` by another string. Codes: as of wtf8_replace_units. Since 0.2.0. */
+WTF8_CODE WTF8_CHANGES(1)
+wtf8_result wtf8_replace(wtf8_string *string, size_t begin, size_t end, const wtf8_string *other);
 
 /* ---- Copying out ----
  *

@@ -236,6 +236,10 @@ public:
     string &replace(size_t index, size_t n, units_in units) {
         return done(wtf8_replace_units(get(), index, end_of(index, n), raw(units.data()), units.size()));
     }
+    string &insert(size_t index, const string &other) { return done(wtf8_insert(get(), index, other.get())); }
+    string &replace(size_t index, size_t n, const string &other) {
+        return done(wtf8_replace(get(), index, end_of(index, n), other.get()));
+    }
 
     /* Code points. If there is none, each returns false and leaves its arguments as they are. */
     bool pop(char32_t &value) { return found(wtf8_pop(get(), raw(&value))); }

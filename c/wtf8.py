@@ -57,7 +57,7 @@ RESULTS = [
         set_units set_utf8 set_latin1 set_string reserve_bytes mark push_unit push_code_point push_code_points
         push_units push_latin1 push_utf8 push_utf8_part push_utf8_lossy push_utf8_lossy_part push_string push_slice
         utf8_unit_len position_at unit_at next_surrogate next_code_point previous_code_point code_point_before
-        truncate_bytes truncate_units pop slice_units insert_units remove_units replace_units copy_code_points
+        truncate_bytes truncate_units pop slice_units insert_units remove_units replace_units insert replace copy_code_points
         copy_units copy_slice copy_utf8 copy_lossy copy_latin1 compare_units compare_code_points compare_with_units
         compare_with_utf8 find find_units rfind rfind_units
         """,
@@ -124,8 +124,16 @@ class String:
         units.frombytes(text.encode("utf-16-le", "surrogatepass"))
         self._push(units)
 
-    def replace(self, begin: int, end: int, text: str) -> None:
-        """Replaces the units from `begin` to before `end` by those of a text, which may be empty."""
+    def insert(self, index: int, text: Union[str, String]) -> None:
+        """Inserts a text or another string before the unit at an index."""
+        self.replace(index, index, text)
+
+    def replace(self, begin: int, end: int, text: Union[str, String]) -> None:
+        """Replaces the units from `begin` to before `end` by those of a text or another string, which may be empty."""
+        if isinstance(text, String):
+            with locked(self, text):
+                check(lib.wtf8_replace(self, ctypes.c_size_t(begin), ctypes.c_size_t(end), text))
+            return
         units = array.array("H")
         units.frombytes(text.encode("utf-16-le", "surrogatepass"))
         n = len(units)

@@ -291,6 +291,10 @@ WTF8_TELLS_CODE(insert_units, (wtf8_string *string, size_t index, const uint16_t
 WTF8_TELLS_CODE(remove_units, (wtf8_string *string, size_t begin, size_t end), (string, begin, end), wtf8_changes(string))
 WTF8_TELLS_CODE(replace_units, (wtf8_string *string, size_t begin, size_t end, const uint16_t *units, size_t n),
            (string, begin, end, units, n), wtf8_changes(string); wtf8_reads(units, n * 2))
+WTF8_TELLS_CODE(insert, (wtf8_string *string, size_t index, const wtf8_string *other), (string, index, other),
+           wtf8_changes(string); wtf8_asks(other))
+WTF8_TELLS_CODE(replace, (wtf8_string *string, size_t begin, size_t end, const wtf8_string *other),
+           (string, begin, end, other), wtf8_changes(string); wtf8_asks(other))
 
 /* Copying out. */
 WTF8_TELLS_AFTER(copy_units, (const wtf8_string *string, uint16_t *out, size_t size, size_t *len), (string, out, size, len),
@@ -390,6 +394,8 @@ WTF8_TELLS_AFTER(copy_latin1, (const wtf8_string *string, uint8_t *out, size_t s
 #define wtf8_insert_units wtf8_told_insert_units
 #define wtf8_remove_units wtf8_told_remove_units
 #define wtf8_replace_units wtf8_told_replace_units
+#define wtf8_insert wtf8_told_insert
+#define wtf8_replace wtf8_told_replace
 #define wtf8_copy_units wtf8_told_copy_units
 #define wtf8_copy_slice wtf8_told_copy_slice
 #define wtf8_copy_code_points wtf8_told_copy_code_points

@@ -220,12 +220,16 @@ static void test_as_std() {
                 must(s.substr(begin, n).units() == whole.substr(begin, n), "substr");
                 must(s.clone().erase(begin, n).units() == std::u16string(whole).erase(begin, n), "erase");
                 for (const auto &part : wholes)
-                    must(s.clone().replace(begin, n, part).units() == std::u16string(whole).replace(begin, n, part), "replace");
+                    must(s.clone().replace(begin, n, part).units() == std::u16string(whole).replace(begin, n, part) &&
+                             s.clone().replace(begin, n, string(part)).units() == std::u16string(whole).replace(begin, n, part), "replace");
             }
             must(s.substr(begin).units() == whole.substr(begin), "substr to the end");
             must(s.clone().erase(begin).units() == std::u16string(whole).erase(begin), "erase to the end");
             for (const auto &part : wholes)
-                must(s.clone().insert(begin, part).units() == std::u16string(whole).insert(begin, part), "insert");
+                must(s.clone().insert(begin, part).units() == std::u16string(whole).insert(begin, part) &&
+                         s.clone().insert(begin, string(part)).units() == std::u16string(whole).insert(begin, part), "insert");
+            string doubled(whole);
+            must(doubled.insert(begin, doubled).units() == std::u16string(whole).insert(begin, whole), "insert of itself");
         }
         for (const auto &part : wholes) {
             for (size_t from = 0; from <= whole.size() + 1; from++) {
@@ -457,7 +461,8 @@ static void test_failures() {
         [&] { s.append(other, 0, 3); },
         [&] { s.append(s, 3, 2); },       [&] { s.assign(other, 2, 3); },  [&] { s.truncate_units(5); },
         [&] { s.truncate_bytes(2); },     [&] { s.truncate_bytes(9); },    [&] { (void)s.substr(5); },
-        [&] { s.insert(5, u"a"); },       [&] { s.erase(5, 0); },          [&] { s.replace(5, 0, u"a"); }};
+        [&] { s.insert(5, u"a"); },       [&] { s.erase(5, 0); },          [&] { s.replace(5, 0, u"a"); },
+        [&] { s.insert(5, other); },      [&] { s.replace(5, 0, other); }};
     for (const auto &call : out_of_range) must(is_out_of_range(call) && s.units() == mixed, "out_of_range");
     must(fails([&] { s.append_code_point(0x110000); }, WTF8_BAD_CODE_POINT) && s.units() == mixed, "BAD_CODE_POINT");
     must(fails([&] { s.append_utf8("ab\xFF"); }, WTF8_NOT_UTF8, 2) && s.units() == mixed, "NOT_UTF8");
@@ -616,6 +621,8 @@ static void test_refusals() {
         [](string &s) { s.push_back(u'y'); },
         [](string &s) { s.insert(1, std::u16string(1000, u'y')); },
         [](string &s) { s.replace(0, 1, std::u16string(1000, u'y')); },
+        [&](string &s) { s.insert(1, other); },
+        [&](string &s) { s.replace(0, 1, other); },
         [](string &s) { (void)(s + u"y"); },
         [](string &s) { (void)(u"y" + s); },
         [](string &s) { (void)s.substr(1); },

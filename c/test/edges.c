@@ -1897,9 +1897,14 @@ static wtf8_result edit(wtf8_string *string, size_t begin, size_t end, const uin
     return n > 0 ? wtf8_replace_units(string, begin, end, units, n) : wtf8_remove_units(string, begin, end);
 }
 
-/* Units are replaced in strings of each length up to 70 from each index on, with pairs cut and joined at both ends: with
- * memory, with each request refused and no spare capacity, and with each refused and room for just the new bytes. A call is
- * refused just if its bytes do not fit, and then leaves the string. */
+/* Does the same by the string of the units. */
+static wtf8_result insert_edit(wtf8_string *string, size_t begin, size_t end, const wtf8_string *other) {
+    return begin == end ? wtf8_insert(string, begin, other) : wtf8_replace(string, begin, end, other);
+}
+
+/* Units are replaced in strings of each length up to 70 from each index on, with pairs cut and joined at both ends, by units
+ * and by their string: with memory, with each request refused and no spare capacity, and with each refused and room for just
+ * the new bytes. A call is refused just if its bytes do not fit, and then leaves the string. */
 static void edits(void) {
     static const uint16_t kinds[] = {'a', 0xE9, 0x3042, 0xD83D, 0xDCA9, 0xDCA9}, both[] = {0xDC00, 'b', 0xD800};
     static const uint16_t wide[40] = {0xDC00, 0x3042, 0xD83D, 0xDCA9, 0x3042, 0x3042, 0xE9};
@@ -1910,13 +1915,16 @@ static void edits(void) {
     } lists[] = {{NULL, 0}, {both + 1, 1}, {both, 1}, {both + 2, 1}, {both, 3}, {wide, 40}};
     enum { LISTS = sizeof lists / sizeof lists[0], COUNTS = sizeof counts / sizeof counts[0], SHORT = 70 };
     static struct pair p, q;
+    static wtf8_string strings[LISTS];
     state = 5;
+    for (size_t k = 0; k < LISTS; k++) must(wtf8_set_units(&strings[k], lists[k].units, lists[k].n) == WTF8_OK, "a string to insert");
     for (size_t n = 0; n <= SHORT; n++) {
         for (size_t i = 0; i < n; i++) p.units[i] = kinds[below(6)];
         for (size_t part = 0; part < (n + 1) * COUNTS; part++) {
             size_t begin = part / COUNTS, end = begin + counts[part % COUNTS];
             for (size_t k = 0; end <= n && k < LISTS; k++) {
-                for (int way = 0; way < 3; way++) {
+                for (int turn = 0; turn < 6; turn++) {
+                    int way = turn / 2;
                     p.n = n;
                     must(wtf8_set_units(&p.string, p.units, n) == WTF8_OK, "a string to edit");
                     memcpy(q.units, p.units, 2 * n);
@@ -1929,7 +1937,8 @@ static void edits(void) {
                     int fits = more <= wtf8_capacity(&p.string);
                     must(way < 2 || fits, "room for an edit");
                     if (way > 0) refuse_after = 0;
-                    wtf8_result code = edit(&p.string, begin, end, lists[k].units, lists[k].n);
+                    wtf8_result code = turn % 2 == 0 ? edit(&p.string, begin, end, lists[k].units, lists[k].n)
+                                                     : insert_edit(&p.string, begin, end, &strings[k]);
                     refuse_after = -1;
                     must(code == (way == 0 || fits ? WTF8_OK : WTF8_NO_MEMORY), "an edit");
                     must_have(&p.string, code == WTF8_OK ? q.units : p.units, code == WTF8_OK ? q.n : n, "edited units");
@@ -1941,11 +1950,30 @@ static void edits(void) {
         must(wtf8_insert_units(&p.string, n + 1, both, 3) == WTF8_BAD_POSITION &&
                  wtf8_remove_units(&p.string, n, n + 1) == WTF8_BAD_POSITION &&
                  wtf8_replace_units(&p.string, 1, 0, both, 3) == WTF8_BAD_POSITION &&
-                 wtf8_remove_units(&p.string, SIZE_MAX, 0) == WTF8_BAD_POSITION,
+                 wtf8_remove_units(&p.string, SIZE_MAX, 0) == WTF8_BAD_POSITION &&
+                 wtf8_insert(&p.string, n + 1, &strings[4]) == WTF8_BAD_POSITION &&
+                 wtf8_replace(&p.string, 1, 0, &strings[4]) == WTF8_BAD_POSITION &&
+                 wtf8_replace(&p.string, n, n + 1, &strings[4]) == WTF8_BAD_POSITION &&
+                 wtf8_insert(&p.string, n + 1, &p.string) == WTF8_BAD_POSITION,
              "an edit past the end");
         must_have(&p.string, p.units, n, "a string without an edit");
+        for (size_t begin = 0; begin <= n; begin++) {
+            size_t end = n - (n - begin) / 3;
+            memcpy(q.units, p.units, 2 * n);
+            q.n = n;
+            splice(&q, begin, end, p.units, n);
+            must(wtf8_set_units(&p.string, p.units, n) == WTF8_OK, "a string to put into itself");
+            refuse_after = 0;
+            wtf8_result code = wtf8_replace(&p.string, begin, end, &p.string);
+            refuse_after = -1;
+            must(code == (n > 0 ? WTF8_NO_MEMORY : WTF8_OK), "a string that is copied before it is put into itself");
+            must_have(&p.string, p.units, n, "a string that is not put into itself");
+            must(insert_edit(&p.string, begin, end, &p.string) == WTF8_OK, "a string that is put into itself");
+            must_have(&p.string, q.units, q.n, "a string put into itself");
+        }
     }
     wtf8_free(&p.string);
+    for (size_t k = 0; k < LISTS; k++) wtf8_free(&strings[k]);
 }
 
 /* A long string with marks, in which units are replaced about its marks. */

@@ -111,6 +111,12 @@ int main(int argc, char **argv) {
     COUNT_OK(insert_units, wtf8_insert_units(&s, n - FEW, units, FEW));
     COUNT_OK(replace_units, wtf8_replace_units(&s, n - FEW, n, other, FEW));
     COUNT_OK(remove_units, wtf8_remove_units(&s, n - FEW, n));
+    /* 64 units after a mark, at both lengths. */
+    while (wtf8_unit_len(&s) % 128 != 64) must(wtf8_push_unit(&s, 'a') == WTF8_OK, "a unit");
+    size_t end = wtf8_unit_len(&s);
+    must(wtf8_reserve_bytes(&s, 999) == WTF8_OK, "room for a part");
+    COUNT_OK(insert, wtf8_insert(&s, end - FEW, &part));
+    COUNT_OK(replace, wtf8_replace(&s, end - FEW, end, &part));
 
     /* Linear in what they hand out. */
     COUNT_OK(copy_slice, wtf8_copy_slice(&same, index, index + FEW, out, FEW, &len));

@@ -91,6 +91,10 @@ def wrong_pairs():
             edited, begin = copy.copy(one), len(units) // 3
             edited.replace(begin, at, other)
             same = same and edited.units() == units[:begin] + others + units[at:]
+            edited, inserted = copy.copy(one), copy.copy(one)
+            edited.replace(begin, at, two)
+            inserted.insert(at, inserted)
+            same = same and edited.units() == units[:begin] + others + units[at:] and inserted.units() == units[:at] + units + units[at:]
             copied = copy.copy(one)
             copied += "x"
             if not same or copied == one or String.__hash__ is not None:

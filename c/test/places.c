@@ -148,6 +148,13 @@ static void edit(wtf8_string *string, const wtf8_string *of, uint64_t hash, size
     must(wtf8_replace_units(string, middle, n, list.units, middle) == WTF8_OK, "replace_units");
     must(wtf8_replace_units(string, middle, 2 * middle, list.units + middle, n - middle) == WTF8_OK, "replace_units again");
     must_be_list(string, hash, "a string with units replaced");
+    static wtf8_string part;
+    must(wtf8_slice_units(&part, of, middle, end) == WTF8_OK && wtf8_remove_units(string, middle, end) == WTF8_OK, "a part to insert");
+    must(wtf8_insert(string, middle, &part) == WTF8_OK, "insert");
+    must_be_list(string, hash, "a string with a part inserted");
+    must(wtf8_replace(string, end, n, of) == WTF8_OK && wtf8_replace(string, 0, end, &part) == WTF8_OK, "replace");
+    must(wtf8_replace(string, 0, end - middle, of) == WTF8_OK && wtf8_truncate_units(string, n) == WTF8_OK, "replace again");
+    must_be_list(string, hash, "a string with parts replaced");
 }
 
 /* Finds the unit at `place`, and the units from there on. */

@@ -8,7 +8,7 @@
 
 enum call {
     SET_UNITS, SET_UTF8, SET_LATIN1, SET_STRING, CLEAR, MOVE, FREE, RESERVE, PUSH_UNIT, PUSH_POINT, PUSH_POINTS, PUSH_UNITS,
-    PUSH_LATIN1, PUSH_UTF8, PUSH_PART, PUSH_STRING, PUSH_SLICE, EDIT, MARK, FILL, SHRINK, TRUNCATE_UNITS, TRUNCATE_BYTES, POP,
+    PUSH_LATIN1, PUSH_UTF8, PUSH_PART, PUSH_STRING, PUSH_SLICE, EDIT, INSERT, MARK, FILL, SHRINK, TRUNCATE_UNITS, TRUNCATE_BYTES, POP,
     SLICE, ALIKE,
     /* Calls that only read. */
     UNIT_LEN, CAPACITY, POSITION_AT, UNIT_BEFORE, UNIT_AT, IS_BOUNDARY, NEXT, PREVIOUS, POINT_BEFORE, NEXT_SURROGATE, UTF8_UNIT_LEN,
@@ -407,6 +407,18 @@ static void step(enum call call, struct pair *p, struct pair *q) {
             if (code == WTF8_OK) replace(p, asked.units, asked.n);
             break;
         }
+        case INSERT: {
+            size_t a = below((uint32_t)p->n + 2), b = below(2) ? an_index(p->n) : a;
+            int in_range = a <= b && b <= p->n;
+            replace(&asked, p->units, p->n);
+            if (in_range) splice(&asked, a, b, q->units, q->n);
+            size_t before = byte_len(p), after = byte_len(&asked);
+            needs_none = p != q && in_range && refuse_if_fits(p, before < after ? after - before : 0);
+            code = a == b && below(2) ? wtf8_insert(&p->string, a, &q->string) : wtf8_replace(&p->string, a, b, &q->string);
+            must(code == WTF8_NO_MEMORY || (code == WTF8_BAD_POSITION) == !in_range, "insert, replace");
+            if (code == WTF8_OK) replace(p, asked.units, asked.n);
+            break;
+        }
         case MARK:
             if (below(2)) refuse_after = 0;
             code = wtf8_mark(&p->string);
@@ -737,7 +749,7 @@ static void step(enum call call, struct pair *p, struct pair *q) {
     must(!needs_none || may_ask_for_marks || requests == requested, "a call that needs no memory requests it");
     int is_in_place = call <= SET_STRING && needs_none;
     must(!is_in_place || wtf8_capacity(&p->string) == capacity, "the capacity of a string that is set in place");
-    int is_append = PUSH_UNIT <= call && call <= EDIT;
+    int is_append = PUSH_UNIT <= call && call <= INSERT;
     if (is_append || call == MARK || call == RESERVE) {
         size_t now = wtf8_capacity(&p->string);
         must(capacity <= now, "the capacity is less after a call that appends");
@@ -773,7 +785,8 @@ int main(int count, char **words) {
         {PUSH_POINT, WTF8_BAD_CODE_POINT}, {PUSH_UNITS, WTF8_NO_MEMORY}, {PUSH_LATIN1, WTF8_NO_MEMORY},
         {PUSH_UTF8, WTF8_NO_MEMORY}, {PUSH_UTF8, WTF8_NOT_UTF8}, {PUSH_PART, WTF8_NO_MEMORY},
         {PUSH_STRING, WTF8_NO_MEMORY}, {PUSH_SLICE, WTF8_NO_MEMORY},
-        {PUSH_SLICE, WTF8_BAD_POSITION}, {EDIT, WTF8_NO_MEMORY}, {EDIT, WTF8_BAD_POSITION}, {POSITION_AT, WTF8_BAD_POSITION}, {UNIT_AT, WTF8_BAD_POSITION},
+        {PUSH_SLICE, WTF8_BAD_POSITION}, {EDIT, WTF8_NO_MEMORY}, {EDIT, WTF8_BAD_POSITION},
+        {INSERT, WTF8_NO_MEMORY}, {INSERT, WTF8_BAD_POSITION}, {POSITION_AT, WTF8_BAD_POSITION}, {UNIT_AT, WTF8_BAD_POSITION},
         {NEXT_SURROGATE, WTF8_BAD_POSITION}, {NEXT_SURROGATE, WTF8_END}, {NEXT, WTF8_BAD_POSITION}, {NEXT, WTF8_END}, {PREVIOUS, WTF8_BAD_POSITION}, {PREVIOUS, WTF8_END},
         {TRUNCATE_UNITS, WTF8_BAD_POSITION}, {TRUNCATE_BYTES, WTF8_BAD_POSITION}, {POP, WTF8_END}, {SLICE, WTF8_NO_MEMORY},
         {SLICE, WTF8_BAD_POSITION}, {COPY_UNITS, WTF8_ARRAY_TOO_SHORT}, {COPY_SLICE, WTF8_BAD_POSITION},

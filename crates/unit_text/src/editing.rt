@@ -1,12 +1,13 @@
-// Code units inserted, removed and replaced at any index, also inside a surrogate pair.
+// Code units inserted, removed and replaced at any index, also inside a surrogate pair, by units or by a string.
 ghost use Rattle.std.specs.Prelude.{◌≡◌, ◌≤◌, length, OnOk, OnErr, IsOk, [], ℕ};
 ghost use Rattle.wtf8.specs.Appending.{KeepsContents, FitWithin};
 ghost use Rattle.wtf8.specs.Editing.{spliced};
+ghost use Rattle.wtf8.specs.View.{view_units};
 
 use crate::indexed::IndexedBuf;
 use crate::marks::{self, CountedView};
 use std::alloc::{AllocError, Allocator};
-use wtf8::laws;
+use wtf8::{Wtf8, laws};
 
 impl<A: Allocator> IndexedBuf<A> {
     /// Inserts code units, paired or not, before the one at index `index`, which must be at most the length. Inside a
@@ -65,6 +66,61 @@ impl<A: Allocator> IndexedBuf<A> {
         // There are no more units than bytes, so the sum fits.
         prove!(self.text.len() <= usize::MAX);
         self.count = begin + units.len() + (self.count - end);
+        laws::law_marks();
+        let text = CountedView::new(&self.text, self.count);
+        marks::renew_after(text, &mut self.marks, begin);
+        Ok(())
+    }
+
+    /// Inserts a string before the code unit at index `index`, which must be at most the length, as `insert_units` does
+    /// units. The string's bytes are copied.
+    pub fn insert(&mut self, index: usize, text: Wtf8<'_>) -> Result<(), AllocError>
+        requires { index ≤ length self.old.units }
+        ensures ok { OnOk result (self.new.units ≡ spliced self.old.units index index (view_units text.entry)) }
+        ensures kept { OnErr result (KeepsContents self.old self.new) }
+        ensures room { FitWithin (spliced self.old.units index index (view_units text.entry)) 0 self.old.capacity → IsOk result }
+        ensures capacity { self.old.capacity ≤ self.new.capacity }
+    {
+        self.replace(index, index, text)
+    }
+
+    /// Replaces the code units from index `begin` to before `end`, which must be in order and at most the length, by a
+    /// string, as `replace_units` does by units. The string's bytes are copied, and its units counted.
+    pub fn replace(&mut self, begin: usize, end: usize, text: Wtf8<'_>) -> Result<(), AllocError>
+        requires order { begin ≤ end }
+        requires within { end ≤ length self.old.units }
+        ensures ok { OnOk result (self.new.units ≡ spliced self.old.units begin end (view_units text.entry)) }
+        ensures kept { OnErr result (KeepsContents self.old self.new) }
+        ensures room { FitWithin (spliced self.old.units begin end (view_units text.entry)) 0 self.old.capacity → IsOk result }
+        ensures capacity { self.old.capacity ≤ self.new.capacity }
+    {
+        self.replace_counted(begin, end, text, text.unit_len())
+    }
+
+    /// Replaces the code units from index `begin` to before `end` by a string of `count` code units, as `replace` does,
+    /// but does not count them.
+    pub fn replace_counted(
+        &mut self,
+        begin: usize,
+        end: usize,
+        text: Wtf8<'_>,
+        count: usize,
+    ) -> Result<(), AllocError>
+        requires order { begin ≤ end }
+        requires within { end ≤ length self.old.units }
+        requires count { count ≡ length (view_units text) }
+        ensures ok { OnOk result (self.new.units ≡ spliced self.old.units begin end (view_units text.entry)) }
+        ensures kept { OnErr result (KeepsContents self.old self.new) }
+        ensures room { FitWithin (spliced self.old.units begin end (view_units text.entry)) 0 self.old.capacity → IsOk result }
+        ensures capacity { self.old.capacity ≤ self.new.capacity }
+    {
+        let marked = self.marked();
+        let from = marked.mark_at(begin);
+        let to = marked.mark_after(from, end);
+        self.text.replace_at(from, begin, to, end, text)?;
+        // There are no more units than bytes, so the sum fits.
+        prove!(self.text.len() <= usize::MAX);
+        self.count = begin + count + (self.count - end);
         laws::law_marks();
         let text = CountedView::new(&self.text, self.count);
         marks::renew_after(text, &mut self.marks, begin);

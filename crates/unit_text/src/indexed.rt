@@ -53,6 +53,7 @@ impl<A: Allocator> IndexedBuf<A> {
     pub fn new(alloc: A) -> IndexedBuf<A>
         ensures units { result.units ≡ [] }
         ensures bytes { result.bytes ≡ [] }
+        ensures capacity { result.capacity ≡ 0 }
     {
         IndexedBuf::counted(Wtf8Buf::new(alloc), 0)
     }

@@ -2,6 +2,7 @@ pub mod EncodedLengths
 pub mod Cuts
 pub mod Decoding
 pub mod EncodedBytes
+pub mod Middles
 pub mod PackedUnits
 pub mod Prefixes
 pub mod Search

@@ -2,6 +2,7 @@
 ghost use Rattle.std.specs.Prelude.{◌≡◌, [], ◌⊎◌, ◌≤◌, ◌<◌, ◌↔◌, length};
 ghost use Rattle.wtf8.specs.Appending.{KeepsContents, FitWithin};
 ghost use Rattle.wtf8.specs.Editing.{spliced};
+ghost use Rattle.wtf8_c.specs.Kept.{IsKept};
 
 use crate::codes::{BAD_POSITION, NO_MEMORY, OK, code_of};
 use crate::handle::Wtf8String;
@@ -63,4 +64,44 @@ pub extern "C" fn wtf8_replace_units(
         return BAD_POSITION;
     }
     code_of(buf.replace_units(begin, end, units))
+}
+
+/// Inserts another string before the unit at index `index`.
+#[unsafe(no_mangle)]
+pub extern "C" fn wtf8_insert(string: &mut Wtf8String, index: usize, other: &mut Wtf8String) -> i32
+    ensures code { (result ≡ OK) ⊎ ((result ≡ NO_MEMORY) ⊎ (result ≡ BAD_POSITION)) }
+    ensures position { result ≡ BAD_POSITION ↔ length string.old.buf.units < index }
+    ensures ok { result ≡ OK → string.new.buf.units ≡ spliced string.old.buf.units index index other.old.buf.units }
+    ensures kept { ¬ (result ≡ OK) → KeepsContents string.old.buf string.new.buf }
+    ensures other { IsKept other.old other.new }
+    ensures room { index ≤ length string.old.buf.units → FitWithin (spliced string.old.buf.units index index other.old.buf.units) 0 string.old.buf.capacity → result ≡ OK }
+    ensures capacity { string.old.buf.capacity ≤ string.new.buf.capacity }
+    ensures lies { string.new.at ≡ string.old.at }
+{
+    wtf8_replace(string, index, index, other)
+}
+
+/// Replaces the units from index `begin` to before `end` by another string.
+#[unsafe(no_mangle)]
+pub extern "C" fn wtf8_replace(
+    string: &mut Wtf8String,
+    begin: usize,
+    end: usize,
+    other: &mut Wtf8String,
+) -> i32
+    ensures code { (result ≡ OK) ⊎ ((result ≡ NO_MEMORY) ⊎ (result ≡ BAD_POSITION)) }
+    ensures position { result ≡ BAD_POSITION ↔ ¬ ((begin ≤ end) × (end ≤ length string.old.buf.units)) }
+    ensures ok { result ≡ OK → string.new.buf.units ≡ spliced string.old.buf.units begin end other.old.buf.units }
+    ensures kept { ¬ (result ≡ OK) → KeepsContents string.old.buf string.new.buf }
+    ensures other { IsKept other.old other.new }
+    ensures room { (begin ≤ end) × (end ≤ length string.old.buf.units) → FitWithin (spliced string.old.buf.units begin end other.old.buf.units) 0 string.old.buf.capacity → result ≡ OK }
+    ensures capacity { string.old.buf.capacity ≤ string.new.buf.capacity }
+    ensures lies { string.new.at ≡ string.old.at }
+{
+    let own = string.buffer();
+    if end < begin || own.unit_len() < end {
+        return BAD_POSITION;
+    }
+    let new = other.buffer();
+    code_of(own.replace_counted(begin, end, new.as_wtf8(), new.unit_len()))
 }

@@ -76,7 +76,7 @@ pub extern "C" fn wtf8_init(alloc: Global, room: &mut Room)
     ensures capacity { IfSome room.new.buf (λ b. b.capacity ≡ 0) }
     ensures lies { room.new.at ≡ room.old.at }
 {
-    room.fill(empty(alloc));
+    room.fill(IndexedBuf::new(alloc));
 }
 
 /// Writes a buffer of units, with just the bytes that they take, where there is none.
@@ -97,21 +97,6 @@ pub extern "C" fn wtf8_init_units(alloc: Global, room: &mut Room, units: &[u16])
         }
         Err(_) => NO_MEMORY,
     }
-}
-
-/// A buffer that owns no memory.
-pub(crate) fn empty(alloc: Global) -> IndexedBuf<Global>
-    ensures units { result.units ≡ [] }
-    ensures bytes { result.bytes ≡ [] }
-    ensures capacity { result.capacity ≡ 0 }
-{
-    let mut made = IndexedBuf::new(alloc);
-    // No branch in the program: what `new` makes has no capacity, which its contract does not say.
-    if made.capacity() == 0 {
-        return made;
-    }
-    made.shrink_to_fit();
-    made
 }
 
 /// The number of bytes of a buffer: the size of the struct in `c/wtf8.h`, as `c/build` makes sure.

@@ -7,7 +7,7 @@ ghost use Rattle.wtf8.specs.Unicode.{units};
 ghost use Rattle.wtf8_c.specs.Kept.{IsKept};
 
 use crate::codes::{NO_MEMORY, NOT_UTF8, OK, code_of};
-use crate::handle::{Wtf8String, empty};
+use crate::handle::Wtf8String;
 use crate::latin1::set_bytes;
 use std::alloc::{AllocError, Global};
 use unit_text::IndexedBuf;
@@ -179,7 +179,7 @@ pub extern "C" fn wtf8_free(alloc: Global, string: &mut Wtf8String)
     ensures capacity { string.new.buf.capacity ≡ 0 }
     ensures lies { string.new.at ≡ string.old.at }
 {
-    *string.buffer() = empty(alloc);
+    *string.buffer() = IndexedBuf::new(alloc);
 }
 
 /// Reserves capacity for at least `additional` more bytes.

@@ -1,13 +1,18 @@
-// Code units replaced in the middle of a string: at each spare capacity, with every request for memory refused.
+// Code units replaced in the middle of a string, by units and by a string: at each spare capacity, with every request for
+// memory refused.
 use refusing::{Lent, Refusing};
 use std::alloc::{AllocError, Allocator, Global};
-use wtf8::Wtf8Buf;
+use wtf8::{Wtf8, Wtf8Buf};
 use wtf8_tests::examples::expect_units;
 use wtf8_tests::unit_edits::{EDITS, Edit};
 use wtf8_tests::wrong::{Failed, Wrong, expect, expect_bytes, in_row};
 
-/// Replaces the units of a row.
-fn replace<A: Allocator>(text: &mut Wtf8Buf<A>, edit: Edit) -> Result<(), AllocError> {
+/// Replaces the units of a row, by the string if one is given.
+fn replace<A: Allocator>(
+    text: &mut Wtf8Buf<A>,
+    edit: Edit,
+    new: Option<Wtf8<'_>>,
+) -> Result<(), AllocError> {
     let view = text.as_wtf8();
     let (begin, end) = (edit.begin, edit.end);
     if end < begin || view.unit_len() < end {
@@ -15,7 +20,10 @@ fn replace<A: Allocator>(text: &mut Wtf8Buf<A>, edit: Edit) -> Result<(), AllocE
     }
     let from = view.mark_at(view.start_mark(), begin);
     let to = view.mark_at(view.start_mark(), end);
-    text.replace_units_at(from, begin, to, end, edit.new)
+    match new {
+        Some(new) => text.replace_at(from, begin, to, end, new),
+        None => text.replace_units_at(from, begin, to, end, edit.new),
+    }
 }
 
 /// The string of the row's units, with a capacity of `capacity` bytes, or of what they need.
@@ -40,6 +48,7 @@ fn expect_replaced(
     alloc: Global,
     heap: Lent<'_>,
     edit: Edit,
+    new: Option<Wtf8<'_>>,
     (len, capacity): (usize, usize),
 ) -> Result<(), Failed> {
     let Ok(mut text) = with_capacity(heap, edit, capacity) else {
@@ -47,7 +56,7 @@ fn expect_replaced(
     };
     let fits = len <= text.capacity();
     heap.grant(0);
-    if replace(&mut text, edit).is_ok() != fits {
+    if replace(&mut text, edit, new).is_ok() != fits {
         return Err(Failed::by(Wrong::Outcome));
     }
     expect((heap.requests() == 0) == fits, Wrong::Requests)?;
@@ -60,8 +69,10 @@ fn expect_replaced(
 /// Fails unless the row's units are replaced just if the bytes fit, at each capacity up to what is needed.
 fn expect_row(alloc: Global, heap: Lent<'_>, edit: Edit) -> Result<(), Failed> {
     let len = edit.dump.len().wrapping_add(1) / 3;
+    let new = Wtf8Buf::from_ill_formed_utf16(alloc, edit.new)?;
     for capacity in 0..=len {
-        expect_replaced(alloc, heap, edit, (len, capacity))?;
+        expect_replaced(alloc, heap, edit, None, (len, capacity))?;
+        expect_replaced(alloc, heap, edit, Some(new.as_wtf8()), (len, capacity))?;
     }
     Ok(())
 }

@@ -1,5 +1,6 @@
 // `Wtf8Buf`, the owned string.
 ghost use Rattle.std.specs.Prelude.{◌≡◌, ℕ, List, [], ◌∷◌, ◌++◌, ◌+◌, ◌*◌, ◌<◌, ◌≤◌, length, take, IsTrue, OnOk, OnErr, IsOk, IfOk, IfErr, ◌↔◌, vec_capacity, if◌then◌else◌};
+ghost use Rattle.std.specs.List.{All};
 ghost use Rattle.std.specs.Str.{chars};
 ghost use Rattle.std.specs.String.{string_bytes};
 ghost use Rattle.wtf8.specs.Appending.{AppendsUnits, KeepsContents, HasRoomFor, AddsLength, FitWithin};
@@ -10,9 +11,10 @@ ghost use Rattle.wtf8.specs.Form.{IsWellFormed, IsForm, Reads, bytes, encoding};
 ghost use Rattle.wtf8.specs.OneForm.{IsWellFormed-prop, form_of};
 ghost use Rattle.wtf8.specs.Position.{IsBoundary, IsFront};
 ghost use Rattle.wtf8.specs.Surrogates.{AreScalar, lossy_points};
+ghost use Rattle.wtf8.specs.private.Middles.{middle_units};
 ghost use Rattle.wtf8.specs.private.Prefixes.{AreScalarTo, AreScalarTo-prop};
 ghost use Rattle.wtf8.specs.private.Search.{IsFirst, SurrogateAt};
-ghost use Rattle.wtf8.specs.Unicode.{units, units_of};
+ghost use Rattle.wtf8.specs.Unicode.{IsUnit, units, units_of};
 ghost use Rattle.std.specs.Option.{option_to_list};
 ghost use Rattle.wtf8.specs.UnitMark.{IsMark, RoundsDownTo};
 ghost use Rattle.wtf8.specs.UnitPosition.{units_of_slice, TruncatesUnits};
@@ -25,6 +27,7 @@ use crate::codec::encoding;
 use crate::from_utf16::transcode;
 use crate::lanes::search;
 use crate::strings::lossy::{self, replace_surrogates};
+use crate::strings::middle::Middle;
 use crate::strings::utf8_prefix::Utf8Prefix;
 use crate::strings::view::Wtf8;
 use crate::strings::{appending, editing};
@@ -95,6 +98,7 @@ impl<A: Allocator> Wtf8Buf<A> {
     pub fn new(alloc: A) -> Wtf8Buf<A>
         ensures units { result.units ≡ [] }
         ensures bytes { result.bytes ≡ [] }
+        ensures capacity { result.capacity ≡ 0 }
     {
         from_well_formed(Vec::new(alloc), Utf8Prefix::ALL)
     }
@@ -516,6 +520,53 @@ impl<A: Allocator> Wtf8Buf<A> {
         ensures room { FitWithin (spliced self.old.units begin end units.now) 0 self.old.capacity → IsOk result }
         ensures capacity { self.old.capacity ≤ self.new.capacity }
     {
+        self.replace_middle(from, begin, to, end, Middle::Units(units))
+    }
+
+    /// Replaces the code units from index `begin` to before `end` by a string, as `replace_units_at` does by units, but
+    /// copies its bytes.
+    pub fn replace_at(
+        &mut self,
+        from: UnitMark,
+        begin: usize,
+        to: UnitMark,
+        end: usize,
+        text: Wtf8<'_>,
+    ) -> Result<(), AllocError>
+        requires order { begin ≤ end }
+        requires from { IsMark self.old.bytes self.old.units from.position from.units }
+        requires begin { RoundsDownTo self.old.units begin from.units }
+        requires to { IsMark self.old.bytes self.old.units to.position to.units }
+        requires end { RoundsDownTo self.old.units end to.units }
+        ensures ok { OnOk result (self.new.units ≡ spliced self.old.units begin end (view_units text.entry)) }
+        ensures kept { OnErr result (KeepsContents self.old self.new) }
+
+        ensures room { FitWithin (spliced self.old.units begin end (view_units text.entry)) 0 self.old.capacity → IsOk result }
+        ensures capacity { self.old.capacity ≤ self.new.capacity }
+    {
+        self.replace_middle(from, begin, to, end, Middle::View(text))
+    }
+
+    /// `replace_units_at` and `replace_at`, by units in either form.
+    fn replace_middle(
+        &mut self,
+        from: UnitMark,
+        begin: usize,
+        to: UnitMark,
+        end: usize,
+        middle: Middle<'_>,
+    ) -> Result<(), AllocError>
+        requires order { begin ≤ end }
+        requires from { IsMark self.old.bytes self.old.units from.position from.units }
+        requires begin { RoundsDownTo self.old.units begin from.units }
+        requires to { IsMark self.old.bytes self.old.units to.position to.units }
+        requires end { RoundsDownTo self.old.units end to.units }
+        requires units { All IsUnit (middle_units middle) }
+        ensures ok { OnOk result (self.new.units ≡ spliced self.old.units begin end (middle_units middle.entry)) }
+        ensures kept { OnErr result (KeepsContents self.old self.new) }
+        ensures room { FitWithin (spliced self.old.units begin end (middle_units middle.entry)) 0 self.old.capacity → IsOk result }
+        ensures capacity { self.old.capacity ≤ self.new.capacity }
+    {
         let view = self.as_wtf8();
         let before = view.cut_before(from, begin);
         let after = view.cut_after(to, end);
@@ -525,7 +576,7 @@ impl<A: Allocator> Wtf8Buf<A> {
             before.position,
             after.position,
             before.surrogate,
-            units,
+            middle,
             after.surrogate,
         )
     }

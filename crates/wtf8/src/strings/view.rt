@@ -296,4 +296,29 @@ impl<'a> Wtf8<'a> {
             _ => None,
         }
     }
+
+    /// The trail surrogate that the string begins with, and the string after it.
+    pub(crate) fn split_initial_trail(self) -> Option<(u16, Wtf8<'a>)>
+        ensures trail { IfSome result (λ x. IsTrail x.0) }
+        ensures joined { IfSome result (λ x. view_units self.entry ≡ x.0 ∷ view_units x.1) }
+        ensures none { IfNone result ((t : ℕ) (r : List ℕ) → IsTrail t → view_units self.entry ≡ t ∷ r → ⊥) }
+    {
+        let Some(trail) = self.initial_trail_surrogate() else {
+            return None;
+        };
+        Some((trail as u16, self.skip_bytes(3)))
+    }
+
+    /// The lead surrogate that the string ends with, and the string before it.
+    pub(crate) fn split_final_lead(self) -> Option<(Wtf8<'a>, u16)>
+        ensures lead { IfSome result (λ x. IsLead x.1) }
+        ensures joined { IfSome result (λ x. view_units self.entry ≡ view_units x.0 ++ x.1 ∷ []) }
+        ensures none { IfNone result ((f : List ℕ) (l : ℕ) → IsLead l → view_units self.entry ≡ f ++ l ∷ [] → ⊥) }
+    {
+        let Some(lead) = self.final_lead_surrogate() else {
+            return None;
+        };
+        let (front, _) = self.bytes.split_at(self.bytes.len() - 3);
+        Some((Wtf8::from_well_formed(front), lead as u16))
+    }
 }

@@ -4,15 +4,51 @@ use Rattle.wtf8.proofs.Common.{take_at, drop_at, drop-drop, drop_all, length-tak
 use Rattle.wtf8.proofs.Common.{◌*◌, units, bytes, form_of, IsWellFormed, MeetsAsPair}
 use Rattle.wtf8.proofs.Common.{Option, Some, None, IfSome, option_to_list, All-nil, All-cons, Result, Ok, Err, OnOk, OnErr, IsOk, UnitString}
 use Rattle.wtf8.proofs.Common.{KeepsContents, FitWithin, AreScalarTo, vec_capacity, on_ok_weaker, on_err_weaker, well_formed_of, bytes-injective}
+use Rattle.wtf8.proofs.Common.{◌∷◌, ◌-◌, encoding, IsLead, IsTrail, take_all}
+use Rattle.std.proofs.lemmas.Slice.{put_mid-paste}
 use Rattle.std.specs.declared.vec.Vec.{Vec}
+use borrow.Rule.Slice.PartMut.{put_mid}
 use Rattle.wtf8.specs.Editing.{spliced}
 use Rattle.wtf8.specs.private.EncodedBytes.{BecomesOrKeeps}
-use Rattle.wtf8.proofs.lemmas.codec.Encoding.{bytes-append}
+use Rattle.wtf8.proofs.lemmas.codec.Encoding.{bytes-append, bytes-pushed, length-surrogate}
 use Rattle.wtf8.specs.private.Cuts.{WritesForm, CutsBefore, CutsAfter}
 use Rattle.wtf8.proofs.lemmas.codec.Readings.{form_append-unpaired, lists_have_lengths, same_form, units_from_form, IsWellFormed-equal_bytes}
+use Rattle.wtf8.proofs.lemmas.lanes.Moves.{paste_is}
 use Rattle.wtf8.proofs.lemmas.strings.Concatenation.{one_form, units_read}
 use Rattle.wtf8.proofs.lemmas.strings.ExtendedForms.{all_back, beginning_of_form, scalar_to-append, scalar_to-front}
 use Rattle.wtf8.proofs.lemmas.strings.Positions.{cut_by}
+
+-- Strings less a surrogate at an end.
+
+pub after_trail : {w : List ℕ} (h : IsWellFormed w) (t : ℕ) (r : List ℕ) → IsTrail t → h.points ≡ t ∷ r
+    → (3 ≤ length w) × ((rest : IsWellFormed (drop 3 w)) × (rest.points ≡ r))
+after_trail h t r trail e =
+    let three = length-surrogate t (omega (arith, trail), omega (arith, trail)) in
+    let cut = cut_by h (t ∷ []) r 3 e (omega (arith, length-append (encoding t) [], three)) in (cut.within, (cut.after, cut.after_points))
+
+pub before_lead : {w : List ℕ} (h : IsWellFormed w) (f : List ℕ) (l : ℕ) → IsLead l → h.points ≡ f ++ l ∷ []
+    → (3 ≤ length w) × ((front : IsWellFormed (take (length w - 3) w)) × (front.points ≡ f))
+before_lead {w} h f l lead e =
+    let three = length-surrogate l (omega (arith, lead), omega (arith, lead)) in
+    let size : length (bytes f) + 3 ≡ length w = omega (
+      arith,
+      ap length h.encoded,
+      ap (λ d. length (bytes d)) e,
+      ap length (bytes-pushed f l),
+      length-append (bytes f) (encoding l),
+      three,
+    ) in
+    let cut = cut_by h f (l ∷ []) (length w - 3) e (omega (arith, size)) in (omega (arith, size), (cut.before, cut.before_points))
+
+-- Bytes written over others.
+
+pub placed : (now new piece : List ℕ) (at n : ℕ) → new ≡ piece → length piece ≡ n → at + n ≤ length now
+    → put_mid at (at + n - at) now new ≡ take at now ++ (piece ++ drop (at + length piece) now)
+placed now new piece at n e size fits =
+    put_mid-paste at (at + n - at) now new piece n e (omega arith) (omega (arith, size))
+    ∙ (paste_is now at piece n (omega (arith, fits)) (omega (arith, size))
+    ∙ (ap (λ p. take at now ++ (p ++ drop (at + n) now)) (take_all n piece (omega (arith, size)))
+    ∙ ap (λ k. take at now ++ (piece ++ drop (at + k) now)) (sym size)))
 
 -- Writing the form of a list of units, part by part.
 

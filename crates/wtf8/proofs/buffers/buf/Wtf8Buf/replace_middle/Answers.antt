@@ -2,15 +2,15 @@ use Rattle.wtf8.proofs.Common.{◌≡◌, ◌∙◌, ◌++◌, ℕ, List, ap, sy
 use Rattle.std.proofs.lemmas.List.Elements.{All-append}
 use Rattle.wtf8.specs.Editing.{spliced}
 use Rattle.wtf8.specs.private.EncodedBytes.{BecomesOrKeeps}
+use Rattle.wtf8.specs.private.Middles.{middle_units}
 use Rattle.wtf8.proofs.lemmas.codec.Encoding.{bytes-append}
 use Rattle.wtf8.proofs.lemmas.codec.Readings.{same_points}
 use Rattle.wtf8.proofs.lemmas.strings.Concatenation.{one_form}
 use Rattle.wtf8.proofs.lemmas.strings.Editing.{edited, room_for_form, some_weaker, unchanged, unit_of_surrogate, units_replaced, utf8_prefix_after_edit}
 use Rattle.wtf8.proofs.lemmas.strings.Positions.{cut_by}
-use Rattle.wtf8.proofs.lemmas.strings.PushedUnits.{are_units}
 use Rattle.wtf8.proofs.lemmas.units.UnitEdits.{rounded_in_order}
-use Rattle.wtf8.proofs.buffers.buf.Wtf8Buf.replace_units_at.Goals.{After-replace}
-use Rattle.wtf8.proofs.buffers.buf.Wtf8Buf.replace_units_at.Goals as goal
+use Rattle.wtf8.proofs.buffers.buf.Wtf8Buf.replace_middle.Goals.{After-replace}
+use Rattle.wtf8.proofs.buffers.buf.Wtf8Buf.replace_middle.Goals as goal
 
 pub replace-requires-clause-order : goal.replace-requires-clause-order
 replace-requires-clause-order g c =
@@ -24,15 +24,15 @@ replace-requires-clause-order g c =
 
 -- the surrogates beside the new units, and these
 abbrev middle : (g : _) → After-replace g → List ℕ
-middle g c = option_to_list c.cut_before-before.result.surrogate ++ (c.args.units.now ++ option_to_list c.cut_after-after.result.surrogate)
+middle g c = option_to_list c.cut_before-before.result.surrogate ++ (middle_units c.args.middle ++ option_to_list c.cut_after-after.result.surrogate)
 
 all : (g : _) (c : After-replace g) → All IsUnit (middle g c)
 all g c =
     let head = c.cut_before-before.result.surrogate in
     let tail = c.cut_after-after.result.surrogate in
-    All-append IsUnit (option_to_list head) (c.args.units.now ++ option_to_list tail)
+    All-append IsUnit (option_to_list head) (middle_units c.args.middle ++ option_to_list tail)
     (unit_of_surrogate head (some_weaker head (λ l lead. omega (arith, lead)) c.cut_before-before.ensures.lead))
-    (All-append IsUnit c.args.units.now (option_to_list tail) (are_units c.args.units.now c.type_inv.units)
+    (All-append IsUnit (middle_units c.args.middle) (option_to_list tail) c.requires.units
     (unit_of_surrogate tail (some_weaker tail (λ t trail. omega (arith, trail)) c.cut_after-after.ensures.trail)))
 
 points : (g : _) (c : After-replace g) → c.self.inside.well_formed.points ≡ c.as_wtf8-view.result.well_formed.points
@@ -45,9 +45,9 @@ whole g c =
     let old = c.self.inside.bytes.items in
     take c.cut_before-before.result.position old ++ ((one_form (middle g c) (all g c)).one ++ drop c.cut_after-after.result.position old)
 
-form : (g : _) (c : After-replace g) → IsForm (whole g c) (spliced c.args.self.now.units c.args.begin c.args.end c.args.units.now)
+form : (g : _) (c : After-replace g) → IsForm (whole g c) (spliced c.args.self.now.units c.args.begin c.args.end (middle_units c.args.middle))
 form g c = edited c.self.inside.well_formed (points g c) c.as_wtf8-view.ensures.units c.cut_before-before.ensures.cut
-    c.cut_after-after.ensures.cut c.args.units.now (one_form (middle g c) (all g c)).has
+    c.cut_after-after.ensures.cut (middle_units c.args.middle) (one_form (middle g c) (all g c)).has
 
 becomes : (g : _) (c : After-replace g) → BecomesOrKeeps c.self.inside.bytes (whole g c) c.replace.new.bytes c.replace.result
 becomes g c = let one = one_form (middle g c) (all g c) in c.replace.ensures one.one one.has

@@ -1,12 +1,10 @@
-use Rattle.wtf8.proofs.Common.{◌≡◌, ◌+◌, ◌-◌, ◌≤◌, ◌∙◌, ◌++◌, ap, sym, arith, length, length-take-le, length-drop, drop, take, take_all, take_rest, rules, subst, IsForm, List, ℕ}
-use Rattle.std.proofs.lemmas.Slice.{put_mid-paste}
+use Rattle.wtf8.proofs.Common.{◌≡◌, ◌+◌, ◌-◌, ◌≤◌, ◌++◌, ap, arith, length, length-take-le, length-drop, drop, take, take_rest, rules, subst, IsForm, List, ℕ}
 use borrow.Rule.Slice.PartMut.{put_mid}
 use Rattle.wtf8.specs.private.Cuts.{WritesForm}
-use Rattle.wtf8.proofs.lemmas.lanes.Moves.{paste_is}
-use Rattle.wtf8.proofs.lemmas.strings.Editing.{room_for_piece, writes_more, writes_none, written}
+use Rattle.wtf8.proofs.lemmas.strings.Editing.{placed, room_for_piece, writes_more, writes_none, written}
 use Rattle.wtf8.proofs.lemmas.strings.PushedUnits.{are_units}
-use Rattle.wtf8.proofs.strings.editing.write_units.Goals.{After-encode_front-front}
-use Rattle.wtf8.proofs.strings.editing.write_units.Goals as goal
+use Rattle.wtf8.proofs.strings.middle.write_units.Goals.{After-encode_front-front}
+use Rattle.wtf8.proofs.strings.middle.write_units.Goals as goal
 
 pub loop-read-init : goal.loop-read-init
 loop-read-init c = writes_none c.args.out.now c.args.at c.args.v.now
@@ -49,18 +47,12 @@ loop-read-preserved c =
     let n = c.encode_front-front.result.bytes in
     let piece = take n c.encode_front-front.new.out in
     let size = part here in
-    let fits = within here in
-    let pasted = put_mid-paste to (to + n - to) now c.copy_from_slice.new.self piece n c.copy_from_slice.ensures.after
-    (omega arith) (omega (arith, size)) in
-    let placed : put_mid to (to + n - to) now c.copy_from_slice.new.self ≡ take to now ++ (piece ++ drop (to + length piece) now) =
-    pasted ∙ (paste_is now to piece n (omega (arith, fits)) (omega (arith, size))
-    ∙ (ap (λ p. take to now ++ (p ++ drop (to + n) now)) (take_all n piece (omega (arith, size)))
-    ∙ ap (λ k. take to now ++ (piece ++ drop (to + k) now)) (sym size))) in
+    let here_written = placed now c.copy_from_slice.new.self piece to n c.copy_from_slice.ensures.after size (within here) in
     subst (λ k. WritesForm c.args.out.now c.args.at c.args.v.now (c.loop-read.read + c.encode_front-front.result.units)
     (put_mid to (to + n - to) now c.copy_from_slice.new.self) (to + k)) size
     (writes_more (are_units c.args.v.now c.type_inv.v) c.loop-read.invariant c.requires piece c.encode_front-front.result.units
     (joins here)
-    (omega (arith, ap length (take_rest c.args.v.now c.loop-read.read), c.encode_front-front.ensures.within.0, length-drop c.loop-read.read c.args.v.now, c.loop-read.invariant.within)) placed)
+    (omega (arith, ap length (take_rest c.args.v.now c.loop-read.read), c.encode_front-front.ensures.within.0, length-drop c.loop-read.read c.args.v.now, c.loop-read.invariant.within)) here_written)
 
 pub returns : goal.returns
 returns c = written c.loop-read.invariant (omega (arith, c.loop-read-test.false))
