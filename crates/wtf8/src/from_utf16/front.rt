@@ -6,7 +6,7 @@ ghost use Rattle.wtf8.specs.private.Prefixes.{ReadsOn};
 
 use crate::from_utf16::kernel::{self, MIN_SPARE};
 use crate::from_utf16::transcode::MAX_POINT_BYTES;
-use crate::from_utf16::{BLOCK_UNITS, HALF_BLOCK, Progress, QUARTER_BLOCK, TWO_BLOCKS, on_stack};
+use crate::from_utf16::{Progress, QUARTER_BLOCK, TWO_BLOCKS, on_stack};
 use crate::lanes::ascii::{ascii_run_len, narrow_saturating};
 use std::simd::prelude::*;
 
@@ -19,22 +19,17 @@ pub struct EncodedFront {
     pub bytes: usize,
 }
 
-/// Writes the ASCII run in the next `N` units at index `len`. Returns the index after it and how far units are encoded.
+/// Writes the ASCII run in the next `TWO_BLOCKS` units at index `len`. Returns the index after it and how far units are
+/// encoded.
 #[inline(always)]
-fn write_ascii<const N: usize>(
-    v: &[u16],
-    from: Progress,
-    out: &mut [u8],
-    len: usize,
-) -> (usize, Progress)
-    requires lanes { (0 < N) × (N ≤ u64.BITS) }
-    requires within { from.at + N ≤ length v.now }
-    requires room { len + N ≤ length out.old }
-    ensures order { (from.at ≤ result.1.at) × (result.1.at ≤ from.at + N) }
+fn write_ascii(v: &[u16], from: Progress, out: &mut [u8], len: usize) -> (usize, Progress)
+    requires within { from.at + TWO_BLOCKS ≤ length v.now }
+    requires room { len + TWO_BLOCKS ≤ length out.old }
+    ensures order { (from.at ≤ result.1.at) × (result.1.at ≤ from.at + TWO_BLOCKS) }
     ensures end { result.0 + from.at ≡ len + result.1.at }
     ensures read { (w : List ℕ) → ReadsOn (w ++ take len out.old) (w ++ take result.0 out.new) v.now from.at from.is_utf8 result.1.at result.1.is_utf8 }
 {
-    let block = narrow_saturating(Simd::<u16, N>::from_slice(&v[from.at..]));
+    let block = narrow_saturating(Simd::<u16, TWO_BLOCKS>::from_slice(&v[from.at..]));
     block.copy_to_slice(&mut out[len..]);
     let count = ascii_run_len(block);
     let to = Progress {
@@ -44,29 +39,23 @@ fn write_ascii<const N: usize>(
     (len + count, to)
 }
 
-/// Writes the ASCII run in the next `N` units and the code point after it, if the run ends among them.
+/// Writes the ASCII run in the next `TWO_BLOCKS` units and the code point after it, if the run ends among them.
 #[inline(always)]
-fn write_run<const N: usize>(
-    v: &[u16],
-    from: Progress,
-    out: &mut [u8],
-    len: usize,
-) -> (usize, Progress)
-    requires lanes { (0 < N) × (N ≤ TWO_BLOCKS) }
-    requires within { from.at + N ≤ length v.now }
+fn write_run(v: &[u16], from: Progress, out: &mut [u8], len: usize) -> (usize, Progress)
+    requires within { from.at + TWO_BLOCKS ≤ length v.now }
     requires room { len + MIN_SPARE ≤ length out.old }
     ensures order { (from.at < result.1.at) × (result.1.at ≤ length v.now) }
     ensures end { result.0 ≤ length out.new }
     ensures read { (w : List ℕ) → ReadsOn (w ++ take len out.old) (w ++ take result.0 out.new) v.now from.at from.is_utf8 result.1.at result.1.is_utf8 }
 {
-    let (end, to) = write_ascii::<N>(v, from, out, len);
-    if to.at == from.at + N {
+    let (end, to) = write_ascii(v, from, out, len);
+    if to.at == from.at + TWO_BLOCKS {
         return (end, to);
     }
     on_stack::write_point(v, to, out, end)
 }
 
-/// Writes blocks at index `len`, of units that begin with one that is not ASCII.
+/// Writes blocks at index `len`.
 #[inline(always)]
 fn write_blocks(v: &[u16], from: Progress, out: &mut [u8], len: usize) -> (usize, Progress)
     requires within { from.at + QUARTER_BLOCK ≤ length v.now }
@@ -93,22 +82,10 @@ fn write_next(v: &[u16], from: Progress, out: &mut [u8], len: usize) -> (usize, 
     if left < QUARTER_BLOCK || out.len() - len < MIN_SPARE {
         return on_stack::write_point(v, from, out, len);
     }
-    if 0x80 <= v[from.at] {
-        if v[from.at + 1] < 0x80 || v[from.at + 2] < 0x80 {
-            // ASCII that follows soon is most often a run.
-            return on_stack::write_point(v, from, out, len);
-        }
-        return write_blocks(v, from, out, len);
+    if TWO_BLOCKS <= left && v[from.at] < 0x80 {
+        return write_run(v, from, out, len);
     }
-    if TWO_BLOCKS <= left {
-        write_run::<TWO_BLOCKS>(v, from, out, len)
-    } else if BLOCK_UNITS <= left {
-        write_run::<BLOCK_UNITS>(v, from, out, len)
-    } else if HALF_BLOCK <= left {
-        write_run::<HALF_BLOCK>(v, from, out, len)
-    } else {
-        write_run::<QUARTER_BLOCK>(v, from, out, len)
-    }
+    write_blocks(v, from, out, len)
 }
 
 /// Encodes code units from the front of a list on, paired or not, to the front of `out`, which must have room for four

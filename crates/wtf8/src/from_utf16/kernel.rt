@@ -24,8 +24,8 @@ ghost use Rattle.wtf8.specs.private.PackedUnits.{tagged_units, tagged_block, sca
 use crate::codec::code_point::{FIRST_LEAD, LEAD_KIND, SURROGATES_PER_HALF, TRAIL_KIND};
 use crate::from_utf16::room::{Growth, make_room};
 use crate::from_utf16::{BLOCK_UNITS, HALF_BLOCK, Progress, QUARTER_BLOCK, shuffle_table};
-use crate::lanes::padding;
 use crate::lanes::ascii::{is_ascii_block, narrow_saturating};
+use crate::lanes::padding;
 use std::alloc::{AllocError, Allocator};
 use std::simd::prelude::*;
 
@@ -230,19 +230,17 @@ fn write_block(units: u16x16, scratch: &mut [u8], len: usize) -> Written
     }
 }
 
-/// `write_block` of the units from index `at` on, in one store if they are ASCII. Their vector is tested only if the first and
-/// the last of them are ASCII, so prose of other letters takes 1.05 of the time, and Chinese and Korean in XML .7 to .8.
+/// `write_block`, by one store if the units are ASCII, which is tested if `may_be_ascii`: if the first and the last of them
+/// are ASCII. So prose of other letters takes 1.05 of the time, not 1.1, and Chinese and Korean in XML .7 to .8.
 #[inline(always)]
-fn write_next_block(v: &[u16], at: usize, scratch: &mut [u8], len: usize) -> Written
-    requires within { at + BLOCK_UNITS ≤ length v.now }
+fn write_any_block(units: u16x16, may_be_ascii: bool, scratch: &mut [u8], len: usize) -> Written
     requires room { len + MIN_SPARE ≤ length scratch.old }
-    ensures taken { let last = slice_index_or (take 16 (drop at v.now)) 15 0 in ((result.units ≡ 16) × ¬ (IsLead last)) ⊎ ((result.units ≡ 15) × IsLead last) }
+    ensures taken { ((result.units ≡ 16) × ¬ (IsLead (slice_index_or units 15 0))) ⊎ ((result.units ≡ 15) × IsLead (slice_index_or units 15 0)) }
     ensures within { result.end ≤ len + MAX_BLOCK_BYTES }
-    ensures bytes { take result.end scratch.new ≡ take len scratch.old ++ packed_units 0 (take result.units (tagged_block (take 16 (drop at v.now)))) }
-    ensures scalar { IsTrue result.is_utf8 → Each1 IsUnit (tagged_block (take 16 (drop at v.now))) }
+    ensures bytes { take result.end scratch.new ≡ take len scratch.old ++ packed_units 0 (take result.units (tagged_block units)) }
+    ensures scalar { IsTrue result.is_utf8 → Each1 IsUnit (tagged_block units) }
 {
-    let units = u16x16::from_slice(&v[at..]);
-    if (v[at] | v[at + BLOCK_UNITS - 1]) < 0x80 {
+    if may_be_ascii {
         let narrowed = narrow_saturating(units);
         if is_ascii_block(narrowed) {
             narrowed.copy_to_slice(&mut scratch[len..]);
@@ -303,7 +301,8 @@ fn write_last_block(units: &[u16], scratch: &mut [u8], len: usize) -> (usize, bo
     ensures bytes { take result.0 scratch.new ≡ take len scratch.old ++ packed_units 0 (tagged_units 0 units.now 0) }
     ensures form { IsKnownForm (packed_units 0 (tagged_units 0 units.now 0)) units.now result.1 }
 {
-    let written = write_block(padded(units), scratch, len);
+    let may_be_ascii = (units[0] | units[units.len() - 1]) < 0x80;
+    let written = write_any_block(padded(units), may_be_ascii, scratch, len);
     (written.end - (BLOCK_UNITS - units.len()), written.is_utf8)
 }
 
@@ -323,7 +322,9 @@ pub(crate) fn write_blocks(v: &[u16], at: usize, scratch: &mut [u8]) -> (usize, 
     let mut to = Progress { at, is_utf8: true };
     let mut len = 0;
     for _ in 0..blocks {
-        let written = write_next_block(v, to.at, scratch, len);
+        let may_be_ascii = (v[to.at] | v[to.at + BLOCK_UNITS - 1]) < 0x80;
+        let block = u16x16::from_slice(&v[to.at..]);
+        let written = write_any_block(block, may_be_ascii, scratch, len);
         len = written.end;
         to.at += written.units;
         to.is_utf8 &= written.is_utf8;

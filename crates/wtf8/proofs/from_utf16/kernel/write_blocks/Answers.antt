@@ -5,13 +5,13 @@ use Rattle.wtf8.proofs.from_utf16.kernel.write_blocks.Goals as goal
 pub loop-preserved : goal.loop-preserved
 loop-preserved c =
     let before = c.loop.invariant in
-    let own = c.write_next_block-written.ensures in
+    let own = c.write_any_block-written.ensures in
     let to = c.loop.to in
-    let written = c.write_next_block-written.result in
+    let written = c.write_any_block-written.result in
     let within : to.at + 16 ≤ length c.args.v.now = omega (arith, before.units, before.end, c.loop-test.true) in
     record {
       units = before.units;
-      room = omega (arith, before.room, c.write_next_block-written.auto.scratch);
+      room = omega (arith, before.room, c.write_any_block-written.auto.scratch);
       order = omega (arith, before.order, own.taken);
       end = omega (arith, before.end, own.taken);
       within = omega (arith, before.within, own.within);
