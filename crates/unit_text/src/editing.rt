@@ -5,9 +5,9 @@ ghost use Rattle.wtf8.specs.Editing.{spliced};
 ghost use Rattle.wtf8.specs.View.{view_units};
 
 use crate::indexed::IndexedBuf;
-use crate::marks::{self, CountedView};
+use crate::marks;
 use std::alloc::{AllocError, Allocator};
-use wtf8::{Wtf8, laws};
+use wtf8::Wtf8;
 
 impl<A: Allocator> IndexedBuf<A> {
     /// Inserts code units, paired or not, before the one at index `index`, which must be at most the length. Inside a
@@ -63,12 +63,8 @@ impl<A: Allocator> IndexedBuf<A> {
         let from = marked.mark_at(begin);
         let to = marked.mark_after(from, end);
         self.text.replace_units_at(from, begin, to, end, units)?;
-        // There are no more units than bytes, so the sum fits.
-        prove!(self.text.len() <= usize::MAX);
-        self.count = begin + units.len() + (self.count - end);
-        laws::law_marks();
-        let text = CountedView::new(&self.text, self.count);
-        marks::renew_after(text, &mut self.marks, begin);
+        let count = units.len();
+        marks::count_replaced(&self.text, &mut self.count, &mut self.marks, begin, end, count);
         Ok(())
     }
 
@@ -118,12 +114,7 @@ impl<A: Allocator> IndexedBuf<A> {
         let from = marked.mark_at(begin);
         let to = marked.mark_after(from, end);
         self.text.replace_at(from, begin, to, end, text)?;
-        // There are no more units than bytes, so the sum fits.
-        prove!(self.text.len() <= usize::MAX);
-        self.count = begin + count + (self.count - end);
-        laws::law_marks();
-        let text = CountedView::new(&self.text, self.count);
-        marks::renew_after(text, &mut self.marks, begin);
+        marks::count_replaced(&self.text, &mut self.count, &mut self.marks, begin, end, count);
         Ok(())
     }
 }

@@ -1,5 +1,5 @@
 // The marks of a text, from which a unit is found without counting from the front of the text.
-ghost use Rattle.std.specs.Prelude.{◌≡◌, ◌≢◌, ◌+◌, ◌-◌, ◌*◌, ◌/◌, ◌<◌, ◌≤◌, ℕ, List, length, vec_capacity, take, drop, IfSome, IsSome, IsTrue, ◌↔◌};
+ghost use Rattle.std.specs.Prelude.{◌≡◌, ◌≢◌, ◌+◌, ◌-◌, ◌*◌, ◌/◌, ◌<◌, ◌≤◌, ℕ, List, ◌++◌, length, vec_capacity, take, drop, IfSome, IsSome, IsTrue, ◌↔◌};
 ghost use Rattle.std.proofs.Props.{props};
 ghost use Rattle.unit_text.specs.Marks.{AreEnough, AreKept, AreMarks};
 ghost use Rattle.wtf8.specs.OneForm.{IsForm-prop};
@@ -153,6 +153,32 @@ pub(crate) fn count_more<A: Allocator>(
     laws::law_marks();
     *count += more;
     add_to_kept(CountedView::new(text, *count), marks);
+}
+
+/// Counts the units of a string in which those from index `begin` to before `end` were replaced by `new` others, and
+/// makes the marks after `begin` anew, if marks are kept. The marks of the old string before `begin` are marks of the new
+/// one.
+#[inline(always)]
+pub(crate) fn count_replaced<A: Allocator>(
+    text: &Wtf8Buf<A>,
+    count: &mut usize,
+    marks: &mut Option<MarkList<A>>,
+    begin: usize,
+    end: usize,
+    new: usize,
+)
+    requires order { begin ≤ end }
+    requires within { end ≤ count.old }
+    requires count { begin + new + (count.old - end) ≡ length text.now.units }
+    requires marks { (old : UnitString) × (rest : List ℕ) × ((begin ≤ length old.units) × (text.now.units ≡ take begin old.units ++ rest) × IfSome marks.old (λ m. AreMarks old.bytes old.units m.value.items (vec_capacity m.value))) }
+    ensures count { count.new ≡ length text.now.units }
+    ensures marks { IfSome marks.new (λ m. AreMarks text.now.bytes text.now.units m.value.items (vec_capacity m.value)) }
+{
+    // There are no more units than bytes, so the sum fits.
+    prove!(text.len() <= usize::MAX);
+    *count = begin + new + (*count - end);
+    laws::law_marks();
+    renew_after(CountedView::new(text, *count), marks, begin);
 }
 
 /// Leaves out the marks, if marks are kept, that are not before the last unit of a text that became shorter.

@@ -1,6 +1,5 @@
 use Rattle.std.proofs.Common.{inl, inr, rules, ◌≤◌, ◌++◌, drop, ap, arith, length}
 use Rattle.wtf8.specs.UnitString.{UnitString}
-use Rattle.unit_text.proofs.EditLemmas.{AreKept-edited}
 use Rattle.unit_text.proofs.indexed.IndexedBuf.replace_units.Goals as goal
 
 pub mark_after-to-requires : goal.mark_after-to-requires
@@ -13,12 +12,9 @@ mark_after-to-requires g c = record {
   within = search rules;
 }
 
-pub renew_after-requires : goal.renew_after-requires
-renew_after-requires g c =
+pub count_replaced-requires-clause-marks : goal.count_replaced-requires-clause-marks
+count_replaced-requires-clause-marks g c =
     let old = c.self.inside.text in
-    let new = c.replace_units_at.new.self in
     let within : c.args.begin ≤ length old.units =
     omega (arith, c.requires.order, c.requires.within, ap (λ (s : UnitString). length s.units) c.self.view_is) in
-    rw (c.new-text.ensures.bytes, c.new-text.ensures.units) (AreKept-edited c.law_marks.ensures.kept c.law_marks.ensures.cut old new
-    c.args.begin (c.args.units.now ++ drop c.args.end old.units) within c.in_ok-replace_units_at.ensures.ok c.self.inside.marks
-    c.self.invariant.1)
+    (old, c.args.units.now ++ drop c.args.end old.units, (within, c.in_ok-replace_units_at.ensures.ok, c.self.invariant.1))
