@@ -8,11 +8,37 @@ extern crate alloc;
 mod console;
 mod fed;
 mod lists;
-mod ours;
+/// The proved side: the library through its exports or, if `COMPARE_PROGRAM` is set in the build, a program over it.
+mod ours {
+    #[cfg(not(by_program))]
+    mod library;
+    #[cfg(by_program)]
+    mod program;
+
+    #[cfg(not(by_program))]
+    pub use library::{run, run_all, texts, time};
+    #[cfg(by_program)]
+    pub use program::{run, run_all, texts, time};
+}
 mod random;
-mod results;
+/// The results of both sides, call by call, and the results of a model.
+mod results {
+    pub mod differ;
+    pub mod model;
+    pub mod original;
+    pub mod record;
+    pub mod shrink;
+}
 mod script;
-mod timings;
+/// The times of both sides' loops.
+mod timings {
+    pub mod bench;
+    pub mod column;
+    pub mod inputs;
+    #[cfg(simdutf)]
+    pub mod simdutf;
+    pub mod texts;
+}
 
 use std::path::Path;
 use std::process::ExitCode;

@@ -6,10 +6,10 @@ pub mod callers;
 #[cfg(test)]
 mod inputs;
 #[cfg(test)]
-mod lengths;
-#[cfg(test)]
 mod memory;
 #[cfg(test)]
 mod reading;
 #[cfg(test)]
 mod writing;
+#[cfg(test)]
+mod wrong;

@@ -1,30 +1,102 @@
 // Each request for memory refused in turn, with all after it or alone.
-use crate::lengths::repeated;
+use crate::inputs::repeated;
+use crate::wrong::{Failed, Wrong, expect};
 use dump_lines::{Fault, dump_line, run};
 use refusing::{Lent, REFUSALS, Refusal, Refusing};
 use std::alloc::Global;
-use std::test::Fail;
 
-/// Lines with their outputs, the number of requests that each makes, and of the bytes in them: for the list of calls,
-/// of 24 bytes each, whose capacity is four at first and then doubles; for the string, eight bytes at first; for the
-/// dump, all at once; and two for a count, one for its text and one to append it. A malformed line needs its list and
-/// its output alone.
-fn rows() -> [(&'static str, &'static str, u64, usize); 8] {
-    [
-        ("", "", 0, 0),
-        ("0061", "61", 3, 96 + 8 + 8),
-        ("D83D DCA9", "F0 9F 92 A9", 3, 96 + 8 + 12),
-        ("-1", "!1", 3, 96 + 8 + 8),
-        (
-            "0061 00E9 0020 D83D DCA9",
-            "61 C3 A9 20 F0 9F 92 A9",
-            4,
-            96 + 192 + 8 + 24,
-        ),
-        ("?", "?", 1, 8),
-        ("0061 D83D DCA9 -1 ?", "?", 2, 96 + 8),
-        ("0061 D83D DCA9 -1 /1 ?", "?", 3, 96 + 192 + 8),
-    ]
+/// A line, its output, and what it requests.
+struct Row {
+    line: &'static str,
+    output: &'static str,
+    requests: u64,
+    bytes: usize,
+}
+
+/// Requests are for the list of calls, of 24 bytes each, whose capacity is four at first and then doubles; for the string,
+/// eight bytes at first; for the dump, all at once; and two for a count, one for its text and one to append it. A
+/// malformed line needs its list and its output alone.
+static ROWS: [Row; 8] = [
+    Row {
+        line: "",
+        output: "",
+        requests: 0,
+        bytes: 0,
+    },
+    Row {
+        line: "0061",
+        output: "61",
+        requests: 3,
+        bytes: 96 + 8 + 8,
+    },
+    Row {
+        line: "D83D DCA9",
+        output: "F0 9F 92 A9",
+        requests: 3,
+        bytes: 96 + 8 + 12,
+    },
+    Row {
+        line: "-1",
+        output: "!1",
+        requests: 3,
+        bytes: 96 + 8 + 8,
+    },
+    Row {
+        line: "0061 00E9 0020 D83D DCA9",
+        output: "61 C3 A9 20 F0 9F 92 A9",
+        requests: 4,
+        bytes: 96 + 192 + 8 + 24,
+    },
+    Row {
+        line: "?",
+        output: "?",
+        requests: 1,
+        bytes: 8,
+    },
+    Row {
+        line: "0061 D83D DCA9 -1 ?",
+        output: "?",
+        requests: 2,
+        bytes: 96 + 8,
+    },
+    Row {
+        line: "0061 D83D DCA9 -1 /1 ?",
+        output: "?",
+        requests: 3,
+        bytes: 96 + 192 + 8,
+    },
+];
+
+/// Fails unless `line` ends with an error at the request after `granted` ones, after which no other is made.
+fn expect_refused(
+    heap: Lent<'_>,
+    line: &[u8],
+    granted: u64,
+    refusal: Refusal,
+) -> Result<(), Failed> {
+    heap.refuse_after(granted, refusal);
+    let is_refused = dump_line(heap, line).is_err();
+    let is_counted = heap.requests() == granted.wrapping_add(1);
+    expect(is_refused && is_counted, Wrong::Granted(granted))
+}
+
+/// Fails unless `line` has the output `expected`, by `requests` requests for `bytes` bytes.
+fn expect_granted(
+    heap: Lent<'_>,
+    line: &[u8],
+    expected: &[u8],
+    requests: u64,
+    bytes: usize,
+) -> Result<(), Failed> {
+    heap.grant(99);
+    let Ok(output) = dump_line(heap, line) else {
+        return Err(Failed::by(Wrong::Outcome));
+    };
+    if output.as_slice() != expected {
+        return Err(Failed::by(Wrong::Bytes));
+    }
+    let are_made = heap.requests() == requests && heap.bytes() == bytes;
+    expect(are_made, Wrong::Requests)
 }
 
 /// Fails unless `line` has the output `expected`, by `requests` requests for `bytes` bytes, and an error if one of the
@@ -35,117 +107,149 @@ fn expect_requests(
     expected: &[u8],
     requests: u64,
     bytes: usize,
-) -> Result<(), Fail> {
+) -> Result<(), Failed> {
     for refusal in REFUSALS {
         for granted in 0..requests {
-            heap.refuse_after(granted, refusal);
-            let is_refused = dump_line(heap, line).is_err();
-            if !is_refused || heap.requests() != granted.wrapping_add(1) {
-                return Err(Fail::new(format_args!("{granted} granted at {line:?}")));
-            }
+            expect_refused(heap, line, granted, refusal)?;
         }
     }
-    heap.grant(99);
-    let output = dump_line(heap, line)?;
-    if output.as_slice() != expected || heap.requests() != requests || heap.bytes() != bytes {
-        return Err(Fail::new(format_args!("all granted at {line:?}")));
-    }
-    Ok(())
+    expect_granted(heap, line, expected, requests, bytes)
+}
+
+/// Fails unless the row's line does what `expect_requests` requires.
+fn expect_row(heap: Lent<'_>, row: &Row) -> Result<(), Failed> {
+    let (line, output) = (row.line.as_bytes(), row.output.as_bytes());
+    expect_requests(heap, line, output, row.requests, row.bytes)
 }
 
 #[test]
-fn dump_line_ends_at_a_refused_request(rt: HostRuntime) -> Result<(), Fail> {
+fn dump_line_ends_at_a_refused_request(rt: HostRuntime) -> Result<(), Failed> {
     let heap = Refusing::new(rt.alloc(), 0);
-    for (line, expected, requests, bytes) in rows() {
-        expect_requests(&heap, line.as_bytes(), expected.as_bytes(), requests, bytes)?;
+    let mut index = 0usize;
+    for row in &ROWS {
+        if let Err(failed) = expect_row(&heap, row) {
+            return Err(failed.in_row(index));
+        }
+        index = index.wrapping_add(1);
     }
     Ok(())
 }
 
 #[test]
-fn a_long_malformed_line_needs_its_list_and_its_output(rt: HostRuntime) -> Result<(), Fail> {
-    let line = repeated(rt.alloc(), b"0061 ", 1000, b"061")?;
+fn a_long_malformed_line_needs_its_list_and_its_output(rt: HostRuntime) -> Result<(), Failed> {
+    let Ok(line) = repeated(rt.alloc(), b"0061 ", 1000, b"061") else {
+        return Err(Failed::by(Wrong::Memory));
+    };
     let heap = Refusing::new(rt.alloc(), 0);
     // The list has a capacity of 4, 8 and so on up to 1,024 calls, which is nine requests, and the output is the tenth.
     expect_requests(&heap, line.as_slice(), b"?", 10, 24 * 2044 + 8)
 }
 
-/// A run with `granted` requests for memory granted, and the following ones, or the next one alone, refused: its
-/// result, what it wrote, and the number of requests.
-fn run_granted(
+/// Whether a run whose request after `granted` ones is refused made just `granted`, and wrote `expected`. Fails unless it
+/// did, or ended at the refused one, with nothing written.
+fn is_enough(
     alloc: Global,
     input: &[u8],
+    expected: &[u8],
     granted: u64,
     refusal: Refusal,
-) -> (Result<(), Fault>, Vec<u8>, u64) {
+) -> Result<bool, Failed> {
     let heap = Refusing::new(alloc, 0);
     heap.refuse_after(granted, refusal);
     let mut rest = input;
     let mut out = Vec::new(alloc);
     let result = run(&heap, &mut rest, &mut out);
-    (result, out, heap.requests())
+    let (out, requests) = (out.as_slice(), heap.requests());
+    match result {
+        Ok(()) if out == expected && requests == granted => Ok(true),
+        Err(Fault::Memory) if out.is_empty() && requests == granted.wrapping_add(1) => Ok(false),
+        _ => Err(Failed::by(Wrong::Granted(granted))),
+    }
 }
 
 /// The number of requests of a run whose output is `expected`. Fails unless with fewer granted it ends at the refused
-/// one, with nothing written.
+/// one, with nothing written, or if it makes more than 59.
 fn requests_of(
     alloc: Global,
     input: &[u8],
     expected: &[u8],
     refusal: Refusal,
-) -> Result<u64, Fail> {
+) -> Result<u64, Failed> {
     for granted in 0..60 {
-        let (result, out, requests) = run_granted(alloc, input, granted, refusal);
-        if result == Ok(()) && out.as_slice() == expected && requests == granted {
-            return Ok(requests);
-        }
-        if result != Err(Fault::Memory) || !out.is_empty() || requests != granted.wrapping_add(1) {
-            return Err(Fail::new(format_args!("{granted} granted at {input:?}")));
+        if is_enough(alloc, input, expected, granted, refusal)? {
+            return Ok(granted);
         }
     }
-    Err(Fail::new("more than 59 requests"))
+    Err(Failed::by(Wrong::Requests))
+}
+
+/// Fails unless a run whose output is `expected` makes at least `least` requests, and ends at each that is refused.
+fn expect_ends(
+    alloc: Global,
+    input: &[u8],
+    expected: &[u8],
+    least: u64,
+    refusal: Refusal,
+) -> Result<(), Failed> {
+    let made = requests_of(alloc, input, expected, refusal)?;
+    expect(least <= made, Wrong::Requests)
+}
+
+/// Inputs, and their outputs.
+static INPUTS: [(&str, &str); 3] = [
+    ("D83D DCA9\n", "F0 9F 92 A9\n"),
+    ("0061 00E9 -9\n", "61 C3 A9 !1\n"),
+    (
+        "0061 -5 -6\n\n?\n-1\n0062 /1 00E9\n",
+        "61 !2\n\n?\n!1\n62 C3 A9\n",
+    ),
+];
+
+/// Fails unless a run on each of `INPUTS` makes four requests or more, and ends at each that is refused.
+fn expect_all_end(alloc: Global, refusal: Refusal) -> Result<(), Failed> {
+    let mut row = 0usize;
+    for (input, output) in &INPUTS {
+        let ended = expect_ends(alloc, input.as_bytes(), output.as_bytes(), 4, refusal);
+        if let Err(failed) = ended {
+            return Err(failed.in_row(row));
+        }
+        row = row.wrapping_add(1);
+    }
+    Ok(())
 }
 
 #[test]
-fn a_run_ends_at_a_refused_request_with_nothing_written(rt: HostRuntime) -> Result<(), Fail> {
-    let rows = [
-        ("D83D DCA9\n", "F0 9F 92 A9\n"),
-        ("0061 00E9 -9\n", "61 C3 A9 !1\n"),
-        (
-            "0061 -5 -6\n\n?\n-1\n0062 /1 00E9\n",
-            "61 !2\n\n?\n!1\n62 C3 A9\n",
-        ),
-    ];
+fn a_run_ends_at_a_refused_request_with_nothing_written(rt: HostRuntime) -> Result<(), Failed> {
     for refusal in REFUSALS {
-        for (input, expected) in rows {
-            let alloc = rt.alloc();
-            let made = requests_of(alloc, input.as_bytes(), expected.as_bytes(), refusal)?;
-            assert!(rt; made >= 4, "{input}");
-        }
+        expect_all_end(rt.alloc(), refusal)?;
         // One request each: the input, the list of calls, the string and the output.
         let made = requests_of(rt.alloc(), b"D83D DCA9\n", b"F0 9F 92 A9\n", refusal)?;
-        assert_eq!(rt; made, 4);
+        expect(made == 4, Wrong::Requests)?;
     }
     Ok(())
 }
 
 #[test]
-fn a_run_on_a_long_line_ends_at_a_refused_request(rt: HostRuntime) -> Result<(), Fail> {
-    let line = repeated(rt.alloc(), b"0061 ", 66, b"-999 D83D DCA9 -999\n")?;
-    let expected = repeated(rt.alloc(), b"61 ", 66, b"F0 9F 92 A9 !2\n")?;
+fn a_run_on_a_long_line_ends_at_a_refused_request(rt: HostRuntime) -> Result<(), Failed> {
+    let Ok(line) = repeated(rt.alloc(), b"0061 ", 66, b"-999 D83D DCA9 -999\n") else {
+        return Err(Failed::by(Wrong::Memory));
+    };
+    let Ok(expected) = repeated(rt.alloc(), b"61 ", 66, b"F0 9F 92 A9 !2\n") else {
+        return Err(Failed::by(Wrong::Memory));
+    };
     for refusal in REFUSALS {
-        let made = requests_of(rt.alloc(), line.as_slice(), expected.as_slice(), refusal)?;
-        assert!(rt; made > 6);
+        expect_ends(rt.alloc(), &line, &expected, 7, refusal)?;
     }
     Ok(())
 }
 
 #[test]
-fn a_run_on_a_long_input_ends_at_a_refused_request(rt: HostRuntime) -> Result<(), Fail> {
-    let input = repeated(rt.alloc(), b"none ", 1000, b"")?;
+fn a_run_on_a_long_input_ends_at_a_refused_request(rt: HostRuntime) -> Result<(), Failed> {
+    let Ok(input) = repeated(rt.alloc(), b"none ", 1000, b"") else {
+        return Err(Failed::by(Wrong::Memory));
+    };
     for refusal in REFUSALS {
-        let made = requests_of(rt.alloc(), input.as_slice(), b"?\n", refusal)?;
-        assert!(rt; made >= 2);
+        expect_ends(rt.alloc(), &input, b"?\n", 2, refusal)?;
     }
     Ok(())
 }

@@ -1,4 +1,5 @@
 // Readers that fail.
+use crate::wrong::{Failed, Wrong, expect};
 use dump_lines::{Fault, run};
 use refusing::{Refusal, Refusing};
 use std::alloc::Global;
@@ -30,15 +31,15 @@ impl<'a> Read for FailingReader<'a> {
     }
 }
 
-/// A run on a reader of `given` that fails at call `failing`, with `granted` requests for memory granted and the next
-/// one refused: its result, whether nothing was written, and the number of calls of the reader.
-fn run_from(
+/// Fails unless a run on a reader of `given` that fails at call `failing`, with `granted` requests for memory granted and
+/// the next one refused, ends with this fault after this number of calls of the reader, with nothing written.
+fn expect_fault(
     alloc: Global,
-    given: &str,
-    error: ErrorKind,
-    failing: u32,
+    (given, error, failing): (&str, ErrorKind, u32),
     granted: u64,
-) -> (Result<(), Fault>, bool, u32) {
+    fault: Fault,
+    calls: u32,
+) -> Result<(), Failed> {
     let heap = Refusing::new(alloc, 0);
     heap.refuse_after(granted, Refusal::Once);
     let mut reader = FailingReader {
@@ -48,54 +49,62 @@ fn run_from(
         failing,
     };
     let mut out = Vec::new(alloc);
-    let result = run(&heap, &mut reader, &mut out);
-    (result, out.is_empty(), reader.calls)
+    if run(&heap, &mut reader, &mut out) != Err(fault) {
+        return Err(Failed::by(Wrong::Outcome));
+    }
+    if !out.is_empty() {
+        return Err(Failed::by(Wrong::Bytes));
+    }
+    expect(reader.calls == calls, Wrong::Calls)
 }
 
-#[test]
-fn a_failed_read_ends_the_run_with_nothing_written(rt: HostRuntime) {
-    for error in [
-        ErrorKind::Other,
-        ErrorKind::Interrupted,
-        ErrorKind::WouldBlock,
-    ] {
-        for (given, failing) in [
-            ("", 1),
-            ("0061\n", 1),
-            ("0061\n", 2),
-            ("0061\n", 3),
-            ("0061\n", 4),
-            ("0061", 3),
-            ("0061\n0062\n", 6),
-        ] {
-            let (result, is_empty, calls) = run_from(rt.alloc(), given, error, failing, 99);
-            assert_eq!(rt; result, Err(Fault::Read), "at call {failing}");
-            assert!(rt; is_empty, "at call {failing}");
-            assert_eq!(rt; calls, failing);
+/// Inputs, and the calls at which their readers fail.
+static READS: [(&str, u32); 7] = [
+    ("", 1),
+    ("0061\n", 1),
+    ("0061\n", 2),
+    ("0061\n", 3),
+    ("0061\n", 4),
+    ("0061", 3),
+    ("0061\n0062\n", 6),
+];
+
+/// Fails unless each of `READS` that fails with this error ends a run.
+fn expect_reads(alloc: Global, error: ErrorKind) -> Result<(), Failed> {
+    let mut row = 0usize;
+    for (given, failing) in &READS {
+        let read = (*given, error, *failing);
+        if let Err(failed) = expect_fault(alloc, read, 99, Fault::Read, *failing) {
+            return Err(failed.in_row(row));
         }
+        row = row.wrapping_add(1);
     }
+    Ok(())
 }
 
 #[test]
-fn the_first_of_two_faults_is_the_result(rt: HostRuntime) {
-    for (failing, granted, fault, calls) in [
-        (1, 0, Fault::Read, 1),
-        (2, 0, Fault::Memory, 1),
-        (2, 1, Fault::Read, 2),
-    ] {
-        let (result, is_empty, called) = run_from(
-            rt.alloc(),
-            "0061\n",
-            ErrorKind::Other,
-            failing,
-            granted,
-        );
-        assert_eq!(rt;
-            result,
-            Err(fault),
-            "at call {failing} with {granted} granted"
-        );
-        assert!(rt; is_empty);
-        assert_eq!(rt; called, calls, "at call {failing}");
+fn a_failed_read_ends_the_run_with_nothing_written(rt: HostRuntime) -> Result<(), Failed> {
+    expect_reads(rt.alloc(), ErrorKind::Other)?;
+    expect_reads(rt.alloc(), ErrorKind::Interrupted)?;
+    expect_reads(rt.alloc(), ErrorKind::WouldBlock)
+}
+
+/// The call at which a reader of "0061" fails, the number of requests granted, the fault, and the number of calls.
+static FIRST: [(u32, u64, Fault, u32); 3] = [
+    (1, 0, Fault::Read, 1),
+    (2, 0, Fault::Memory, 1),
+    (2, 1, Fault::Read, 2),
+];
+
+#[test]
+fn the_first_of_two_faults_is_the_result(rt: HostRuntime) -> Result<(), Failed> {
+    let mut row = 0usize;
+    for (failing, granted, fault, calls) in &FIRST {
+        let read = ("0061\n", ErrorKind::Other, *failing);
+        if let Err(failed) = expect_fault(rt.alloc(), read, *granted, *fault, *calls) {
+            return Err(failed.in_row(row));
+        }
+        row = row.wrapping_add(1);
     }
+    Ok(())
 }

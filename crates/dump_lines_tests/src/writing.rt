@@ -1,10 +1,10 @@
 // Writers that fail.
-use crate::lengths::repeated;
+use crate::inputs::repeated;
+use crate::wrong::{Failed, Wrong, expect};
 use dump_lines::{Fault, run};
 use std::alloc::Global;
 use std::io;
 use std::io::{Error, ErrorKind, Write};
-use std::test::Fail;
 
 /// What a writer does at one of its calls.
 #[derive(Clone, Copy)]
@@ -49,16 +49,15 @@ impl Write for FailingWriter {
     }
 }
 
-/// A run on `given` into a writer that takes at most `most` bytes a call and fails at call `failing`, or at its flush.
-fn run_into(
+/// A writer that takes at most `most` bytes a call and fails at call `failing`, or at its flush.
+fn writer_of(
     alloc: Global,
-    given: &[u8],
     most: usize,
     failing: u32,
     how: Failing,
     flush_error: Option<ErrorKind>,
-) -> (Result<(), Fault>, FailingWriter) {
-    let mut writer = FailingWriter {
+) -> FailingWriter {
+    FailingWriter {
         taken: Vec::new(alloc),
         most,
         calls: 0,
@@ -66,88 +65,132 @@ fn run_into(
         how,
         flushes: 0,
         flush_error,
-    };
+    }
+}
+
+/// What a run into a writer came to: the fault, if there was one, the bytes that the writer took, and the numbers of its calls
+/// and flushes.
+#[derive(Clone, Copy)]
+struct Ran<'a> {
+    fault: Option<Fault>,
+    taken: &'a [u8],
+    calls: u32,
+    flushes: u32,
+}
+
+/// Fails unless a run on `given` into the writer comes to this.
+fn expect_ran(
+    alloc: Global,
+    given: &[u8],
+    writer: &mut FailingWriter,
+    ran: Ran<'_>,
+) -> Result<(), Failed> {
     let mut rest = given;
-    (run(alloc, &mut rest, &mut writer), writer)
+    if run(alloc, &mut rest, writer).err() != ran.fault {
+        return Err(Failed::by(Wrong::Outcome));
+    }
+    if writer.taken.as_slice() != ran.taken {
+        return Err(Failed::by(Wrong::Bytes));
+    }
+    let are_made = writer.calls == ran.calls && writer.flushes == ran.flushes;
+    expect(are_made, Wrong::Calls)
 }
 
 /// An input, the number of bytes that the writer takes a call, the call at which it fails, and what it took before.
-fn rows() -> [(&'static str, usize, u32, &'static str); 8] {
-    [
-        ("0061 0062 0063\n", 2, 1, ""),
-        ("0061 0062 0063\n", 2, 2, "61"),
-        ("0061 0062 0063\n", 2, 3, "61 6"),
-        ("0061 0062 0063\n", 2, 4, "61 62 "),
-        ("0061 0062 0063\n", 2, 5, "61 62 63"),
-        ("0061\n", 1, 1, ""),
-        ("0061\n", 1, 2, "6"),
-        ("0061\n", 1, 3, "61"),
-    ]
-}
+static WRITES: [(&str, usize, u32, &str); 8] = [
+    ("0061 0062 0063\n", 2, 1, ""),
+    ("0061 0062 0063\n", 2, 2, "61"),
+    ("0061 0062 0063\n", 2, 3, "61 6"),
+    ("0061 0062 0063\n", 2, 4, "61 62 "),
+    ("0061 0062 0063\n", 2, 5, "61 62 63"),
+    ("0061\n", 1, 1, ""),
+    ("0061\n", 1, 2, "6"),
+    ("0061\n", 1, 3, "61"),
+];
 
-#[test]
-fn a_failed_write_ends_the_run(rt: HostRuntime) {
-    for how in [
-        Failing::Fails(ErrorKind::Interrupted),
-        Failing::Fails(ErrorKind::Other),
-        Failing::TakesNothing,
-    ] {
-        for (given, most, failing, taken) in rows() {
-            let (result, writer) = run_into(rt.alloc(), given.as_bytes(), most, failing, how, None);
-            assert_eq!(rt; result, Err(Fault::Write), "at call {failing}");
-            assert_eq!(rt; writer.calls, failing);
-            assert_eq!(rt;
-                writer.taken.as_slice(),
-                taken.as_bytes(),
-                "at call {failing}"
-            );
-            assert_eq!(rt; writer.flushes, 0, "at call {failing}");
+/// Fails unless each of `WRITES` that fails like this ends a run.
+fn expect_writes(alloc: Global, how: Failing) -> Result<(), Failed> {
+    let mut row = 0usize;
+    for (given, most, failing, taken) in &WRITES {
+        let mut writer = writer_of(alloc, *most, *failing, how, None);
+        let ran = Ran {
+            fault: Some(Fault::Write),
+            taken: taken.as_bytes(),
+            calls: *failing,
+            flushes: 0,
+        };
+        if let Err(failed) = expect_ran(alloc, given.as_bytes(), &mut writer, ran) {
+            return Err(failed.in_row(row));
         }
+        row = row.wrapping_add(1);
     }
-}
-
-#[test]
-fn a_failed_flush_ends_the_run(rt: HostRuntime) {
-    for (given, most, calls, taken) in [
-        ("0061 0062 0063\n", 2, 5, "61 62 63\n"),
-        ("0061\n", 1, 3, "61\n"),
-        ("", 2, 0, ""),
-    ] {
-        for (flush_error, expected) in [
-            (None, Ok(())),
-            (Some(ErrorKind::Interrupted), Err(Fault::Write)),
-            (Some(ErrorKind::Other), Err(Fault::Write)),
-        ] {
-            let (result, writer) = run_into(
-                rt.alloc(),
-                given.as_bytes(),
-                most,
-                0,
-                Failing::TakesNothing,
-                flush_error,
-            );
-            assert_eq!(rt; result, expected);
-            assert_eq!(rt; writer.calls, calls);
-            assert_eq!(rt; writer.taken.as_slice(), taken.as_bytes());
-            assert_eq!(rt; writer.flushes, 1);
-        }
-    }
-}
-
-#[test]
-fn a_writer_of_seventy_kibibytes_is_called_twice(rt: HostRuntime) -> Result<(), Fail> {
-    let input = repeated(rt.alloc(), b"1F4A9 ", 6515, b"1F4A9\n0061\n")?;
-    let expected = repeated(rt.alloc(), b"F0 9F 92 A9 ", 6515, b"F0 9F 92 A9\n61\n")?;
-    let (result, writer) = run_into(
-        rt.alloc(),
-        input.as_slice(),
-        70 * 1024,
-        0,
-        Failing::TakesNothing,
-        None,
-    );
-    assert!(rt; result.is_ok());
-    assert_eq!(rt; writer.calls, 2);
-    assert!(rt; writer.taken == expected);
     Ok(())
+}
+
+#[test]
+fn a_failed_write_ends_the_run(rt: HostRuntime) -> Result<(), Failed> {
+    expect_writes(rt.alloc(), Failing::Fails(ErrorKind::Interrupted))?;
+    expect_writes(rt.alloc(), Failing::Fails(ErrorKind::Other))?;
+    expect_writes(rt.alloc(), Failing::TakesNothing)
+}
+
+/// An input, the number of bytes that the writer takes a call, the number of its calls, and what it took.
+static FLUSHES: [(&str, usize, u32, &str); 3] = [
+    ("0061 0062 0063\n", 2, 5, "61 62 63\n"),
+    ("0061\n", 1, 3, "61\n"),
+    ("", 2, 0, ""),
+];
+
+/// Fails unless each of `FLUSHES` whose flush has this error comes to this fault.
+fn expect_flushes(
+    alloc: Global,
+    flush_error: Option<ErrorKind>,
+    fault: Option<Fault>,
+) -> Result<(), Failed> {
+    let mut row = 0usize;
+    for (given, most, calls, taken) in &FLUSHES {
+        let mut writer = writer_of(alloc, *most, 0, Failing::TakesNothing, flush_error);
+        let ran = Ran {
+            fault,
+            taken: taken.as_bytes(),
+            calls: *calls,
+            flushes: 1,
+        };
+        if let Err(failed) = expect_ran(alloc, given.as_bytes(), &mut writer, ran) {
+            return Err(failed.in_row(row));
+        }
+        row = row.wrapping_add(1);
+    }
+    Ok(())
+}
+
+#[test]
+fn a_failed_flush_ends_the_run(rt: HostRuntime) -> Result<(), Failed> {
+    expect_flushes(rt.alloc(), None, None)?;
+    expect_flushes(rt.alloc(), Some(ErrorKind::Interrupted), Some(Fault::Write))?;
+    expect_flushes(rt.alloc(), Some(ErrorKind::Other), Some(Fault::Write))
+}
+
+/// Fails unless a writer that takes 70 KiB a call is called twice for `given`, and takes `expected`.
+fn expect_called_twice(alloc: Global, given: &[u8], expected: &[u8]) -> Result<(), Failed> {
+    let mut writer = writer_of(alloc, 70 * 1024, 0, Failing::TakesNothing, None);
+    let ran = Ran {
+        fault: None,
+        taken: expected,
+        calls: 2,
+        flushes: 1,
+    };
+    expect_ran(alloc, given, &mut writer, ran)
+}
+
+#[test]
+fn a_writer_of_seventy_kibibytes_is_called_twice(rt: HostRuntime) -> Result<(), Failed> {
+    let alloc = rt.alloc();
+    let Ok(input) = repeated(alloc, b"1F4A9 ", 6515, b"1F4A9\n0061\n") else {
+        return Err(Failed::by(Wrong::Memory));
+    };
+    let Ok(expected) = repeated(alloc, b"F0 9F 92 A9 ", 6515, b"F0 9F 92 A9\n61\n") else {
+        return Err(Failed::by(Wrong::Memory));
+    };
+    expect_called_twice(alloc, &input, &expected)
 }

@@ -127,7 +127,7 @@ fn is_spliced(alloc: Global, units: &[u16], (begin, end): (usize, usize), new: &
     is_made && buf_has_units(&buf, &splice(alloc, units, (begin, end), new))
 }
 
-/// Whether a marked buffer has the right units after a string replaced those from `begin` to before `end`.
+/// Whether a marked buffer has the right units after a string replaced its units from `begin` to before `end`.
 fn is_spliced_by_string(
     alloc: Global,
     units: &[u16],

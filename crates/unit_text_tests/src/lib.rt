@@ -4,8 +4,6 @@
 #[cfg(test)]
 mod calls;
 #[cfg(test)]
-mod conversions;
-#[cfg(test)]
 mod editing;
 #[cfg(test)]
 mod indexed;

@@ -3,7 +3,7 @@ use crate::shared::{FULL, full};
 use refusing::{Lent, REFUSALS, Refusal, Refusing};
 use std::alloc::{AllocError, Allocator, Global};
 use wtf8::Wtf8Buf;
-use wtf8_tests::wrong::{Failed, Wrong, expect, expect_bytes};
+use wtf8_tests::wrong::{Failed, Wrong, expect_bytes};
 
 /// Wrong bytes after "ab" and after "cd", and an unfinished code point, which a part leaves out.
 static BYTES: &[u8] = b"ab\xFFcd\xE2\x80efghij\xF0\x9F";
@@ -37,12 +37,26 @@ fn expect_refused(
     granted: u64,
     refusal: Refusal,
 ) -> Result<(), Failed> {
-    let mut text = full(heap)?;
+    let Ok(mut text) = full(heap) else {
+        return Err(Failed::by(Wrong::Memory));
+    };
     heap.refuse_after(granted, refusal);
     let is_refused = pushed(&mut text, is_part).is_err();
-    expect(is_refused, Wrong::Outcome)?;
-    expect(heap.requests() == granted.wrapping_add(1), Wrong::Requests)?;
+    if !is_refused {
+        return Err(Failed::by(Wrong::Outcome));
+    }
+    if heap.requests() != granted.wrapping_add(1) {
+        return Err(Failed::by(Wrong::Requests));
+    }
     expect_bytes(alloc, text.as_wtf8(), FULL)
+}
+
+/// Whether a call used this number of bytes.
+fn has_used(outcome: Result<usize, AllocError>, used: usize) -> bool {
+    match outcome {
+        Ok(found) => found == used,
+        Err(_) => false,
+    }
 }
 
 /// Grants all requests that the call makes.
@@ -52,10 +66,16 @@ fn expect_granted(
     is_part: bool,
     (used, dump): (usize, &str),
 ) -> Result<(), Failed> {
-    let mut text = full(heap)?;
+    let Ok(mut text) = full(heap) else {
+        return Err(Failed::by(Wrong::Memory));
+    };
     heap.grant(REQUESTS);
-    expect(pushed(&mut text, is_part) == Ok(used), Wrong::Outcome)?;
-    expect(heap.requests() == REQUESTS, Wrong::Requests)?;
+    if !has_used(pushed(&mut text, is_part), used) {
+        return Err(Failed::by(Wrong::Outcome));
+    }
+    if heap.requests() != REQUESTS {
+        return Err(Failed::by(Wrong::Requests));
+    }
     expect_bytes(alloc, text.as_wtf8(), dump)
 }
 

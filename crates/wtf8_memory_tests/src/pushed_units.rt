@@ -4,8 +4,7 @@ use crate::shared::{Change, FULL, Requests, expect_requests, succeeds};
 use refusing::{Lent, REFUSALS, Refusing};
 use std::alloc::{AllocError, Allocator, Global};
 use wtf8::{Wtf8, Wtf8Buf};
-use wtf8_tests::examples::{expect_units, joining};
-use wtf8_tests::unit_lists::{lists, long_list};
+use wtf8_tests::examples::{JOINING, LISTS, expect_units, long_list};
 use wtf8_tests::wrong::{Failed, Wrong, expect, in_row};
 
 /// A lead and its trail, by which a split between them joins.
@@ -130,7 +129,10 @@ fn around_letters(alloc: Global, letters: usize) -> Result<Vec<u16>, AllocError>
     let Ok(mut units) = Vec::from_slice(alloc, &PAIR) else {
         return Err(AllocError);
     };
-    units.extend_from_slice(&long_list(alloc, letters)?)?;
+    let Ok(list) = long_list(alloc, letters) else {
+        return Err(AllocError);
+    };
+    units.extend_from_slice(&list)?;
     Ok(units)
 }
 
@@ -145,13 +147,13 @@ fn expect_letters(alloc: Global, heap: Lent<'_>, letters: usize) -> Result<(), F
 /// Fails unless `expect_each_push` succeeds for each list of the tables.
 fn expect_tables(alloc: Global, heap: Lent<'_>) -> Result<(), Failed> {
     let mut row = 0usize;
-    for (units, _, _) in joining() {
+    for (units, _, _) in &JOINING {
         if let Err(failed) = expect_each_push(alloc, heap, units) {
             return in_row(row, Err(failed));
         }
         row = row.wrapping_add(1);
     }
-    for units in lists() {
+    for units in &LISTS {
         if let Err(failed) = expect_each_push(alloc, heap, units) {
             return in_row(row, Err(failed));
         }

@@ -69,7 +69,9 @@ fn expect_replaced(
 /// Fails unless the row's units are replaced just if the bytes fit, at each capacity up to what is needed.
 fn expect_row(alloc: Global, heap: Lent<'_>, edit: Edit) -> Result<(), Failed> {
     let len = edit.dump.len().wrapping_add(1) / 3;
-    let new = Wtf8Buf::from_ill_formed_utf16(alloc, edit.new)?;
+    let Ok(new) = Wtf8Buf::from_ill_formed_utf16(alloc, edit.new) else {
+        return Err(Failed::by(Wrong::Memory));
+    };
     for capacity in 0..=len {
         expect_replaced(alloc, heap, edit, None, (len, capacity))?;
         expect_replaced(alloc, heap, edit, Some(new.as_wtf8()), (len, capacity))?;

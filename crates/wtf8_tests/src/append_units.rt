@@ -6,20 +6,18 @@ use std::alloc::{AllocError, Global};
 use wtf8::{Wtf8, Wtf8Buf};
 
 /// The units of a vector before `append_units` is called, and of a slice after the written ones.
-const BEFORE: [u16; 2] = [0xDC00, 0x0061];
+static BEFORE: [u16; 2] = [0xDC00, 0x0061];
 
 /// Lists of units of each kind, written over or into a list of other units.
-fn others() -> [&'static [u16]; 7] {
-    [
-        &[0x0061],
-        &[0x00E9],
-        &[0x20AC],
-        &[0xD83D],
-        &[0xDCA9],
-        &[0xD83D, 0xDCA9],
-        &[0xD7FF, 0xE000, 0xDBFF, 0xDFFF, 0x007F, 0x0080, 0x0000],
-    ]
-}
+static OTHERS: [&[u16]; 7] = [
+    &[0x0061],
+    &[0x00E9],
+    &[0x20AC],
+    &[0xD83D],
+    &[0xDCA9],
+    &[0xD83D, 0xDCA9],
+    &[0xD7FF, 0xE000, 0xDBFF, 0xDFFF, 0x007F, 0x0080, 0x0000],
+];
 
 /// `BEFORE` with the units of `text` appended, with all requests for memory granted.
 fn appended<'a>(heap: Lent<'a>, text: Wtf8<'_>) -> Result<Vec<u16, Lent<'a>>, AllocError> {
@@ -29,35 +27,59 @@ fn appended<'a>(heap: Lent<'a>, text: Wtf8<'_>) -> Result<Vec<u16, Lent<'a>>, Al
     Ok(grown)
 }
 
+/// `BEFORE` in a vector of capacity `count`, with no more requests for memory granted.
+fn with_room<'a>(heap: Lent<'a>, count: usize) -> Result<Vec<u16, Lent<'a>>, AllocError> {
+    heap.grant(u64::MAX);
+    let Ok(mut room) = Vec::with_capacity(heap, count) else {
+        return Err(AllocError);
+    };
+    room.extend_from_slice(&BEFORE)?;
+    heap.grant(0);
+    Ok(room)
+}
+
 /// `BEFORE` with the units of `text` appended to a vector of capacity `count`, with no request for memory granted.
 fn appended_in_room<'a>(
     heap: Lent<'a>,
     text: Wtf8<'_>,
     count: usize,
 ) -> Result<Vec<u16, Lent<'a>>, AllocError> {
-    heap.grant(u64::MAX);
-    let mut room = Vec::with_capacity(heap, count)?;
-    room.extend_from_slice(&BEFORE)?;
-    heap.grant(0);
+    let Ok(mut room) = with_room(heap, count) else {
+        return Err(AllocError);
+    };
     text.append_units(&mut room)?;
     Ok(room)
 }
 
-/// Whether `append_units`, without spare capacity and memory, changes nothing, and fails unless there are no units.
-fn fails_without_memory(heap: Lent<'_>, text: Wtf8<'_>) -> Result<bool, AllocError> {
+/// Fails unless `append_units`, without spare capacity and memory, changes nothing, and fails unless there are no units.
+fn expect_failure(heap: Lent<'_>, text: Wtf8<'_>) -> Result<(), Failed> {
     heap.grant(u64::MAX);
-    let mut full = Vec::from_slice(heap, &BEFORE)?;
+    let Ok(mut full) = Vec::from_slice(heap, &BEFORE) else {
+        return Err(Failed::by(Wrong::Memory));
+    };
     heap.grant(0);
     let is_refused = text.append_units(&mut full).is_err();
-    Ok(full.as_slice() == BEFORE.as_slice() && is_refused != text.is_empty())
+    let is_unchanged = full.as_slice() == BEFORE.as_slice();
+    expect(
+        is_unchanged && is_refused != text.is_empty(),
+        Wrong::Outcome,
+    )
 }
 
-/// Whether `append_units` makes `whole` with all requests for memory granted, and with none granted if the capacity
+/// Fails unless a vector was made, and has the units `whole`.
+fn expect_whole(made: Result<Vec<u16, Lent<'_>>, AllocError>, whole: &[u16]) -> Result<(), Failed> {
+    match made {
+        Ok(found) => expect(found.as_slice() == whole, Wrong::Units),
+        Err(_) => Err(Failed::by(Wrong::Memory)),
+    }
+}
+
+/// Fails unless `append_units` makes `whole` with all requests for memory granted, and with none granted if the capacity
 /// suffices, and leaves the vector unchanged if memory is refused.
-fn come_back(heap: Lent<'_>, text: Wtf8<'_>, whole: &[u16]) -> Result<bool, AllocError> {
-    let is_appended = appended(heap, text)?.as_slice() == whole;
-    let is_in_room = appended_in_room(heap, text, whole.len())?.as_slice() == whole;
-    Ok(is_appended && is_in_room && fails_without_memory(heap, text)?)
+fn expect_back(heap: Lent<'_>, text: Wtf8<'_>, whole: &[u16]) -> Result<(), Failed> {
+    expect_whole(appended(heap, text), whole)?;
+    expect_whole(appended_in_room(heap, text, whole.len()), whole)?;
+    expect_failure(heap, text)
 }
 
 /// `BEFORE` followed by `units`.
@@ -67,43 +89,57 @@ fn whole_of(alloc: Global, units: &[u16]) -> Result<Vec<u16>, AllocError> {
     Ok(whole)
 }
 
-/// Whether `write_units` returns the number of `units`, writes them, and leaves the rest of a slice unchanged.
-fn writes_front(alloc: Global, text: Wtf8<'_>, units: &[u16]) -> Result<bool, AllocError> {
+/// `count` zeros, then `BEFORE`.
+fn zeros_of(alloc: Global, count: usize) -> Result<Vec<u16>, AllocError> {
     let mut slice = Vec::new(alloc);
-    slice.resize(units.len(), 0)?;
+    slice.resize(count, 0)?;
     slice.extend_from_slice(&BEFORE)?;
+    Ok(slice)
+}
+
+/// Whether `write_units` returns the number of `units`, writes them, and leaves `BEFORE` after them unchanged.
+fn writes_to(slice: &mut [u16], text: Wtf8<'_>, units: &[u16]) -> bool {
     if slice.len() < text.unit_len() {
-        return Ok(false);
+        return false;
     }
-    let count = text.write_units(&mut slice);
-    let (front, rest) = slice.split_at(units.len());
-    Ok(count == units.len() && front == units && rest == BEFORE.as_slice())
+    let count = text.write_units(slice);
+    let (front, rest) = slice.split_at(units.len().min(slice.len()));
+    count == units.len() && front == units && rest == BEFORE.as_slice()
 }
 
-/// Whether `append_units` appends the units of `text` if there is memory or capacity, and else leaves the vector
-/// unchanged.
-fn appends_each_way(alloc: Global, text: Wtf8<'_>, units: &[u16]) -> Result<bool, AllocError> {
-    let whole = whole_of(alloc, units)?;
+/// Fails unless `write_units` returns the number of `units`, writes them, and leaves the rest of a slice unchanged.
+fn expect_written(alloc: Global, text: Wtf8<'_>, units: &[u16]) -> Result<(), Failed> {
+    match zeros_of(alloc, units.len()) {
+        Ok(mut slice) => expect(writes_to(&mut slice, text, units), Wrong::Units),
+        Err(_) => Err(Failed::by(Wrong::Memory)),
+    }
+}
+
+/// Fails unless `append_units` appends the units of `text` if there is memory or capacity, and else leaves the vector
+/// unchanged, and `write_units` writes them.
+fn expect_each_way(alloc: Global, text: Wtf8<'_>, units: &[u16]) -> Result<(), Failed> {
+    let Ok(whole) = whole_of(alloc, units) else {
+        return Err(Failed::by(Wrong::Memory));
+    };
     let heap = Refusing::new(alloc, u64::MAX);
-    come_back(&heap, text, &whole)
+    expect_back(&heap, text, &whole)?;
+    expect_written(alloc, text, units)
 }
 
-/// Whether the units of the string of `units` come back by `append_units` and `write_units`.
-fn are_units_back(alloc: Global, units: &[u16]) -> Result<bool, AllocError> {
-    let text = Wtf8Buf::from_ill_formed_utf16(alloc, units)?;
-    Ok(
-        appends_each_way(alloc, text.as_wtf8(), units)?
-            && writes_front(alloc, text.as_wtf8(), units)?,
-    )
-}
-
-/// Fails unless the units come back by `append_units` and `write_units`.
+/// Fails unless the units of their string come back by `append_units` and `write_units`.
 fn expect_units_back(alloc: Global, units: Result<Vec<u16>, AllocError>) -> Result<(), Failed> {
-    let units = units?;
-    if !are_units_back(alloc, &units)? {
-        return Err(Failed::by(Wrong::Outcome));
+    match units {
+        Ok(units) => expect_string_back(alloc, &units),
+        Err(_) => Err(Failed::by(Wrong::Memory)),
     }
-    Ok(())
+}
+
+/// Fails unless the units of their string come back by `append_units` and `write_units`.
+fn expect_string_back(alloc: Global, units: &[u16]) -> Result<(), Failed> {
+    match Wtf8Buf::from_ill_formed_utf16(alloc, units) {
+        Ok(text) => expect_each_way(alloc, text.as_wtf8(), units),
+        Err(_) => Err(Failed::by(Wrong::Memory)),
+    }
 }
 
 /// `length` times `unit`, with `other` written over the units from index `at` on.
@@ -121,10 +157,10 @@ fn overwritten(
     Ok(units)
 }
 
-/// Fails unless lists of `length` times `unit`, overwritten from each index on by each of `others`, come back.
+/// Fails unless lists of `length` times `unit`, overwritten from each index on by each of `OTHERS`, come back.
 fn expect_overwritten_back(alloc: Global, unit: u16, length: usize) -> Result<(), Failed> {
     for at in 0..length {
-        for other in others() {
+        for other in &OTHERS {
             expect_units_back(alloc, overwritten(alloc, unit, length, other, at))?;
         }
     }
@@ -138,18 +174,20 @@ fn all_units_are_appended_and_written(rt: HostRuntime) -> Result<(), Failed> {
         for unit in [
             0x0061, 0x0080, 0x07FF, 0x0800, 0xFFFF, 0xD7FF, 0xD800, 0xDFFF,
         ] {
-            in_row(length, expect_overwritten_back(alloc, unit, length))?;
+            if let Err(failed) = expect_overwritten_back(alloc, unit, length) {
+                return in_row(length, Err(failed));
+            }
         }
     }
     Ok(())
 }
 
-/// Fails unless lists of `length` times `unit` come back with each of `others` written over them: about 64, 96 or 192
+/// Fails unless lists of `length` times `unit` come back with each of `OTHERS` written over them: about 64, 96 or 192
 /// units before the end, where `write_units` begins to count the units of a long string of each encoded length.
 fn expect_long_back(alloc: Global, unit: u16, length: usize) -> Result<(), Failed> {
     for distance in [62, 63, 64, 65, 95, 96, 97, 191, 192, 193] {
         let at = length.saturating_sub(distance);
-        for other in others() {
+        for other in &OTHERS {
             expect_units_back(alloc, overwritten(alloc, unit, length, other, at))?;
         }
     }
@@ -161,14 +199,16 @@ fn units_of_long_strings_are_appended_and_written(rt: HostRuntime) -> Result<(),
     let alloc = rt.alloc();
     for unit in [0x0061, 0x0080, 0x0800, 0xD7FF, 0xD800, 0xDFFF] {
         for length in [63, 64, 127, 128, 400] {
-            in_row(length, expect_long_back(alloc, unit, length))?;
+            if let Err(failed) = expect_long_back(alloc, unit, length) {
+                return in_row(length, Err(failed));
+            }
         }
     }
     Ok(())
 }
 
 /// Strings of four bytes and two units: code points, with the units that Python's "utf-16" codec gives.
-const FOURS: [(&str, [u16; 2]); 9] = [
+static FOURS: [(&str, [u16; 2]); 9] = [
     ("\u{10000}", [0xD800, 0xDC00]),
     ("\u{10FFFF}", [0xDBFF, 0xDFFF]),
     ("\u{1F4A9}", [0xD83D, 0xDCA9]),
@@ -181,44 +221,42 @@ const FOURS: [(&str, [u16; 2]); 9] = [
 ];
 
 /// Units end where those of `FOURS` do, but there are code points of three bytes and of one.
-const THREES_BEFORE_ASCII: [(&str, [u16; 2]); 3] = [
+static THREES_BEFORE_ASCII: [(&str, [u16; 2]); 3] = [
     ("\u{20AC}a", [0x20AC, 0x0061]),
     ("\u{1F4A9}", [0xD83D, 0xDCA9]),
     ("\u{FFFD}\u{0}", [0xFFFD, 0x0000]),
 ];
 
-/// The string of the first `count` of `pieces`, over and over, then the unit `last`; and its units.
-fn joined_pieces(
-    alloc: Global,
+/// Appends the first `count` of `pieces`, over and over, to a string, and their units to a list.
+fn push_pieces(
+    text: &mut Wtf8Buf<Global>,
+    units: &mut Vec<u16>,
     pieces: &[(&str, [u16; 2])],
     count: usize,
-    last: u16,
-) -> Result<(Wtf8Buf<Global>, Vec<u16>), AllocError> {
-    let mut text = Wtf8Buf::new(alloc);
-    let mut units = Vec::new(alloc);
+) -> Result<(), AllocError> {
     for (piece, pair) in pieces.iter().cycle().take(count) {
         text.push_str(piece)?;
         units.extend_from_slice(pair)?;
     }
-    text.push_unit(last)?;
-    units.push(last)?;
-    Ok((text, units))
+    Ok(())
 }
 
-/// Fails unless the units of `joined_pieces` are appended and written.
+/// Fails unless the units of the first `count` of `pieces`, over and over, then the unit `last`, are appended and written.
 fn expect_pieces(
     alloc: Global,
     pieces: &[(&str, [u16; 2])],
     count: usize,
     last: u16,
 ) -> Result<(), Failed> {
-    let (text, units) = joined_pieces(alloc, pieces, count, last)?;
-    let view = text.as_wtf8();
-    let is_appended = appends_each_way(alloc, view, &units)?;
-    expect(
-        is_appended && writes_front(alloc, view, &units)?,
-        Wrong::Units,
-    )
+    let mut text = Wtf8Buf::new(alloc);
+    let mut units = Vec::new(alloc);
+    let is_pushed = push_pieces(&mut text, &mut units, pieces, count).is_ok()
+        && text.push_unit(last).is_ok()
+        && units.push(last).is_ok();
+    if !is_pushed {
+        return Err(Failed::by(Wrong::Memory));
+    }
+    expect_each_way(alloc, text.as_wtf8(), &units)
 }
 
 #[test]
@@ -226,11 +264,12 @@ fn full_blocks_of_four_bytes_are_appended_and_written(rt: HostRuntime) -> Result
     let alloc = rt.alloc();
     for count in [7, 8, 9, 15, 16, 17, 24, 25, 97, 120] {
         for last in [0x0061, 0xD800, 0xDBFF, 0xDC00, 0xDFFF, 0x00E9, 0x20AC] {
-            in_row(count, expect_pieces(alloc, &FOURS, count, last))?;
-            in_row(
-                count,
-                expect_pieces(alloc, &THREES_BEFORE_ASCII, count, last),
-            )?;
+            if let Err(failed) = expect_pieces(alloc, &FOURS, count, last) {
+                return in_row(count, Err(failed));
+            }
+            if let Err(failed) = expect_pieces(alloc, &THREES_BEFORE_ASCII, count, last) {
+                return in_row(count, Err(failed));
+            }
         }
     }
     Ok(())

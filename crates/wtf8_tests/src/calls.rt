@@ -1,31 +1,44 @@
-// Each call of a string on one example. Scripts compare the calls with the original crate on many strings.
-use crate::examples::{TEXT, TEXT_DUMP, expect_units, has_numbers, joining};
-use crate::wrong::{Failed, Wrong, expect, expect_bytes, in_row, made};
-use std::alloc::{AllocError, Global};
+// Each call of a string on one example, and strings built from arrays and options of code points. Scripts compare the calls
+// with the original crate on many strings.
+use crate::examples::{JOINING, TEXT, TEXT_DUMP, expect_made, expect_units, has_numbers, joined};
+use crate::wrong::{Failed, Wrong, expect, expect_bytes, in_row};
+use std::alloc::{AllocError, Allocator, Global};
 use std::borrow::CowStr;
 use wtf8::{Build, CodePoint, Wtf8, Wtf8Buf};
 
 /// The code points, units and bytes of `TEXT` followed by a lone lead surrogate.
-const NUMBERS: [u32; 5] = [0x61, 0xE9, 0x20, 0x1F4A9, 0xD83D];
+static NUMBERS: [u32; 5] = [0x61, 0xE9, 0x20, 0x1F4A9, 0xD83D];
 
-const UNITS: [u16; 6] = [0x61, 0xE9, 0x20, 0xD83D, 0xDCA9, 0xD83D];
+static UNITS: [u16; 6] = [0x61, 0xE9, 0x20, 0xD83D, 0xDCA9, 0xD83D];
 
 const DUMP: &str = "61 C3 A9 20 F0 9F 92 A9 ED A0 BD";
 
 /// Appends the trail of a pair, and a lead.
 fn append_trail_and_lead(alloc: Global, text: &mut Wtf8Buf<Global>) -> Result<(), AllocError> {
-    let trail = Wtf8Buf::from_ill_formed_utf16(alloc, &[0xDCA9])?;
+    let Ok(trail) = Wtf8Buf::from_ill_formed_utf16(alloc, &[0xDCA9]) else {
+        return Err(AllocError);
+    };
     text.push_wtf8(trail.as_wtf8())?;
     text.extend([CodePoint::from_unit(0xD83D)])
 }
 
+/// Appends the units of `UNITS` after the first one, by each call that appends.
+fn append_each(alloc: Global, text: &mut Wtf8Buf<Global>) -> Result<(), AllocError> {
+    let is_pushed = text.push_char('é').is_ok()
+        && text.push_str(" ").is_ok()
+        && text.push(CodePoint::from_unit(0xD83D)).is_ok();
+    if !is_pushed {
+        return Err(AllocError);
+    }
+    append_trail_and_lead(alloc, text)
+}
+
 /// The string of `UNITS`, by each call that appends.
 fn appended(alloc: Global) -> Result<Wtf8Buf<Global>, AllocError> {
-    let mut text = Wtf8Buf::from_str(alloc, "a")?;
-    text.push_char('é')?;
-    text.push_str(" ")?;
-    text.push(CodePoint::from_unit(0xD83D))?;
-    append_trail_and_lead(alloc, &mut text)?;
+    let Ok(mut text) = Wtf8Buf::from_str(alloc, "a") else {
+        return Err(AllocError);
+    };
+    append_each(alloc, &mut text)?;
     Ok(text)
 }
 
@@ -36,30 +49,57 @@ fn expect_string(alloc: Global, string: &Wtf8Buf<Global>) -> Result<(), Failed> 
     expect(has_numbers(string.as_wtf8(), &NUMBERS), Wrong::Outcome)
 }
 
+/// Fails unless a string was made, and is that of `UNITS`.
+fn expect_made_string(
+    alloc: Global,
+    made: Result<Wtf8Buf<Global>, AllocError>,
+) -> Result<(), Failed> {
+    match made {
+        Ok(text) => expect_string(alloc, &text),
+        Err(_) => Err(Failed::by(Wrong::Memory)),
+    }
+}
+
 #[test]
 fn each_call_that_appends_keeps_the_units_before(rt: HostRuntime) -> Result<(), Failed> {
     let alloc = rt.alloc();
-    let text = appended(alloc)?;
+    let Ok(text) = appended(alloc) else {
+        return Err(Failed::by(Wrong::Memory));
+    };
     expect_string(alloc, &text)?;
-    expect_string(alloc, &text.clone()?)
+    expect_made_string(alloc, text.clone())
+}
+
+/// Appends the units of `UNITS` after the first one, by the calls that append units.
+fn push_units(text: &mut Wtf8Buf<Global>) -> Result<(), AllocError> {
+    text.push_ill_formed_utf16(&UNITS[1..4])?;
+    text.push_ill_formed_utf16(&UNITS[4..5])?;
+    text.push_unit(0xD83D)
 }
 
 /// The string of `UNITS`, by the calls that append units.
 fn pushed_as_units(alloc: Global) -> Result<Wtf8Buf<Global>, AllocError> {
-    let mut text = Wtf8Buf::from_str(alloc, "a")?;
-    text.push_ill_formed_utf16(&UNITS[1..4])?;
-    text.push_ill_formed_utf16(&UNITS[4..5])?;
-    text.push_unit(0xD83D)?;
+    let Ok(mut text) = Wtf8Buf::from_str(alloc, "a") else {
+        return Err(AllocError);
+    };
+    push_units(&mut text)?;
     Ok(text)
+}
+
+/// Appends a string by two slices of it, cut after its fourth unit.
+fn push_slices(text: &mut Wtf8Buf<Global>, whole: Wtf8<'_>) -> Result<(), AllocError> {
+    let end = whole.unit_len();
+    text.push_unit_slice(whole.slice_units(0, 4.min(end)))?;
+    text.push_unit_slice(whole.slice_units(4.min(end), end))
 }
 
 /// The string of `UNITS`, by slices of it that are cut inside its pair.
 fn pushed_as_slices(alloc: Global) -> Result<Wtf8Buf<Global>, AllocError> {
-    let whole = Wtf8Buf::from_ill_formed_utf16(alloc, &UNITS)?;
+    let Ok(whole) = Wtf8Buf::from_ill_formed_utf16(alloc, &UNITS) else {
+        return Err(AllocError);
+    };
     let mut text = Wtf8Buf::new(alloc);
-    let end = whole.as_wtf8().unit_len();
-    text.push_unit_slice(whole.as_wtf8().slice_units(0, 4.min(end)))?;
-    text.push_unit_slice(whole.as_wtf8().slice_units(4.min(end), end))?;
+    push_slices(&mut text, whole.as_wtf8())?;
     Ok(text)
 }
 
@@ -73,15 +113,22 @@ fn writes_units(text: Wtf8<'_>) -> bool {
     count == 6 && slice == [0x61, 0xE9, 0x20, 0xD83D, 0xDCA9, 0xD83D, 0x7A, 0x7A]
 }
 
+/// Whether a string with a surrogate comes back from `into_string`.
+fn is_no_text(text: Wtf8Buf<Global>) -> bool {
+    text.into_string().is_err()
+}
+
 #[test]
 fn units_are_pushed_and_written(rt: HostRuntime) -> Result<(), Failed> {
     let alloc = rt.alloc();
-    let text = pushed_as_units(alloc)?;
-    expect_string(alloc, &text)?;
-    expect_string(alloc, &pushed_as_slices(alloc)?)?;
+    expect_made_string(alloc, pushed_as_units(alloc))?;
+    expect_made_string(alloc, pushed_as_slices(alloc))?;
+    let Ok(text) = pushed_as_units(alloc) else {
+        return Err(Failed::by(Wrong::Memory));
+    };
     expect(writes_units(text.as_wtf8()), Wrong::Units)?;
     // A lone surrogate was pushed, so this is no text.
-    expect(text.into_string().is_err(), Wrong::Outcome)
+    expect(is_no_text(text), Wrong::Outcome)
 }
 
 /// The string of the code points of `UNITS`, collected from the string itself.
@@ -93,7 +140,7 @@ fn collected(alloc: Global) -> Result<Wtf8Buf<Global>, AllocError> {
 #[test]
 fn code_points_of_a_string_give_it_again(rt: HostRuntime) -> Result<(), Failed> {
     let alloc = rt.alloc();
-    expect_string(alloc, &collected(alloc)?)
+    expect_made_string(alloc, collected(alloc))
 }
 
 /// Whether a number is that of a code point with this character.
@@ -128,16 +175,18 @@ fn is_text(string: Wtf8Buf<Global>) -> bool {
     }
 }
 
-/// Whether the lossy text of the view is `text`, borrowed from the view.
-fn is_borrowed_text(alloc: Global, view: Wtf8<'_>, text: &str) -> Result<bool, AllocError> {
-    let lossy = view.to_string_lossy(alloc)?;
-    Ok(matches!(lossy, CowStr::Borrowed(_)) && lossy.as_str() == text)
-}
-
-/// Whether the lossy text of the view is `text`, copied from the view.
-fn is_copied_text(alloc: Global, view: Wtf8<'_>, text: &str) -> Result<bool, AllocError> {
-    let lossy = view.to_string_lossy(alloc)?;
-    Ok(!matches!(lossy, CowStr::Borrowed(_)) && lossy.as_str() == text)
+/// Fails unless the lossy text of the view is `text`, borrowed from the view if `is_borrowed`, else copied.
+fn expect_lossy(
+    alloc: Global,
+    view: Wtf8<'_>,
+    text: &str,
+    is_borrowed: bool,
+) -> Result<(), Failed> {
+    let Ok(lossy) = view.to_string_lossy(alloc) else {
+        return Err(Failed::by(Wrong::Memory));
+    };
+    let is_right = matches!(lossy, CowStr::Borrowed(_)) == is_borrowed && lossy.as_str() == text;
+    expect(is_right, Wrong::Bytes)
 }
 
 /// Whether `write_lossy` writes the lossy text of `UNITS` to the front of a slice, and leaves its rest unchanged.
@@ -155,20 +204,31 @@ fn writes_lossy(text: Wtf8<'_>) -> bool {
 
 #[test]
 fn a_string_without_surrogates_is_a_text(rt: HostRuntime) -> Result<(), Failed> {
-    let text = made(String::from_str(rt.alloc(), TEXT))?;
+    let Ok(text) = String::from_str(rt.alloc(), TEXT) else {
+        return Err(Failed::by(Wrong::Memory));
+    };
     expect(is_text(Wtf8Buf::from_string(text)), Wrong::Bytes)?;
-    let is_text = made(is_borrowed_text(rt.alloc(), Wtf8::from_str(TEXT), TEXT))?;
-    expect(is_text, Wrong::Bytes)
+    expect_lossy(rt.alloc(), Wtf8::from_str(TEXT), TEXT, true)
+}
+
+/// Fails unless the view of `UNITS` is no text, and `text` with its surrogate replaced.
+fn expect_replaced(alloc: Global, view: Wtf8<'_>, text: &str) -> Result<(), Failed> {
+    expect_lossy(alloc, view, text, false)?;
+    expect(view.as_str().is_none() && writes_lossy(view), Wrong::Bytes)
+}
+
+/// Whether a string becomes the lossy text `text`.
+fn becomes_lossy(string: Wtf8Buf<Global>, text: &str) -> bool {
+    string.into_string_lossy().as_str() == text
 }
 
 #[test]
 fn a_lossy_text_has_replacements(rt: HostRuntime) -> Result<(), Failed> {
-    let text = made(appended(rt.alloc()))?;
-    let lossy = "aé 💩\u{FFFD}";
-    let is_text = made(is_copied_text(rt.alloc(), text.as_wtf8(), lossy))?;
-    expect(is_text && text.as_wtf8().as_str().is_none(), Wrong::Bytes)?;
-    expect(writes_lossy(text.as_wtf8()), Wrong::Bytes)?;
-    expect(text.into_string_lossy().as_str() == lossy, Wrong::Bytes)
+    let Ok(text) = appended(rt.alloc()) else {
+        return Err(Failed::by(Wrong::Memory));
+    };
+    expect_replaced(rt.alloc(), text.as_wtf8(), "aé 💩\u{FFFD}")?;
+    expect(becomes_lossy(text, "aé 💩\u{FFFD}"), Wrong::Bytes)
 }
 
 /// Fails unless the parts of `TEXT` at a boundary have their bytes, and inside a code point there is none.
@@ -186,6 +246,18 @@ fn parts_have_the_bytes_between_their_positions(rt: HostRuntime) -> Result<(), F
     expect_parts(rt.alloc(), Wtf8::from_str(TEXT))
 }
 
+/// Appends a trail. Fails unless the string then has the bytes of `dump`.
+fn expect_trail_pushed(
+    alloc: Global,
+    text: &mut Wtf8Buf<Global>,
+    dump: &str,
+) -> Result<(), Failed> {
+    match text.push(CodePoint::from_unit(0xDCA9)) {
+        Ok(()) => expect_bytes(alloc, text.as_wtf8(), dump),
+        Err(_) => Err(Failed::by(Wrong::Memory)),
+    }
+}
+
 /// Truncates `TEXT` to its first four units. Fails unless it then ends with a lead that a trail joins.
 fn expect_truncated(alloc: Global, text: &mut Wtf8Buf<Global>) -> Result<(), Failed> {
     if text.as_wtf8().unit_len() != 5 {
@@ -193,13 +265,14 @@ fn expect_truncated(alloc: Global, text: &mut Wtf8Buf<Global>) -> Result<(), Fai
     }
     text.truncate_units(4);
     expect_bytes(alloc, text.as_wtf8(), "61 C3 A9 20 ED A0 BD")?;
-    text.push(CodePoint::from_unit(0xDCA9))?;
-    expect_bytes(alloc, text.as_wtf8(), TEXT_DUMP)
+    expect_trail_pushed(alloc, text, TEXT_DUMP)
 }
 
 #[test]
 fn a_string_is_truncated_inside_a_pair(rt: HostRuntime) -> Result<(), Failed> {
-    let mut text = Wtf8Buf::from_str(rt.alloc(), TEXT)?;
+    let Ok(mut text) = Wtf8Buf::from_str(rt.alloc(), TEXT) else {
+        return Err(Failed::by(Wrong::Memory));
+    };
     expect_truncated(rt.alloc(), &mut text)
 }
 
@@ -212,11 +285,12 @@ fn clears(text: &mut Wtf8Buf<Global>) -> bool {
 
 #[test]
 fn a_cleared_string_is_empty_and_begins_anew(rt: HostRuntime) -> Result<(), Failed> {
-    let mut text = appended(rt.alloc())?;
+    let Ok(mut text) = appended(rt.alloc()) else {
+        return Err(Failed::by(Wrong::Memory));
+    };
     assert!(rt; !text.is_empty() && !text.as_wtf8().is_empty());
     assert!(rt; clears(&mut text));
-    text.push(CodePoint::from_unit(0xDCA9))?;
-    expect_bytes(rt.alloc(), text.as_wtf8(), "ED B2 A9")
+    expect_trail_pushed(rt.alloc(), &mut text, "ED B2 A9")
 }
 
 /// Whether the units of "ab" are found by their indexes, by both calls.
@@ -256,7 +330,9 @@ fn yields_back(text: Wtf8<'_>) -> bool {
 
 #[test]
 fn an_iterator_outlives_its_view(rt: HostRuntime) -> Result<(), Failed> {
-    let text = made(Wtf8Buf::from_ill_formed_utf16(rt.alloc(), &[0xD83D, 0x62]))?;
+    let Ok(text) = Wtf8Buf::from_ill_formed_utf16(rt.alloc(), &[0xD83D, 0x62]) else {
+        return Err(Failed::by(Wrong::Memory));
+    };
     expect(yields_back(text.as_wtf8()), Wrong::Units)
 }
 
@@ -274,8 +350,9 @@ fn keeps_back(text: Wtf8<'_>) -> bool {
 
 #[test]
 fn a_slice_outlives_its_view(rt: HostRuntime) -> Result<(), Failed> {
-    let units = [0x61, 0xD83D, 0x62];
-    let text = made(Wtf8Buf::from_ill_formed_utf16(rt.alloc(), &units))?;
+    let Ok(text) = Wtf8Buf::from_ill_formed_utf16(rt.alloc(), &[0x61, 0xD83D, 0x62]) else {
+        return Err(Failed::by(Wrong::Memory));
+    };
     expect(keeps_back(text.as_wtf8()), Wrong::Bytes)
 }
 
@@ -284,16 +361,24 @@ fn ends_before_max(text: Wtf8<'_>) -> bool {
     text.is_code_point_boundary(0) && !text.is_code_point_boundary(usize::MAX)
 }
 
+/// Fails unless the string of the units has a boundary at its start and none at `usize::MAX`.
+fn expect_end_before_max(alloc: Global, units: &[u16]) -> Result<(), Failed> {
+    let Ok(text) = Wtf8Buf::from_ill_formed_utf16(alloc, units) else {
+        return Err(Failed::by(Wrong::Memory));
+    };
+    expect(ends_before_max(text.as_wtf8()), Wrong::Outcome)
+}
+
 #[test]
 fn usize_max_is_no_boundary(rt: HostRuntime) -> Result<(), Failed> {
     for text in ["", TEXT] {
         expect(ends_before_max(Wtf8::from_str(text)), Wrong::Outcome)?;
     }
     let mut row = 0usize;
-    for (units, _, _) in joining() {
-        let text = made(Wtf8Buf::from_ill_formed_utf16(rt.alloc(), units))?;
-        let is_right = ends_before_max(text.as_wtf8());
-        in_row(row, expect(is_right, Wrong::Outcome))?;
+    for (units, _, _) in &JOINING {
+        if let Err(failed) = expect_end_before_max(rt.alloc(), units) {
+            return in_row(row, Err(failed));
+        }
         row = row.wrapping_add(1);
     }
     Ok(())
@@ -311,4 +396,46 @@ fn two_extensions_join(rt: HostRuntime) -> Result<(), Failed> {
     let mut text = Wtf8Buf::new(rt.alloc());
     expect(extends_twice(&mut text), Wrong::Outcome)?;
     expect_bytes(rt.alloc(), text.as_wtf8(), "F0 9F 92 A9 61")
+}
+
+/// The string collected from one array of code points and extended by another.
+fn of_arrays(
+    alloc: Global,
+    collected: [CodePoint; 2],
+    extension: [CodePoint; 2],
+) -> Result<Wtf8Buf<Global>, AllocError> {
+    let mut text = Wtf8Buf::from_iter(alloc, collected)?;
+    text.extend(extension)?;
+    Ok(text)
+}
+
+#[test]
+fn arrays_are_taken(rt: HostRuntime) -> Result<(), Failed> {
+    let alloc = rt.alloc();
+    let [a, b] = ['a', 'b'].map(CodePoint::from_char);
+    let pair = [CodePoint::from_unit(0xD83D), CodePoint::from_unit(0xDCA9)];
+    let text = of_arrays(alloc, [a, pair[0]], [pair[1], b]);
+    expect_made(alloc, text, "61 F0 9F 92 A9 62")
+}
+
+/// Extends `text` by no code point, then by `point`.
+fn extend_by_options<A: Allocator>(
+    text: &mut Wtf8Buf<A>,
+    point: CodePoint,
+) -> Result<(), AllocError> {
+    text.extend(None)?;
+    text.extend(Some(point))
+}
+
+/// The string of D83D, extended by DCA9.
+fn of_options(alloc: Global) -> Result<Wtf8Buf<Global>, AllocError> {
+    let mut text = joined(alloc, &[0xD83D])?;
+    extend_by_options(&mut text, CodePoint::from_unit(0xDCA9))?;
+    Ok(text)
+}
+
+#[test]
+fn an_option_is_taken(rt: HostRuntime) -> Result<(), Failed> {
+    let alloc = rt.alloc();
+    expect_made(alloc, of_options(alloc), "F0 9F 92 A9")
 }

@@ -1,45 +1,42 @@
 // `Debug` output of strings and code points: it ignores width, precision and flags, and ends at a refused write.
-use crate::examples::{point_of_number, pushed};
-use crate::long_texts::long_text;
+use crate::displaying::long_text;
+use crate::examples::pushed;
 use crate::sinks::Sink;
-use crate::wrong::{Failed, in_row};
+use crate::wrong::{Failed, Wrong, in_row};
 use std::alloc::{AllocError, Global};
 use std::fmt::{Debug, Write};
+use wtf8::CodePoint;
 
 /// Code points of strings, and the strings' debug output.
-fn strings() -> [(&'static [u32], &'static str); 8] {
-    [
-        (&[], "\"\""),
-        (&[0x61, 0x22, 0x62], "\"a\"b\""),
-        (&[0x61, 0xE9, 0x20, 0x1F4A9, 0xD800], "\"aé 💩\\u{D800}\""),
-        (&[0xD800], "\"\\u{D800}\""),
-        (&[0x07, 0xDEAD, 0x07], "\"\u{7}\\u{DEAD}\u{7}\""),
-        (&[0xABCD, 0xDABC], "\"\u{ABCD}\\u{DABC}\""),
-        (&[0x0A, 0x5C, 0x27, 0x00], "\"\n\\'\0\""),
-        (
-            &[0x5C, 0x75, 0x7B, 0x44, 0x38, 0x30, 0x30, 0x7D],
-            "\"\\u{D800}\"",
-        ),
-    ]
-}
+static STRINGS: [(&[u32], &str); 8] = [
+    (&[], "\"\""),
+    (&[0x61, 0x22, 0x62], "\"a\"b\""),
+    (&[0x61, 0xE9, 0x20, 0x1F4A9, 0xD800], "\"aé 💩\\u{D800}\""),
+    (&[0xD800], "\"\\u{D800}\""),
+    (&[0x07, 0xDEAD, 0x07], "\"\u{7}\\u{DEAD}\u{7}\""),
+    (&[0xABCD, 0xDABC], "\"\u{ABCD}\\u{DABC}\""),
+    (&[0x0A, 0x5C, 0x27, 0x00], "\"\n\\'\0\""),
+    (
+        &[0x5C, 0x75, 0x7B, 0x44, 0x38, 0x30, 0x30, 0x7D],
+        "\"\\u{D800}\"",
+    ),
+];
 
 /// Code points, and their debug output.
-fn points() -> [(u32, &'static str); 12] {
-    [
-        (0, "U+0000"),
-        (0x07, "U+0007"),
-        (0x61, "U+0061"),
-        (0xFFF, "U+0FFF"),
-        (0x1000, "U+1000"),
-        (0xABCD, "U+ABCD"),
-        (0xD800, "U+D800"),
-        (0xDEAD, "U+DEAD"),
-        (0xFFFF, "U+FFFF"),
-        (0x10000, "U+10000"),
-        (0x1F4A9, "U+1F4A9"),
-        (0x10FFFF, "U+10FFFF"),
-    ]
-}
+static POINTS: [(u32, &str); 12] = [
+    (0, "U+0000"),
+    (0x07, "U+0007"),
+    (0x61, "U+0061"),
+    (0xFFF, "U+0FFF"),
+    (0x1000, "U+1000"),
+    (0xABCD, "U+ABCD"),
+    (0xD800, "U+D800"),
+    (0xDEAD, "U+DEAD"),
+    (0xFFFF, "U+FFFF"),
+    (0x10000, "U+10000"),
+    (0x1F4A9, "U+1F4A9"),
+    (0x10FFFF, "U+10FFFF"),
+];
 
 /// Writes the debug output, with a width, a precision and flags if `is_styled`, to a sink that refuses write number
 /// `refused`. Fails unless it ends there, or is `expected` if no write is refused. Returns the number of writes.
@@ -77,19 +74,30 @@ fn expect_string_ends(alloc: Global, numbers: &[u32], expected: &str) -> Result<
     expect_ends(alloc, &text.as_wtf8(), expected)
 }
 
+/// Fails unless the debug output of the code point ends at each refused write.
+fn expect_point_ends(alloc: Global, number: u32, expected: &str) -> Result<(), Failed> {
+    let Some(point) = CodePoint::from_u32(number) else {
+        return Err(Failed::by(Wrong::Row));
+    };
+    expect_ends(alloc, &point, expected)
+}
+
 #[test]
 fn a_debug_text_shows_surrogates_by_number_and_ends_at_a_refused_write(
     rt: HostRuntime,
 ) -> Result<(), Failed> {
     let alloc = rt.alloc();
     let mut row = 0usize;
-    for (numbers, expected) in strings() {
-        in_row(row, expect_string_ends(alloc, numbers, expected))?;
+    for (numbers, expected) in &STRINGS {
+        if let Err(failed) = expect_string_ends(alloc, numbers, expected) {
+            return in_row(row, Err(failed));
+        }
         row = row.wrapping_add(1);
     }
-    for (number, expected) in points() {
-        let point = point_of_number(number)?;
-        in_row(row, expect_ends(alloc, &point, expected))?;
+    for (number, expected) in &POINTS {
+        if let Err(failed) = expect_point_ends(alloc, *number, expected) {
+            return in_row(row, Err(failed));
+        }
         row = row.wrapping_add(1);
     }
     Ok(())
@@ -97,17 +105,26 @@ fn a_debug_text_shows_surrogates_by_number_and_ends_at_a_refused_write(
 
 /// `text` in quotation marks.
 fn quoted(alloc: Global, text: &str) -> Result<String, AllocError> {
-    let mut quoted = String::from_str(alloc, "\"")?;
-    quoted.push_str(text)?;
-    quoted.push('"')?;
+    let Ok(mut quoted) = String::from_str(alloc, "\"") else {
+        return Err(AllocError);
+    };
+    let is_quoted = quoted.push_str(text).is_ok() && quoted.push('"').is_ok();
+    if !is_quoted {
+        return Err(AllocError);
+    }
     Ok(quoted)
 }
 
 /// Fails unless the debug output of a long string with the code point `number`, shown as `shown`, ends at each refused
 /// write.
 fn expect_long_ends(alloc: Global, number: u32, shown: &str) -> Result<(), Failed> {
-    let (numbers, text) = long_text(alloc, 160, number, shown)?;
-    expect_string_ends(alloc, &numbers, &quoted(alloc, &text)?)
+    let Ok((numbers, text)) = long_text(alloc, 160, number, shown) else {
+        return Err(Failed::by(Wrong::Memory));
+    };
+    match quoted(alloc, &text) {
+        Ok(quoted) => expect_string_ends(alloc, &numbers, &quoted),
+        Err(_) => Err(Failed::by(Wrong::Memory)),
+    }
 }
 
 #[test]

@@ -1,8 +1,7 @@
 // `Display` output of strings: with a width, a fill and a precision, and through a sink that refuses a write.
 use crate::examples::{expect_true, pushed};
-use crate::long_texts::long_text;
 use crate::sinks::Sink;
-use crate::wrong::{Failed, in_row};
+use crate::wrong::{Failed, Wrong, in_row};
 use std::alloc::{AllocError, Global};
 use std::fmt;
 use std::fmt::{Display, Write};
@@ -10,22 +9,20 @@ use wtf8::Wtf8Buf;
 
 /// Code points of strings, and their `Display` output by `{}`, `{:>8}`, `{:*^8.1}`, `{:*<6.2}` and `{:+4}`, equal to
 /// the output of the Rust library's own WTF-8 type.
-fn styled() -> [(&'static [u32], [&'static str; 5]); 6] {
-    [
-        (&[], ["", "        ", "********", "******", "    "]),
-        (
-            &[0x61, 0x62, 0x63],
-            ["abc", "     abc", "***a****", "ab****", "abc "],
-        ),
-        (
-            &[0xD83D, 0xDCA9],
-            ["💩", "       💩", "***💩****", "💩*****", "💩   "],
-        ),
-        (&[0xD83D], ["\u{FFFD}"; 5]),
-        (&[0x61, 0xD83D, 0x62], ["a\u{FFFD}b"; 5]),
-        (&[0xDCA9, 0xD83D], ["\u{FFFD}\u{FFFD}"; 5]),
-    ]
-}
+static STYLED: [(&[u32], [&str; 5]); 6] = [
+    (&[], ["", "        ", "********", "******", "    "]),
+    (
+        &[0x61, 0x62, 0x63],
+        ["abc", "     abc", "***a****", "ab****", "abc "],
+    ),
+    (
+        &[0xD83D, 0xDCA9],
+        ["💩", "       💩", "***💩****", "💩*****", "💩   "],
+    ),
+    (&[0xD83D], ["\u{FFFD}"; 5]),
+    (&[0x61, 0xD83D, 0x62], ["a\u{FFFD}b"; 5]),
+    (&[0xDCA9, 0xD83D], ["\u{FFFD}\u{FFFD}"; 5]),
+];
 
 /// Takes `left` writes, each followed by `|`, refuses the next one, and takes all after that.
 #[derive(Drop)]
@@ -50,8 +47,10 @@ impl Write for Parts {
 fn with_bars(alloc: Global, parts: &[&str], left: usize) -> Result<String, AllocError> {
     let mut text = String::new(alloc);
     for part in parts.iter().take(left) {
-        text.push_str(part)?;
-        text.push_str("|")?;
+        let is_pushed = text.push_str(part).is_ok() && text.push_str("|").is_ok();
+        if !is_pushed {
+            return Err(AllocError);
+        }
     }
     Ok(text)
 }
@@ -85,32 +84,37 @@ fn writes_in_parts(
 }
 
 /// Code points of strings, and the single writes by which the Rust library's own WTF-8 type displays them.
-fn parts_rows() -> [(&'static [u32], &'static [&'static str]); 5] {
-    [
-        (&[0x61, 0x62], &["ab"]),
-        (&[0xD83D, 0xDCA9], &["💩"]),
-        (&[0xD83D], &["", "\u{FFFD}", ""]),
-        (&[0x61, 0xD83D, 0x62], &["a", "\u{FFFD}", "b"]),
-        (
-            &[0x61, 0xDCA9, 0xD83D, 0x62],
-            &["a", "\u{FFFD}", "", "\u{FFFD}", "b"],
-        ),
-    ]
+static IN_PARTS: [(&[u32], &[&str]); 5] = [
+    (&[0x61, 0x62], &["ab"]),
+    (&[0xD83D, 0xDCA9], &["💩"]),
+    (&[0xD83D], &["", "\u{FFFD}", ""]),
+    (&[0x61, 0xD83D, 0x62], &["a", "\u{FFFD}", "b"]),
+    (
+        &[0x61, 0xDCA9, 0xD83D, 0x62],
+        &["a", "\u{FFFD}", "", "\u{FFFD}", "b"],
+    ),
+];
+
+/// Fails unless the string of these code points, and its view, are written in these parts.
+fn expect_parts(alloc: Global, numbers: &[u32], parts: &[&str]) -> Result<(), Failed> {
+    let text = pushed(alloc, numbers)?;
+    expect_true(writes_in_parts(alloc, &text, parts))
 }
 
 #[test]
 fn a_lossy_text_is_written_in_parts(rt: HostRuntime) -> Result<(), Failed> {
     let alloc = rt.alloc();
     let mut row = 0usize;
-    for (numbers, parts) in parts_rows() {
-        let text = pushed(alloc, numbers)?;
-        in_row(row, expect_true(writes_in_parts(alloc, &text, parts)))?;
+    for (numbers, parts) in &IN_PARTS {
+        if let Err(failed) = expect_parts(alloc, numbers, parts) {
+            return in_row(row, Err(failed));
+        }
         row = row.wrapping_add(1);
     }
     Ok(())
 }
 
-/// Displays `value` in format number `style` of `styled` to a sink that refuses write number `refused`. Fails unless
+/// Displays `value` in format number `style` of `STYLED` to a sink that refuses write number `refused`. Fails unless
 /// the output ends there, or is `expected` if no write is refused. Returns the number of writes.
 fn writes_of<T: Display>(
     alloc: Global,
@@ -132,11 +136,13 @@ fn writes_of<T: Display>(
 
 /// Refuses each write in each format in turn. Fails unless the output ends there.
 fn expect_ends<T: Display>(alloc: Global, value: &T, expected: [&str; 5]) -> Result<(), Failed> {
-    for (style, expected) in expected.iter().enumerate() {
+    let mut style = 0usize;
+    for expected in expected {
         let writes = writes_of(alloc, value, style, u32::MAX, expected)?;
         for refused in 1..=writes {
             writes_of(alloc, value, style, refused, expected)?;
         }
+        style = style.wrapping_add(1);
     }
     Ok(())
 }
@@ -153,17 +159,42 @@ fn a_text_is_filled_a_lossy_text_is_not_and_both_end_at_a_refused_write(
     rt: HostRuntime,
 ) -> Result<(), Failed> {
     let mut row = 0usize;
-    for (numbers, expected) in styled() {
-        in_row(row, expect_string_ends(rt.alloc(), numbers, expected))?;
+    for (numbers, expected) in &STYLED {
+        if let Err(failed) = expect_string_ends(rt.alloc(), numbers, *expected) {
+            return in_row(row, Err(failed));
+        }
         row = row.wrapping_add(1);
     }
     Ok(())
 }
 
+/// "a", a code point and U+3042, repeated `times` times: as code points, and as a text with `shown` for the code point.
+pub fn long_text(
+    alloc: Global,
+    times: u32,
+    number: u32,
+    shown: &str,
+) -> Result<(Vec<u32>, String), AllocError> {
+    let mut numbers = Vec::new(alloc);
+    let mut text = String::new(alloc);
+    for _ in 0..times {
+        let is_pushed = numbers.extend_from_slice(&[0x61, number, 0x3042]).is_ok()
+            && text.push('a').is_ok()
+            && text.push_str(shown).is_ok()
+            && text.push('\u{3042}').is_ok();
+        if !is_pushed {
+            return Err(AllocError);
+        }
+    }
+    Ok((numbers, text))
+}
+
 #[test]
 fn a_long_text_ends_at_a_refused_write(rt: HostRuntime) -> Result<(), Failed> {
     let alloc = rt.alloc();
-    let (numbers, text) = long_text(alloc, 160, 0x1F4A9, "💩")?;
+    let Ok((numbers, text)) = long_text(alloc, 160, 0x1F4A9, "💩") else {
+        return Err(Failed::by(Wrong::Memory));
+    };
     let whole = text.as_str();
     let expected = [whole, whole, "***a****", "a💩****", whole];
     expect_string_ends(alloc, &numbers, expected)
@@ -172,7 +203,9 @@ fn a_long_text_ends_at_a_refused_write(rt: HostRuntime) -> Result<(), Failed> {
 #[test]
 fn a_long_lossy_text_ends_at_a_refused_write(rt: HostRuntime) -> Result<(), Failed> {
     let alloc = rt.alloc();
-    let (numbers, text) = long_text(alloc, 160, 0xDEAD, "\u{FFFD}")?;
+    let Ok((numbers, text)) = long_text(alloc, 160, 0xDEAD, "\u{FFFD}") else {
+        return Err(Failed::by(Wrong::Memory));
+    };
     let whole = text.as_str();
     let expected = [whole, whole, whole, whole, whole];
     expect_string_ends(alloc, &numbers, expected)
@@ -187,8 +220,15 @@ fn around_a_surrogate(alloc: Global, length: usize) -> Result<(Vec<u32>, String)
     let mut text = String::new(alloc);
     for index in 0..=LETTERS {
         let is_letter = index != length;
-        numbers.push(if is_letter { 0x61 } else { 0xDEAD })?;
-        text.push(if is_letter { 'a' } else { '\u{FFFD}' })?;
+        let (number, shown) = if is_letter {
+            (0x61, 'a')
+        } else {
+            (0xDEAD, '\u{FFFD}')
+        };
+        let is_pushed = numbers.push(number).is_ok() && text.push(shown).is_ok();
+        if !is_pushed {
+            return Err(AllocError);
+        }
     }
     Ok((numbers, text))
 }
@@ -197,15 +237,21 @@ fn around_a_surrogate(alloc: Global, length: usize) -> Result<(Vec<u32>, String)
 fn expect_displayed(alloc: Global, numbers: &[u32], expected: &str) -> Result<(), Failed> {
     let text = pushed(alloc, numbers)?;
     writes_of(alloc, &text, 0, u32::MAX, expected)?;
-    writes_of(alloc, &text.as_wtf8(), 0, u32::MAX, expected)?;
-    Ok(())
+    match writes_of(alloc, &text.as_wtf8(), 0, u32::MAX, expected) {
+        Ok(_) => Ok(()),
+        Err(failed) => Err(failed),
+    }
 }
 
 #[test]
 fn texts_of_each_length_around_a_surrogate_are_written(rt: HostRuntime) -> Result<(), Failed> {
     for length in 0..=LETTERS {
-        let (numbers, text) = around_a_surrogate(rt.alloc(), length)?;
-        in_row(length, expect_displayed(rt.alloc(), &numbers, &text))?;
+        let Ok((numbers, text)) = around_a_surrogate(rt.alloc(), length) else {
+            return in_row(length, Err(Failed::by(Wrong::Memory)));
+        };
+        if let Err(failed) = expect_displayed(rt.alloc(), &numbers, &text) {
+            return in_row(length, Err(failed));
+        }
     }
     Ok(())
 }

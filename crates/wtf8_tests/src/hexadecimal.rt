@@ -23,7 +23,9 @@ fn dumps_of_all_prefixes_are_prefixes(rt: HostRuntime) -> Result<(), Failed> {
         let Ok(text) = str::from_utf8(&TEXT.as_bytes()[..n]) else {
             return in_row(n, Err(Failed::by(Wrong::Row)));
         };
-        in_row(n, expect_true(is_prefix(alloc, text)))?;
+        if let Err(failed) = expect_true(is_prefix(alloc, text)) {
+            return in_row(n, Err(failed));
+        }
     }
     Ok(())
 }
@@ -47,7 +49,9 @@ fn a_dump_is_appended_after_a_text(rt: HostRuntime) -> Result<(), Failed> {
             "before:C3 A9 E6 BC A2 F0 9F 92 A9 C3 A9 E6 BC A2 F0 9F 92 A9",
         ),
     ] {
-        in_row(row, expect_true(appends_dump(alloc, text, expected)))?;
+        if let Err(failed) = expect_true(appends_dump(alloc, text, expected)) {
+            return in_row(row, Err(failed));
+        }
         row = row.wrapping_add(1);
     }
     Ok(())

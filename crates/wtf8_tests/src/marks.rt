@@ -1,23 +1,22 @@
-// Marks by positions and by units, and what iterators have left.
+// Marks by positions and by units, what iterators have left, and the size hints of the iterator over units. Scripts compare
+// all steps of both iterators with the original crate.
 use crate::examples::TEXT;
 use crate::wrong::{Failed, Wrong, expect, expect_bytes, in_row};
 use std::alloc::{AllocError, Global};
-use wtf8::{CodePoint, Wtf8, Wtf8Buf};
+use wtf8::{CodePoint, IllFormedUtf16CodeUnits, Wtf8, Wtf8Buf};
 
 /// For each byte position of `TEXT` the last boundary at or before it, and the number of units before that.
-fn marks() -> [(usize, usize); 9] {
-    [
-        (0, 0),
-        (1, 1),
-        (1, 1),
-        (3, 2),
-        (4, 3),
-        (4, 3),
-        (4, 3),
-        (4, 3),
-        (8, 5),
-    ]
-}
+static MARKS: [(usize, usize); 9] = [
+    (0, 0),
+    (1, 1),
+    (1, 1),
+    (3, 2),
+    (4, 3),
+    (4, 3),
+    (4, 3),
+    (4, 3),
+    (8, 5),
+];
 
 /// Whether the mark before a position, counted from the start or from another mark, is that of the row, and is found
 /// again by its number of units.
@@ -33,9 +32,13 @@ fn is_marked(text: Wtf8<'_>, position: usize, row: (usize, usize)) -> bool {
 
 /// Fails unless each position of `TEXT` has the mark of its row.
 fn expect_marks(text: Wtf8<'_>) -> Result<(), Failed> {
-    for (position, row) in marks().iter().enumerate() {
+    let mut position = 0usize;
+    for row in &MARKS {
         let is_right = is_marked(text, position, *row);
-        in_row(position, expect(is_right, Wrong::Outcome))?;
+        if let Err(failed) = expect(is_right, Wrong::Outcome) {
+            return in_row(position, Err(failed));
+        }
+        position = position.wrapping_add(1);
     }
     Ok(())
 }
@@ -46,19 +49,21 @@ fn each_position_is_at_or_after_a_mark() -> Result<(), Failed> {
 }
 
 /// For each number of units of `TEXT` the mark for it. Four split the pair, so theirs is before it.
-fn marks_of_units() -> [(usize, usize); 6] {
-    [(0, 0), (1, 1), (3, 2), (4, 3), (4, 3), (8, 5)]
-}
+static MARKS_OF_UNITS: [(usize, usize); 6] = [(0, 0), (1, 1), (3, 2), (4, 3), (4, 3), (8, 5)];
 
 /// Fails unless each mark for at most the units before `position` is found back from the mark there.
 fn expect_found_back(text: Wtf8<'_>, position: usize) -> Result<(), Failed> {
     let from = text.mark_before(text.start_mark(), position.min(text.len()));
-    for (units, row) in marks_of_units().iter().enumerate() {
+    let mut units = 0usize;
+    for row in &MARKS_OF_UNITS {
         if units <= from.units {
             let mark = text.mark_back(from, units);
             let is_right = (mark.position, mark.units) == *row;
-            in_row(units, expect(is_right, Wrong::Outcome))?;
+            if let Err(failed) = expect(is_right, Wrong::Outcome) {
+                return in_row(units, Err(failed));
+            }
         }
+        units = units.wrapping_add(1);
     }
     Ok(())
 }
@@ -80,23 +85,32 @@ fn expect_left(alloc: Global, left: Option<Wtf8<'_>>, dump: Option<&str>) -> Res
     }
 }
 
-/// Fails unless both iterators have left what is after the code points, or the units, that they returned.
-fn expect_all_left(alloc: Global, text: Wtf8<'_>) -> Result<(), Failed> {
+/// Fails unless the iterator over code points has left what is after the two that it returned.
+fn expect_points_left(alloc: Global, text: Wtf8<'_>) -> Result<(), Failed> {
     let mut points = text.code_points();
     points.next();
     points.next();
-    expect_bytes(alloc, points.as_wtf8(), "20 F0 9F 92 A9")?;
+    expect_bytes(alloc, points.as_wtf8(), "20 F0 9F 92 A9")
+}
+
+/// The bytes of what the iterator over the units of `TEXT` has left after each number of them, if it is no half of a pair.
+static LEFT: [Option<&str>; 6] = [
+    Some("61 C3 A9 20 F0 9F 92 A9"),
+    Some("C3 A9 20 F0 9F 92 A9"),
+    Some("20 F0 9F 92 A9"),
+    Some("F0 9F 92 A9"),
+    None,
+    Some(""),
+];
+
+/// Fails unless the iterator over units has left what is after the ones that it returned.
+fn expect_units_left(alloc: Global, text: Wtf8<'_>) -> Result<(), Failed> {
     let mut units = text.to_ill_formed_utf16();
     let mut row = 0usize;
-    for dump in [
-        Some("61 C3 A9 20 F0 9F 92 A9"),
-        Some("C3 A9 20 F0 9F 92 A9"),
-        Some("20 F0 9F 92 A9"),
-        Some("F0 9F 92 A9"),
-        None,
-        Some(""),
-    ] {
-        in_row(row, expect_left(alloc, units.as_wtf8(), dump))?;
+    for dump in &LEFT {
+        if let Err(failed) = expect_left(alloc, units.as_wtf8(), *dump) {
+            return in_row(row, Err(failed));
+        }
         row = row.wrapping_add(1);
         units.next();
     }
@@ -105,7 +119,8 @@ fn expect_all_left(alloc: Global, text: Wtf8<'_>) -> Result<(), Failed> {
 
 #[test]
 fn iterators_show_what_they_have_left(rt: HostRuntime) -> Result<(), Failed> {
-    expect_all_left(rt.alloc(), Wtf8::from_str(TEXT))
+    expect_points_left(rt.alloc(), Wtf8::from_str(TEXT))?;
+    expect_units_left(rt.alloc(), Wtf8::from_str(TEXT))
 }
 
 /// Whether the last boundary of a text at or before a position is this one.
@@ -222,5 +237,57 @@ fn numbers_of_units_are_those_of_table_3_5(rt: HostRuntime) {
         (0x10FFFF, 2),
     ] {
         assert!(rt; has_units(number, units), "{number}");
+    }
+}
+
+/// Whether the iterator yields `unit`, and has the size hint `hint` after it.
+fn yields(
+    units: &mut IllFormedUtf16CodeUnits<'_>,
+    unit: Option<u16>,
+    hint: (usize, Option<usize>),
+) -> bool {
+    units.next() == unit && units.size_hint() == hint
+}
+
+/// What one call of `next` returns, and the size hint after it.
+type Moment = (Option<u16>, (usize, Option<usize>));
+
+/// Texts with a surrogate pair, and each step of the iterator over their code units.
+static MOMENTS: [(&str, [Moment; 4]); 2] = [
+    (
+        "\u{10000}",
+        [
+            (Some(0xD800), (1, Some(1))),
+            (Some(0xDC00), (0, Some(0))),
+            (None, (0, Some(0))),
+            (None, (0, Some(0))),
+        ],
+    ),
+    (
+        "\u{1F4A9}a",
+        [
+            (Some(0xD83D), (2, Some(3))),
+            (Some(0xDCA9), (1, Some(2))),
+            (Some(0x61), (0, Some(0))),
+            (None, (0, Some(0))),
+        ],
+    ),
+];
+
+/// Whether the iterator over the units of `text` takes these steps.
+fn takes_steps(text: &str, moments: &[Moment; 4]) -> bool {
+    let mut units = Wtf8::from_str(text).to_ill_formed_utf16();
+    for (unit, hint) in moments {
+        if !yields(&mut units, *unit, *hint) {
+            return false;
+        }
+    }
+    true
+}
+
+#[test]
+fn a_pending_trail_counts_in_the_size_hint(rt: HostRuntime) {
+    for (text, moments) in &MOMENTS {
+        assert!(rt; takes_steps(text, moments), "{text}");
     }
 }

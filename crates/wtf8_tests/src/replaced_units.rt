@@ -1,8 +1,7 @@
 // Code units replaced in the middle of a string, by code units and by a string.
-use crate::examples::expect_units;
+use crate::examples::{LISTS, expect_units, long_list};
 use crate::unit_edits::{EDITS, Edit};
-use crate::unit_lists::{lists, long_list};
-use crate::wrong::{Failed, Wrong, expect_bytes, in_row};
+use crate::wrong::{Failed, Wrong, expect, expect_bytes, in_row};
 use std::alloc::{AllocError, Allocator, Global};
 use wtf8::{Wtf8, Wtf8Buf};
 
@@ -37,86 +36,169 @@ fn replace_by_string<A: Allocator>(
     text.replace_at(from, begin, to, end, new)
 }
 
-fn expect_edit(alloc: Global, edit: Edit) -> Result<(), Failed> {
-    let mut text = Wtf8Buf::from_ill_formed_utf16(alloc, edit.units)?;
-    replace(&mut text, (edit.begin, edit.end), edit.new)?;
+/// The string of the units, in which those from `begin` to before `end` are replaced by units.
+fn replaced(
+    alloc: Global,
+    units: &[u16],
+    range: (usize, usize),
+    new: &[u16],
+) -> Result<Wtf8Buf<Global>, AllocError> {
+    let Ok(mut text) = Wtf8Buf::from_ill_formed_utf16(alloc, units) else {
+        return Err(AllocError);
+    };
+    replace(&mut text, range, new)?;
+    Ok(text)
+}
+
+/// The string of the units, in which those from `begin` to before `end` are replaced by a string.
+fn replaced_by_view(
+    alloc: Global,
+    units: &[u16],
+    range: (usize, usize),
+    new: Wtf8<'_>,
+) -> Result<Wtf8Buf<Global>, AllocError> {
+    let Ok(mut text) = Wtf8Buf::from_ill_formed_utf16(alloc, units) else {
+        return Err(AllocError);
+    };
+    replace_by_string(&mut text, range, new)?;
+    Ok(text)
+}
+
+/// The string of the units, in which those from `begin` to before `end` are replaced by the string of the new ones.
+fn replaced_by_string(
+    alloc: Global,
+    units: &[u16],
+    range: (usize, usize),
+    new: &[u16],
+) -> Result<Wtf8Buf<Global>, AllocError> {
+    match Wtf8Buf::from_ill_formed_utf16(alloc, new) {
+        Ok(new) => replaced_by_view(alloc, units, range, new.as_wtf8()),
+        Err(_) => Err(AllocError),
+    }
+}
+
+/// Fails unless a string was made, and has the units and the bytes of the row after its edit.
+fn expect_edited(
+    alloc: Global,
+    made: Result<Wtf8Buf<Global>, AllocError>,
+    edit: Edit,
+) -> Result<(), Failed> {
+    let Ok(text) = made else {
+        return Err(Failed::by(Wrong::Memory));
+    };
     expect_units(alloc, text.as_wtf8(), edit.edited)?;
     expect_bytes(alloc, text.as_wtf8(), edit.dump)
+}
+
+fn expect_edit(alloc: Global, edit: Edit) -> Result<(), Failed> {
+    let made = replaced(alloc, edit.units, (edit.begin, edit.end), edit.new);
+    expect_edited(alloc, made, edit)
 }
 
 #[test]
 fn replaced_units_have_the_bytes_of_the_rows(rt: HostRuntime) -> Result<(), Failed> {
     let mut row = 0usize;
     for edit in &EDITS {
-        in_row(row, expect_edit(rt.alloc(), *edit))?;
+        if let Err(failed) = expect_edit(rt.alloc(), *edit) {
+            return in_row(row, Err(failed));
+        }
         row = row.wrapping_add(1);
     }
     Ok(())
 }
 
 fn expect_edit_by_string(alloc: Global, edit: Edit) -> Result<(), Failed> {
-    let new = Wtf8Buf::from_ill_formed_utf16(alloc, edit.new)?;
-    let mut text = Wtf8Buf::from_ill_formed_utf16(alloc, edit.units)?;
-    replace_by_string(&mut text, (edit.begin, edit.end), new.as_wtf8())?;
-    expect_units(alloc, text.as_wtf8(), edit.edited)?;
-    expect_bytes(alloc, text.as_wtf8(), edit.dump)
+    let made = replaced_by_string(alloc, edit.units, (edit.begin, edit.end), edit.new);
+    expect_edited(alloc, made, edit)
 }
 
 #[test]
 fn strings_in_place_of_units_have_the_bytes_of_the_rows(rt: HostRuntime) -> Result<(), Failed> {
     let mut row = 0usize;
     for edit in &EDITS {
-        in_row(row, expect_edit_by_string(rt.alloc(), *edit))?;
+        if let Err(failed) = expect_edit_by_string(rt.alloc(), *edit) {
+            return in_row(row, Err(failed));
+        }
         row = row.wrapping_add(1);
     }
     Ok(())
 }
 
-/// A replacement of the units from `begin` to before `end` by the string of these leaves the bytes of `whole`.
-fn expect_replaced_by_string(
+/// The units, of which those from `begin` to before `end` are replaced.
+fn spliced(
     alloc: Global,
     units: &[u16],
     (begin, end): (usize, usize),
     new: &[u16],
-    whole: Wtf8<'_>,
+) -> Result<Vec<u16>, AllocError> {
+    let Ok(mut all) = Vec::from_slice(alloc, units.split_at(begin.min(units.len())).0) else {
+        return Err(AllocError);
+    };
+    all.extend_from_slice(new)?;
+    all.extend_from_slice(units.split_at(end.min(units.len())).1)?;
+    Ok(all)
+}
+
+/// Fails unless a string was made, and is equal to `whole`.
+fn expect_equal(
+    made: Result<Wtf8Buf<Global>, AllocError>,
+    whole: &Wtf8Buf<Global>,
 ) -> Result<(), Failed> {
-    let new = Wtf8Buf::from_ill_formed_utf16(alloc, new)?;
-    let mut text = Wtf8Buf::from_ill_formed_utf16(alloc, units)?;
-    replace_by_string(&mut text, (begin, end), new.as_wtf8())?;
-    if text.as_wtf8() == whole {
-        Ok(())
-    } else {
-        Err(Failed::by(Wrong::Bytes))
+    match made {
+        Ok(text) => expect(text == *whole, Wrong::Bytes),
+        Err(_) => Err(Failed::by(Wrong::Memory)),
     }
 }
 
-/// The string of all units has the bytes of the string after a replacement of the units from `begin` to before `end`.
+/// Fails unless a string was made, has the code units `expected`, and is equal to `whole`.
+fn expect_whole(
+    alloc: Global,
+    made: Result<Wtf8Buf<Global>, AllocError>,
+    expected: &[u16],
+    whole: &Wtf8Buf<Global>,
+) -> Result<(), Failed> {
+    let Ok(text) = made else {
+        return Err(Failed::by(Wrong::Memory));
+    };
+    expect_units(alloc, text.as_wtf8(), expected)?;
+    expect(text == *whole, Wrong::Bytes)
+}
+
+/// Fails unless the string of the units is that of `expected` after a replacement of the units from `begin` to before
+/// `end`, by units and by the string of these.
+fn expect_replaced_as(
+    alloc: Global,
+    units: &[u16],
+    range: (usize, usize),
+    new: &[u16],
+    expected: &[u16],
+) -> Result<(), Failed> {
+    let Ok(whole) = Wtf8Buf::from_ill_formed_utf16(alloc, expected) else {
+        return Err(Failed::by(Wrong::Memory));
+    };
+    expect_whole(alloc, replaced(alloc, units, range, new), expected, &whole)?;
+    expect_equal(replaced_by_string(alloc, units, range, new), &whole)
+}
+
+/// Fails unless the string of the units has all units, and the bytes of their string, after a replacement of those from
+/// `begin` to before `end`.
 fn expect_replaced(
     alloc: Global,
     units: &[u16],
-    (begin, end): (usize, usize),
+    range: (usize, usize),
     new: &[u16],
 ) -> Result<(), Failed> {
-    let Ok(mut expected) = Vec::from_slice(alloc, units.split_at(begin.min(units.len())).0) else {
-        return Err(Failed::by(Wrong::Memory));
-    };
-    expected.extend_from_slice(new)?;
-    expected.extend_from_slice(units.split_at(end.min(units.len())).1)?;
-    let whole = Wtf8Buf::from_ill_formed_utf16(alloc, &expected)?;
-    let mut text = Wtf8Buf::from_ill_formed_utf16(alloc, units)?;
-    replace(&mut text, (begin, end), new)?;
-    expect_units(alloc, text.as_wtf8(), &expected)?;
-    if text != whole {
-        return Err(Failed::by(Wrong::Bytes));
+    match spliced(alloc, units, range, new) {
+        Ok(expected) => expect_replaced_as(alloc, units, range, new, &expected),
+        Err(_) => Err(Failed::by(Wrong::Memory)),
     }
-    expect_replaced_by_string(alloc, units, (begin, end), new, whole.as_wtf8())
 }
 
 /// Replaces each part of the units by each of the lists.
 fn expect_each_part(alloc: Global, units: &[u16]) -> Result<(), Failed> {
     for begin in 0..=units.len() {
         for end in begin..=units.len() {
-            for new in lists() {
+            for new in &LISTS {
                 expect_replaced(alloc, units, (begin, end), new)?;
             }
         }
@@ -127,28 +209,42 @@ fn expect_each_part(alloc: Global, units: &[u16]) -> Result<(), Failed> {
 #[test]
 fn each_part_of_a_list_is_replaced(rt: HostRuntime) -> Result<(), Failed> {
     let mut row = 0usize;
-    for units in lists() {
-        in_row(row, expect_each_part(rt.alloc(), units))?;
+    for units in &LISTS {
+        if let Err(failed) = expect_each_part(rt.alloc(), units) {
+            return in_row(row, Err(failed));
+        }
         row = row.wrapping_add(1);
     }
     Ok(())
 }
 
 /// Inserts units at each index, and removes the unit there and after it, of a string whose rest has more than a block.
-fn expect_moves(alloc: Global, letters: usize) -> Result<(), Failed> {
-    let units = long_list(alloc, letters)?;
+fn expect_moved(alloc: Global, units: &[u16]) -> Result<(), Failed> {
     for begin in 0..units.len() {
-        expect_replaced(alloc, &units, (begin, begin), &[0xDC00, 0x3042, 0xD800])?;
-        expect_replaced(alloc, &units, (begin, begin.wrapping_add(1)), &[])?;
+        expect_replaced(alloc, units, (begin, begin), &[0xDC00, 0x3042, 0xD800])?;
+        expect_replaced(alloc, units, (begin, begin.wrapping_add(1)), &[])?;
     }
-    let text = long_list(alloc, 600)?;
+    Ok(())
+}
+
+/// Moves the end of a string of `letters` letters and other units, by few units and by many.
+fn expect_moves(alloc: Global, letters: usize) -> Result<(), Failed> {
+    let Ok(units) = long_list(alloc, letters) else {
+        return Err(Failed::by(Wrong::Memory));
+    };
+    let Ok(text) = long_list(alloc, 600) else {
+        return Err(Failed::by(Wrong::Memory));
+    };
+    expect_moved(alloc, &units)?;
     expect_replaced(alloc, &units, (1, units.len()), &text)
 }
 
 #[test]
 fn bytes_after_replaced_units_move(rt: HostRuntime) -> Result<(), Failed> {
     for letters in [50, 60, 130] {
-        in_row(letters, expect_moves(rt.alloc(), letters))?;
+        if let Err(failed) = expect_moves(rt.alloc(), letters) {
+            return in_row(letters, Err(failed));
+        }
     }
     Ok(())
 }

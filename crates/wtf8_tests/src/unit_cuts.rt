@@ -1,6 +1,5 @@
 // Truncation to every number of code units.
-use crate::examples::{expect_made, expect_units, joining};
-use crate::unit_lists::{lists, long_list};
+use crate::examples::{JOINING, LISTS, expect_made, expect_units, long_list};
 use crate::wrong::{Failed, Wrong, in_row};
 use refusing::{Lent, REFUSALS, Refusal, Refusing};
 use std::alloc::{Allocator, Global};
@@ -66,7 +65,9 @@ fn expect_cut(
     refusal: Refusal,
 ) -> Result<(), Failed> {
     heap.grant(1_000);
-    let mut text = Wtf8Buf::from_ill_formed_utf16(heap, units)?;
+    let Ok(mut text) = Wtf8Buf::from_ill_formed_utf16(heap, units) else {
+        return Err(Failed::by(Wrong::Memory));
+    };
     if !cuts_without_memory(heap, &mut text, units, n, cut, refusal) {
         return Err(Failed::by(Wrong::Outcome));
     }
@@ -96,14 +97,20 @@ fn expect_each_cut(alloc: Global, units: &[u16]) -> Result<(), Failed> {
 fn truncate_units_keeps_the_first_units_without_memory(rt: HostRuntime) -> Result<(), Failed> {
     let alloc = rt.alloc();
     let mut row = 0usize;
-    for (units, _, dump) in joining() {
+    for (units, _, dump) in &JOINING {
         let made = Wtf8Buf::from_ill_formed_utf16(alloc, units);
-        in_row(row, expect_made(alloc, made, dump))?;
-        in_row(row, expect_each_cut(alloc, units))?;
+        if let Err(failed) = expect_made(alloc, made, dump) {
+            return in_row(row, Err(failed));
+        }
+        if let Err(failed) = expect_each_cut(alloc, units) {
+            return in_row(row, Err(failed));
+        }
         row = row.wrapping_add(1);
     }
-    for units in lists() {
-        in_row(row, expect_each_cut(alloc, units))?;
+    for units in &LISTS {
+        if let Err(failed) = expect_each_cut(alloc, units) {
+            return in_row(row, Err(failed));
+        }
         row = row.wrapping_add(1);
     }
     Ok(())
@@ -113,16 +120,18 @@ fn truncate_units_keeps_the_first_units_without_memory(rt: HostRuntime) -> Resul
 fn truncate_units_is_right_near_block_edges(rt: HostRuntime) -> Result<(), Failed> {
     let alloc = rt.alloc();
     for letters in 20..36 {
-        let units = long_list(alloc, letters)?;
-        in_row(letters, expect_each_cut(alloc, &units))?;
+        let Ok(units) = long_list(alloc, letters) else {
+            return in_row(letters, Err(Failed::by(Wrong::Memory)));
+        };
+        if let Err(failed) = expect_each_cut(alloc, &units) {
+            return in_row(letters, Err(failed));
+        }
     }
     Ok(())
 }
 
-#[test]
-fn refused_truncations_are_counted(rt: HostRuntime) -> Result<(), Failed> {
-    let alloc = rt.alloc();
-    let mut text = Wtf8Buf::from_str(alloc, "a💩")?;
+/// Whether four of five truncations of "a" and a pair are refused: to more units than are left, and within a lead.
+fn refuses_four(text: &mut Wtf8Buf<Global>) -> bool {
     let calls = [
         Build::TruncateUnits(4),
         Build::TruncateUnits(2),
@@ -131,6 +140,15 @@ fn refused_truncations_are_counted(rt: HostRuntime) -> Result<(), Failed> {
         Build::PushStr("b"),
         Build::TruncateUnits(usize::MAX),
     ];
-    assert!(rt; text.apply_all(&calls) == Ok(4));
+    matches!(text.apply_all(&calls), Ok(4))
+}
+
+#[test]
+fn refused_truncations_are_counted(rt: HostRuntime) -> Result<(), Failed> {
+    let alloc = rt.alloc();
+    let Ok(mut text) = Wtf8Buf::from_str(alloc, "a💩") else {
+        return Err(Failed::by(Wrong::Memory));
+    };
+    assert!(rt; refuses_four(&mut text));
     expect_units(alloc, text.as_wtf8(), &[0x61, 0xD83D, 0x62])
 }

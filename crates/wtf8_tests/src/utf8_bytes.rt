@@ -1,9 +1,10 @@
-// Strings of bytes that are UTF-8, and what is said of bytes that are not. What is wrong is as CPython's decoder says.
+// Strings of bytes that are UTF-8, what is said of bytes that are not, and bytes read with U+FFFD for each part that is
+// not. What is wrong is as CPython's decoder says.
 use crate::sinks::Sink;
 use crate::wrong::{Failed, Wrong, expect, in_row};
 use std::alloc::Global;
 use std::fmt::Write;
-use wtf8::{TextError, Utf8Error, Wtf8, Wtf8Buf, from_utf8};
+use wtf8::{CodePoint, TextError, Utf8Error, Wtf8, Wtf8Buf, from_utf8};
 
 /// Bytes, how many at their front are UTF-8, and how many after these are wrong together. The `Display` output of the
 /// error is that of Rust's `str::Utf8Error`.
@@ -146,16 +147,192 @@ fn is_made_and_pushed(alloc: Global) -> bool {
     text.push_utf8(TEXT.as_bytes()).is_ok() && is_text_twice(text.as_wtf8())
 }
 
-#[test]
-fn bytes_of_utf8_are_taken_and_others_told(rt: HostRuntime) -> Result<(), Failed> {
-    let alloc = rt.alloc();
-    expect(is_made_and_pushed(alloc), Wrong::Bytes)?;
-    expect(equals_itself(Wtf8::from_str(TEXT)), Wrong::Outcome)?;
-    expect(begins_with_fronts() && are_in_order(), Wrong::Outcome)?;
-    expect(!equals_surrogate(alloc), Wrong::Outcome)?;
+/// Whether texts are compared with bytes of UTF-8 and of a surrogate.
+fn has_bytes_of_text(alloc: Global) -> bool {
+    equals_itself(Wtf8::from_str(TEXT))
+        && begins_with_fronts()
+        && are_in_order()
+        && !equals_surrogate(alloc)
+}
+
+/// Fails unless each call says of the bytes of `NO_TEXTS` what their row says.
+fn expect_all_told(alloc: Global) -> Result<(), Failed> {
     let mut index = 0usize;
     for row in &NO_TEXTS {
-        in_row(index, expect_told(alloc, row))?;
+        if let Err(failed) = expect_told(alloc, row) {
+            return in_row(index, Err(failed));
+        }
+        index = index.wrapping_add(1);
+    }
+    Ok(())
+}
+
+#[test]
+fn bytes_of_utf8_are_taken_and_others_told(rt: HostRuntime) -> Result<(), Failed> {
+    expect(is_made_and_pushed(rt.alloc()), Wrong::Bytes)?;
+    expect(has_bytes_of_text(rt.alloc()), Wrong::Outcome)?;
+    expect_all_told(rt.alloc())
+}
+
+/// Bytes, their text as CPython's `bytes.decode` gives it with `errors="replace"`, the number of bytes before an unfinished code point at the end, and the text
+/// of these bytes. CPython's incremental decoder keeps the bytes from `used` on.
+struct Row {
+    bytes: &'static [u8],
+    text: &'static str,
+    used: usize,
+    part: &'static str,
+}
+
+static ROWS: [Row; 17] = [
+    Row {
+        bytes: b"",
+        text: "",
+        used: 0,
+        part: "",
+    },
+    Row {
+        bytes: b"abc",
+        text: "abc",
+        used: 3,
+        part: "abc",
+    },
+    Row {
+        bytes: b"caf\xC3\xA9 \xE8\x8C\xB6 \xF0\x9F\x92\xA9",
+        text: "café 茶 💩",
+        used: 14,
+        part: "café 茶 💩",
+    },
+    Row {
+        bytes: b"\xFF",
+        text: "\u{FFFD}",
+        used: 1,
+        part: "\u{FFFD}",
+    },
+    Row {
+        bytes: b"ab\xC3",
+        text: "ab\u{FFFD}",
+        used: 2,
+        part: "ab",
+    },
+    Row {
+        bytes: b"\xE4\xB8\xAD\xF0\x9F\x92a",
+        text: "中\u{FFFD}a",
+        used: 7,
+        part: "中\u{FFFD}a",
+    },
+    Row {
+        bytes: b"a\xED\xA0\x80b",
+        text: "a\u{FFFD}\u{FFFD}\u{FFFD}b",
+        used: 5,
+        part: "a\u{FFFD}\u{FFFD}\u{FFFD}b",
+    },
+    Row {
+        bytes: b"\xF0\x80\x80\x80",
+        text: "\u{FFFD}\u{FFFD}\u{FFFD}\u{FFFD}",
+        used: 4,
+        part: "\u{FFFD}\u{FFFD}\u{FFFD}\u{FFFD}",
+    },
+    Row {
+        bytes: b"\xC3\xC3\xA9\x80",
+        text: "\u{FFFD}é\u{FFFD}",
+        used: 4,
+        part: "\u{FFFD}é\u{FFFD}",
+    },
+    Row {
+        bytes: b"\xF4\x90\x80\xE8\x8C",
+        text: "\u{FFFD}\u{FFFD}\u{FFFD}\u{FFFD}",
+        used: 3,
+        part: "\u{FFFD}\u{FFFD}\u{FFFD}",
+    },
+    Row {
+        bytes: b"\xF0\x9F\x92\xF0\x9F\x92\xA9\xF0\x9F",
+        text: "\u{FFFD}💩\u{FFFD}",
+        used: 7,
+        part: "\u{FFFD}💩",
+    },
+    Row {
+        bytes: b"The quick brown fox jumps over the lazy dog, and over the fence \xFF and away \xE2\x80\x99\xE2\x80",
+        text: "The quick brown fox jumps over the lazy dog, and over the fence \u{FFFD} and away ’\u{FFFD}",
+        used: 78,
+        part: "The quick brown fox jumps over the lazy dog, and over the fence \u{FFFD} and away ’",
+    },
+    Row {
+        bytes: b"\xE8\x8C\xB6\xE8\x8C\xB6\xE8\x8C\xB6\xE8\x8C\xB6\xE8\x8C\xB6\xE8\x8C\xB6\xE8\x8C\xB6\xE8\x8C\xB6\xE8\x8C\xB6\xE8\x8C\xB6\xE8\x8C\xB6\xE8\x8C\xB6\xE8\x8C\xB6\xE8\x8C\xE8\x8C\xB6\xE8\x8C\xB6\xE8\x8C\xB6\xF0\x9F\x92",
+        text: "茶茶茶茶茶茶茶茶茶茶茶茶茶\u{FFFD}茶茶茶\u{FFFD}",
+        used: 50,
+        part: "茶茶茶茶茶茶茶茶茶茶茶茶茶\u{FFFD}茶茶茶",
+    },
+    Row {
+        bytes: b"\x80\xBF\xC0\xAF\xE0\x80\xAF\xF5\xFE",
+        text: "\u{FFFD}\u{FFFD}\u{FFFD}\u{FFFD}\u{FFFD}\u{FFFD}\u{FFFD}\u{FFFD}\u{FFFD}",
+        used: 9,
+        part: "\u{FFFD}\u{FFFD}\u{FFFD}\u{FFFD}\u{FFFD}\u{FFFD}\u{FFFD}\u{FFFD}\u{FFFD}",
+    },
+    Row {
+        bytes: b"\xE2\x82\xE2\x82\xACX\xE0\xA0",
+        text: "\u{FFFD}€X\u{FFFD}",
+        used: 6,
+        part: "\u{FFFD}€X",
+    },
+    Row {
+        bytes: b"ab\xFFcd\xFF\xE8\x8C\xFFe\xF0\x9F\x92\xFFfghijklm\xC3\xA9\xE8\x8C\xB6\xFFnopq\xE8\x8C\xB6\xF0\x9F\x92\xA9\xFFr\xE2\x80\x99\xF0\x9F\x92",
+        text: "ab\u{FFFD}cd\u{FFFD}\u{FFFD}\u{FFFD}e\u{FFFD}\u{FFFD}fghijklmé茶\u{FFFD}nopq茶💩\u{FFFD}r’\u{FFFD}",
+        used: 44,
+        part: "ab\u{FFFD}cd\u{FFFD}\u{FFFD}\u{FFFD}e\u{FFFD}\u{FFFD}fghijklmé茶\u{FFFD}nopq茶💩\u{FFFD}r’",
+    },
+    Row {
+        bytes: b"\xFF\xE8\x8C\xB6\xE8\x8C\xB6\xE8\x8C\xB6\xE8\x8C\xB6\xE8\x8C\xB6\xE8\x8C\xB6\xFF\xFF\xED\xA0\x80\xF4\x90\xE0\x80ab\xC0\xAF\xC3\xA9cdef\xE8\x8C",
+        text: "\u{FFFD}茶茶茶茶茶茶\u{FFFD}\u{FFFD}\u{FFFD}\u{FFFD}\u{FFFD}\u{FFFD}\u{FFFD}\u{FFFD}\u{FFFD}ab\u{FFFD}\u{FFFD}écdef\u{FFFD}",
+        used: 38,
+        part: "\u{FFFD}茶茶茶茶茶茶\u{FFFD}\u{FFFD}\u{FFFD}\u{FFFD}\u{FFFD}\u{FFFD}\u{FFFD}\u{FFFD}\u{FFFD}ab\u{FFFD}\u{FFFD}écdef",
+    },
+];
+
+fn is_text(text: &Wtf8Buf<Global>, expected: &str) -> bool {
+    match text.as_wtf8().as_str() {
+        Some(found) => found == expected,
+        None => false,
+    }
+}
+
+/// Whether the bytes of a row are appended as their text.
+fn is_pushed(alloc: Global, row: &Row) -> bool {
+    let mut text = Wtf8Buf::new(alloc);
+    text.push_utf8_lossy(row.bytes).is_ok() && is_text(&text, row.text)
+}
+
+/// Whether all of a row's bytes but an unfinished code point are appended.
+fn is_part_pushed(alloc: Global, row: &Row) -> bool {
+    let mut text = Wtf8Buf::new(alloc);
+    match text.push_utf8_lossy_part(row.bytes) {
+        Ok(used) => used == row.used && is_text(&text, row.part),
+        Err(_) => false,
+    }
+}
+
+/// Whether a lead before the bytes stays one.
+fn leaves_lead(alloc: Global, row: &Row) -> bool {
+    let mut text = Wtf8Buf::new(alloc);
+    let lead = CodePoint::from_unit(0xD83D);
+    text.push(lead).is_ok()
+        && text.push_utf8_lossy(row.bytes).is_ok()
+        && text.as_wtf8().unit_at(0) == Some(0xD83D)
+        && text.len() == row.text.len().wrapping_add(3)
+}
+
+fn expect_read(alloc: Global, row: &Row) -> Result<(), Failed> {
+    expect(is_pushed(alloc, row), Wrong::Bytes)?;
+    expect(is_part_pushed(alloc, row), Wrong::Bytes)?;
+    expect(leaves_lead(alloc, row), Wrong::Units)
+}
+
+#[test]
+fn bytes_are_read_with_replacement(rt: HostRuntime) -> Result<(), Failed> {
+    let mut index = 0usize;
+    for row in &ROWS {
+        if let Err(failed) = expect_read(rt.alloc(), row) {
+            return in_row(index, Err(failed));
+        }
         index = index.wrapping_add(1);
     }
     Ok(())

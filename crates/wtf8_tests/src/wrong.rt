@@ -71,6 +71,8 @@ pub fn in_row(row: usize, outcome: Result<(), Failed>) -> Result<(), Failed> {
 
 /// Fails unless the string has the bytes of `dump`.
 pub fn expect_bytes(alloc: Global, text: Wtf8<'_>, dump: &str) -> Result<(), Failed> {
-    let found = made(text.hex_dump(alloc))?;
+    let Ok(found) = text.hex_dump(alloc) else {
+        return Err(Failed::by(Wrong::Memory));
+    };
     expect(found.as_str() == dump, Wrong::Bytes)
 }

@@ -17,8 +17,6 @@ mod file_names;
 #[cfg(test)]
 mod interner;
 #[cfg(test)]
-mod joining;
-#[cfg(test)]
 mod json_reader;
 #[cfg(test)]
 mod line_columns;
@@ -34,5 +32,3 @@ mod replacing;
 mod shared;
 #[cfg(test)]
 mod sorting;
-#[cfg(test)]
-mod unit_slices;
