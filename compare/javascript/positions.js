@@ -1,5 +1,6 @@
 // What the engine's strings and its JSON return for byte positions, lines and JSON strings.
 'use strict';
+const { dumpOf } = require('./units.js');
 
 // The length of a string in bytes of WTF-8. The engine's encoder replaces a lone surrogate by U+FFFD, which has three
 // bytes too.
@@ -52,10 +53,7 @@ function markAtColumn(text, line, column) {
 }
 
 // The JSON texts of two strings, one after the other, in hexadecimal.
-function jsonOf(first, second) {
-  const bytes = Buffer.from(JSON.stringify(first) + JSON.stringify(second), 'utf8');
-  return Array.from(bytes, (byte) => byte.toString(16).toUpperCase().padStart(2, '0')).join(' ');
-}
+const jsonOf = (first, second) => dumpOf(Buffer.from(JSON.stringify(first) + JSON.stringify(second), 'utf8'));
 
 // The engine's error for a JSON text, or undefined if it reads it.
 function errorOf(text) {

@@ -1,7 +1,8 @@
-// Scripts of calls on `UnitText`s, and what the engine's own strings return for them.
+// Scripts of calls on `UnitText`s and on the indexed string, and what the engine's own strings return for them.
 //     node text_calls.js random SEED CASES FOLDER   random scripts
 //     node text_calls.js lists FOLDER               all lists of at most three units out of nine, and long texts, by all
-//                                              calls; short texts of lines, and of what is in JSON strings
+//                                              calls; short texts of lines, and of what is in JSON strings; the lists
+//                                              and long strings in which units are replaced
 //     node text_calls.js marks SEED CASES FOLDER    long texts with and without marks, and CASES random scripts of these
 //     node text_calls.js fixed FOLDER               examples, long texts and some hundred others for the gate to replay;
 //                                              they follow the scripts of strings in FOLDER, in place of the old ones
@@ -10,6 +11,8 @@
 'use strict';
 const fs = require('fs');
 const path = require('path');
+const { hex, textOf, listOf } = require('./units.js');
+const { INDEXED_OPCODES, INDEXED_CALLS, indexedOperands, bytesOfNumber } = require('./indexed_calls.js');
 const { byteLength, positionAt, unitBefore, linesOf, lineStarts, markAtColumn, jsonOf, readJson, jsonError } = require('./positions.js');
 
 const NINE = [0x0061, 0x00E9, 0xD7FF, 0xD800, 0xDBFF, 0xDC00, 0xDFFF, 0xE000, 0xFFFF];
@@ -17,9 +20,6 @@ const NINE = [0x0061, 0x00E9, 0xD7FF, 0xD800, 0xDBFF, 0xDC00, 0xDFFF, 0xE000, 0x
 // ASCII white space, and nine units that are white space or similar.
 const SPACES = [0x20, 0x09, 0x0A, 0x0B, 0x0C, 0x0D];
 const ABOUT_SPACES = [0x08, 0x09, 0x0D, 0x0E, 0x20, 0x21, 0xA0, 0x0120, 0xD800];
-
-const hex = (number, digits) => number.toString(16).toUpperCase().padStart(digits, '0');
-const textOf = (units) => units.map((unit) => String.fromCharCode(unit)).join('');
 
 // A string as a transcript shows it: its length and its units.
 function unitsOf(text) {
@@ -73,9 +73,10 @@ const OPCODES = {
   clone: 102,
   pushUnits: 103,
   unitsFrom: 104,
+  ...INDEXED_OPCODES,
 };
 
-// What each call returns over the two strings of a state.
+// What each call returns over the two texts of a state, its indexed string and its other strings.
 const CALLS = {
   new: (state) => unitsOf((state.first = '')),
   clone: (state) => unitsOf((state.first = state.second)),
@@ -157,15 +158,17 @@ const CALLS = {
     const parts = readJson(first);
     return parts === undefined ? `malformed ${jsonError(first)}` : `read ${unitsOf(parts[0])}\nrest ${unitsOf(parts[1])}`;
   },
+  ...INDEXED_CALLS,
 };
+
+// The state in which a script begins.
+const emptyState = () => ({ first: '', second: '', indexed: '', strings: ['', '', '', ''] });
 
 // The calls whose operands are units, those whose operand is a well-formed string, and those that change a string.
 const OF_UNITS = ['set', 'replace', 'push', 'pushUnits', 'pushWtf8'];
 const OF_TEXT = ['fromStr', 'pushStr'];
-const CHANGING = [...OF_UNITS, ...OF_TEXT, 'new', 'clone', 'swap', 'slice', 'truncate', 'concat', 'padStart', 'repeat', 'trim', 'toWellFormed'];
-
-// A number of two bytes in hexadecimal, little-endian.
-const bytesOf = (number) => hex(number & 0xFF, 2) + hex(number >> 8, 2);
+const CHANGING_TEXTS = [...OF_UNITS, ...OF_TEXT, 'new', 'clone', 'swap', 'slice', 'truncate', 'concat', 'padStart', 'repeat', 'trim', 'toWellFormed'];
+const CHANGING = [...CHANGING_TEXTS, 'indexedFromUnits', 'indexedFromBuf', 'indexedIntoBuf', 'indexedReplaceUnits', 'indexedReplace'];
 
 // A well-formed string in hexadecimal: the number of its bytes in UTF-8, at most 255, and the bytes.
 function utf8Of(text) {
@@ -175,8 +178,9 @@ function utf8Of(text) {
 
 // The operands of a call: a string, or numbers. If they are units, their count comes first.
 function operandsOf(name, operands) {
+  if (Object.hasOwn(INDEXED_CALLS, name)) return indexedOperands(name, operands);
   if (OF_TEXT.includes(name)) return utf8Of(operands[0]);
-  return (OF_UNITS.includes(name) ? [operands.length, ...operands] : operands).map(bytesOf).join('');
+  return (OF_UNITS.includes(name) ? [operands.length, ...operands] : operands).map(bytesOfNumber).join('');
 }
 
 // A script as a line: each call's opcode and its operands.
@@ -186,7 +190,7 @@ function lineOf(calls) {
 
 // The transcript of a script: what its calls return, and an empty line.
 function transcriptOf(calls) {
-  const state = { first: '', second: '' };
+  const state = emptyState();
   return calls.map(([name, ...operands]) => CALLS[name](state, ...operands) + '\n').join('') + '\n';
 }
 
@@ -244,8 +248,6 @@ function neighbour(units, at, below) {
     default: return randomUnits(below);
   }
 }
-
-const listOf = (text) => Array.from({ length: text.length }, (_, at) => text.charCodeAt(at));
 
 // Units that `replace` inserts. One list in three begins with `$`, which `String.prototype.replace` would interpret.
 function randomReplacement(below) {
@@ -319,7 +321,7 @@ function randomCalls({ first }, below) {
 
 // A script of the calls `first` and then, `more` times, the calls that `callsOn` returns for the current strings.
 function scriptOf(first, more, callsOn, below) {
-  const state = { first: '', second: '' };
+  const state = emptyState();
   const calls = [];
   const add = (added) => {
     for (const [name, ...operands] of added) {
@@ -973,16 +975,98 @@ function randomPositionScript(below) {
   return [...calls, ['set', ...listOf(JSON.stringify(text))], ['readJson']];
 }
 
-// Scripts of all calls, and a quarter of that number of positions, lines and JSON strings.
+// What is put in place of units: nothing, a letter, halves of pairs, and both in either order.
+const PUT = [[], [0x61], [0xD83D], [0xDCA9], [0xDCA9, 0xD83D], [0xD83D, 0xDCA9]];
+
+// Makes a list of at most 255 units the string of a register. The indexed string is empty then.
+const inRegister = (register, units) => [['indexedFromUnits', ...units], ['indexedIntoBuf', register]];
+
+// Each part of a list, and a part that ends past it, replaced by each list of `PUT` and by the whole list, as units and as
+// a string.
+function replacedScript(units) {
+  const calls = inRegister(0, units);
+  for (const put of [...PUT, units]) {
+    calls.push(...inRegister(1, put));
+    for (let begin = 0; begin <= units.length; begin++) {
+      for (let end = begin; end <= units.length + 1; end++) {
+        for (const call of [['indexedReplaceUnits', begin, end, ...put], ['indexedReplace', begin, end, 1]]) calls.push(['indexedFromBuf', 0], call);
+      }
+    }
+  }
+  return [...calls, ['indexedReplaceUnits', 1, 0], ['indexedReplace', 1, 0, 1]];
+}
+
+// Reads the indexed string at an index, and at the position there and the next.
+const readsOfIndexed = (text, at) => [
+  ['indexedUnitAt', at],
+  ['indexedPositionAt', at],
+  ...[0, 1].map((more) => ['indexedUnitBefore', positionAt(text, Math.min(at, text.length)) + more]),
+];
+
+// Reads the indexed string about each multiple of `SPACING`.
+function readsOfMarks(text) {
+  const calls = [];
+  for (let edge = 0; edge <= text.length + 2; edge += SPACING) {
+    for (let at = Math.max(0, edge - 2); at <= edge + 2; at++) calls.push(...readsOfIndexed(text, at));
+  }
+  return calls;
+}
+
+// A marked string of a list of at most 255 units, in which a string is inserted before, at and after a mark and before
+// the end, and then replaced by the whole list; read about each mark after each change. The string is longer than the
+// distance between marks, and joins the units before and after it.
+function replacedAboutMarksScript(units) {
+  const whole = textOf(units);
+  const piece = joining(units.slice(0, SPACING + 2));
+  const calls = [...inRegister(1, piece), ...inRegister(0, units)];
+  for (const begin of [1, SPACING - 1, SPACING, SPACING + 1, units.length - 1]) {
+    const withInserted = (text) => whole.slice(0, begin) + text + whole.slice(begin);
+    calls.push(['indexedFromBuf', 0], ['indexedMark'], ['indexedReplace', begin, begin, 1], ...readsOfMarks(withInserted(textOf(piece))));
+    calls.push(['indexedReplace', begin, begin + piece.length, 0], ...readsOfMarks(withInserted(whole)));
+  }
+  return calls;
+}
+
+const replacedAboutMarksScripts = (kinds) => kinds.map((kind) => replacedAboutMarksScript(textOfKind(kind, 250)));
+const replacedScripts = () => [...listsOf(NINE, 3).map(replacedScript), ...replacedAboutMarksScripts(KINDS)];
+
+// At most 255 random units that are put in place of others, half of the time so that they join those before and after.
+function randomPut(below) {
+  const units = randomUnits(below).slice(0, 255);
+  return units.length < 2 || below(2) === 0 ? units : joining(units);
+}
+
+// Random calls that replace units of the indexed string by units, by a string or by itself, or that read it.
+function randomIndexedCalls({ indexed }, below) {
+  const { length } = indexed;
+  const begin = below(length + 1);
+  const end = below(16) === 0 ? below(length + 3) : begin + below(Math.min(length - begin, below(2) === 0 ? 3 : length) + 1);
+  const marks = below(4) === 0 ? [] : [['indexedMark']];
+  // No string grows beyond what two bytes count.
+  switch (length > 900 ? 3 + below(2) : below(6)) {
+    case 0: return [['indexedIntoBuf', 0], ...inRegister(1, randomPut(below)), ['indexedFromBuf', 0], ...marks, ['indexedReplace', begin, end, 1]];
+    case 1: return [['indexedIntoBuf', 2], ['indexedFromBuf', 2], ...marks, ['indexedReplace', begin, end, 2]];
+    case 2: return [['indexedReplace', begin, end, below(4)]];
+    case 3: return [['indexedReplaceUnits', begin, end, ...randomPut(below)]];
+    default: return readsOfIndexed(indexed, below(length + 2));
+  }
+}
+
+// A random script on the indexed string.
+const randomReplacedScript = (below) => scriptOf([['indexedFromUnits', ...randomPut(below)]], 1 + below(16), randomIndexedCalls, below);
+
+// Scripts of all calls, and a quarter of that number of positions, lines and JSON strings, and of replaced units.
 function randomScriptsOfAll(seed, cases) {
   const below = randomBelow(seed);
-  return [...randomScripts(seed, cases, allCalls), ...Array.from({ length: Math.ceil(cases / 4) }, () => randomPositionScript(below))];
+  const quarterOf = (script) => Array.from({ length: Math.ceil(cases / 4) }, () => script(below));
+  return [...randomScripts(seed, cases, allCalls), ...quarterOf(randomPositionScript), ...quarterOf(randomReplacedScript)];
 }
 
 function fixedScripts() {
   const lists = listScripts().filter((_, at) => at % 97 === 0);
+  const replaced = [...JOINING.map(replacedScript), ...replacedAboutMarksScripts([KINDS[2], KINDS[4]])];
   const marked = markedScripts([300], [129]).filter((_, at) => at % 4 === 2);
-  return [...exampleScripts(), ...workedScripts(), ...lists, ...longScripts(), ...marked, cutAtMarkScript(), longLineScript(), ...pushedAtOnceScripts([[0x3042], NINE], SPACING + 1), ...randomScripts(1, 100, randomCalls)];
+  return [...exampleScripts(), ...workedScripts(), ...lists, ...longScripts(), ...marked, cutAtMarkScript(), longLineScript(), ...pushedAtOnceScripts([[0x3042], NINE], SPACING + 1), ...replaced, ...randomScripts(1, 100, randomCalls)];
 }
 
 // Writes the scripts and their transcripts after the given lines.
@@ -1019,7 +1103,7 @@ function numberOf(word, least) {
 const WAYS = {
   random: { words: 2, scripts: (seed, cases) => randomScriptsOfAll(numberOf(seed, 0), numberOf(cases, 1)) },
   marks: { words: 2, scripts: (seed, cases) => marksScripts(numberOf(seed, 0), numberOf(cases, 1)) },
-  lists: { words: 0, scripts: () => [...listScripts(), ...listsOf(NINE, 3).map(dividedScript), ...longScripts(), ...positionScripts()] },
+  lists: { words: 0, scripts: () => [...listScripts(), ...listsOf(NINE, 3).map(dividedScript), ...longScripts(), ...positionScripts(), ...replacedScripts()] },
   fixed: { words: 0, scripts: fixedScripts },
 };
 const [way, ...words] = process.argv.slice(2);

@@ -18,7 +18,7 @@ use crate::script::Call;
 /// The name of a list, and the function that makes its scripts.
 pub type List = (&'static str, fn() -> Vec<Vec<Call>>);
 
-pub const LISTS: [List; 46] = [
+pub const LISTS: [List; 47] = [
     ("worked examples", worked::scripts),
     ("examples", examples::all),
     ("code points at edges", generate::edge_calls),
@@ -79,6 +79,10 @@ pub const LISTS: [List; 46] = [
     ),
     ("pushes of up to three units", indexed::divided),
     ("units replaced everywhere", indexed::replacements),
+    (
+        "units replaced by strings",
+        indexed::replacements_by_strings,
+    ),
     ("the indexed string about marks", indexed::about_marks),
 ];
 

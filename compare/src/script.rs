@@ -111,6 +111,7 @@ pub enum Opcode {
     IndexedPushUnitSlice = 154,
     IndexedShrinkToFit = 155,
     IndexedReplaceUnits = 156,
+    IndexedReplace = 157,
 }
 
 /// The first opcode of a call on texts. `javascript/text_calls.js` makes these calls.
@@ -182,7 +183,7 @@ pub const CALLS: [(Opcode, &[Kind]); 52] = [
 ];
 
 /// The calls on the indexed string with the kinds of their operands, in the order of the opcodes.
-pub const INDEXED_CALLS: [(Opcode, &[Kind]); 29] = [
+pub const INDEXED_CALLS: [(Opcode, &[Kind]); 30] = [
     (Opcode::IndexedNew, &[]),
     (Opcode::IndexedWithCapacity, &[Number]),
     (Opcode::IndexedFromUnits, &[Units]),
@@ -212,6 +213,7 @@ pub const INDEXED_CALLS: [(Opcode, &[Kind]); 29] = [
     (Opcode::IndexedPushUnitSlice, &[Register, Number, Number]),
     (Opcode::IndexedShrinkToFit, &[]),
     (Opcode::IndexedReplaceUnits, &[Number, Number, Units]),
+    (Opcode::IndexedReplace, &[Number, Number, Register]),
 ];
 
 /// The number of calls, the first ones, among which the random scripts of the fixed list choose.

@@ -76,6 +76,16 @@ fn replaced(begin: usize, end: usize, units: &[u16]) -> Call {
     Call::new(Opcode::IndexedReplaceUnits, operands)
 }
 
+/// The units from one index to another, replaced by the string of a register.
+fn replaced_by(begin: usize, end: usize, register: u8) -> Call {
+    let operands = vec![
+        Operand::Number(begin as u16),
+        Operand::Number(end as u16),
+        Operand::Register(register),
+    ];
+    Call::new(Opcode::IndexedReplace, operands)
+}
+
 fn units_from(index: usize, steps: &[Step]) -> Call {
     let operands = vec![
         Operand::Number(index as u16),
@@ -219,8 +229,11 @@ pub fn chosen() -> Vec<Vec<Call>> {
     let cut = [true, false].map(cut_and_grown_by_letters);
     let replaced = JOINING.map(replaced_everywhere);
     let about_marks = [KINDS[2], KINDS[4]].map(replaced_about_marks);
+    let by_strings = JOINING.map(replaced_by_strings);
+    let long_strings = [KINDS[2], KINDS[4]].map(replaced_by_strings_about_marks);
     let scripts = grown.chain(counted()).chain(cut);
-    scripts.chain(replaced).chain(about_marks).collect()
+    let scripts = scripts.chain(replaced).chain(about_marks);
+    scripts.chain(by_strings).chain(long_strings).collect()
 }
 
 /// What is put in place of units: nothing, a letter, halves of pairs, and both in either order.
@@ -241,6 +254,15 @@ pub fn replacements() -> Vec<Vec<Call>> {
     short.chain(KINDS.map(replaced_about_marks)).collect()
 }
 
+/// The lists and the long strings of `replacements`, replaced likewise by strings.
+pub fn replacements_by_strings() -> Vec<Vec<Call>> {
+    let lists = unit_lists(3);
+    let short = lists.iter().map(|units| replaced_by_strings(units));
+    short
+        .chain(KINDS.map(replaced_by_strings_about_marks))
+        .collect()
+}
+
 fn replaced_everywhere(units: &[u16]) -> Vec<Call> {
     let mut calls = vec![from_units(0, units)];
     for begin in 0..=units.len() {
@@ -252,6 +274,44 @@ fn replaced_everywhere(units: &[u16]) -> Vec<Call> {
         }
     }
     calls.push(replaced(1, 0, &[]));
+    calls.extend(on(2, &[Opcode::IntoBuf, Opcode::IntoString]));
+    calls
+}
+
+/// Each part of a list, and a part that ends past it, replaced by the string of each list of `PUT`, and by that of the
+/// whole list.
+fn replaced_by_strings(units: &[u16]) -> Vec<Call> {
+    let mut calls = vec![from_units(0, units)];
+    for put in PUT.into_iter().chain([units]) {
+        calls.push(from_units(1, put));
+        for begin in 0..=units.len() {
+            for end in begin..=units.len() + 1 {
+                calls.extend(on(0, &[Opcode::FromBuf]));
+                calls.push(replaced_by(begin, end, 1));
+            }
+        }
+    }
+    calls.push(replaced_by(1, 0, 1));
+    calls.extend(on(2, &[Opcode::IntoBuf, Opcode::IntoString]));
+    calls
+}
+
+/// A marked string of some hundred units of a kind, in which a string is inserted before, at and after a mark, and then
+/// replaced by the whole string, read about each mark after each change. The string is longer than the distance between
+/// marks, and a pair is joined at each end of it where there is a half of one.
+fn replaced_by_strings_about_marks(kind: &[u16]) -> Vec<Call> {
+    let inserted = SPACING + 2;
+    let mut piece = string_of(kind, inserted);
+    (piece[0], piece[inserted - 1]) = (0xDCA9, 0xD83D);
+    let mut calls = string_in(0, &string_of(kind, 2 * SPACING + 40));
+    calls.push(from_units(1, &piece));
+    for index in [1, SPACING - 1, SPACING, SPACING + 1, 2 * SPACING + 1] {
+        calls.extend(indexed(true));
+        calls.push(replaced_by(index, index, 1));
+        calls.extend(reads_about(index + inserted));
+        calls.push(replaced_by(index, index + inserted, 0));
+        calls.extend(reads_about(4 * SPACING));
+    }
     calls.extend(on(2, &[Opcode::IntoBuf, Opcode::IntoString]));
     calls
 }
@@ -444,7 +504,7 @@ fn random_calls(random: &mut Random, length: &mut usize) -> Vec<Call> {
         23..=25 => vec![number(Opcode::PositionAt, index)],
         26..=28 => vec![number(Opcode::UnitBefore, position_about(random, index))],
         29 => vec![call(Opcode::IndexedShrinkToFit)],
-        30 | 31 => vec![replacing(random, length, index)],
+        30 | 31 => replacing(random, length, index),
         _ => vec![number(Opcode::IndexedUnitAt, index)],
     }
 }
@@ -515,18 +575,40 @@ fn appending(random: &mut Random, length: &mut usize) -> Vec<Call> {
     vec![call]
 }
 
-/// A call that inserts, removes or replaces units. Changes `length` as it does.
-fn replacing(random: &mut Random, length: &mut usize, index: usize) -> Call {
+/// A call that inserts, removes or replaces units, by units, by a string, or by the string itself. Changes `length` as it
+/// does.
+fn replacing(random: &mut Random, length: &mut usize, index: usize) -> Vec<Call> {
     let end = match random.below(3) {
         0 => index,
         _ => end_after(random, index, *length),
     };
-    let count = random.below(12) as usize;
-    let units = runs(random, count);
+    let units = put(random);
+    let mut put = units.len();
+    let calls = match random.below(4) {
+        0 | 1 => vec![replaced(index, end, &units)],
+        2 if *length < LONGEST => {
+            put = *length;
+            let mut calls = on(3, &[Opcode::IntoBuf, Opcode::FromBuf]);
+            calls.push(replaced_by(index, end, 3));
+            calls
+        }
+        _ => vec![from_units(3, &units), replaced_by(index, end, 3)],
+    };
     if index <= end && end <= *length {
-        *length = *length + index + units.len() - end;
+        *length = *length + index + put - end;
     }
-    replaced(index, end, &units)
+    calls
+}
+
+/// Units that a call puts in place of others: mostly a few, sometimes more than there are between marks.
+fn put(random: &mut Random) -> Vec<u16> {
+    let most = match random.below(8) {
+        0 | 1 => return random.pick(&PUT).to_vec(),
+        2 => 255,
+        _ => 12,
+    };
+    let count = random.below(most) as usize;
+    runs(random, count)
 }
 
 /// A call that truncates the string, mostly not far from its end.
@@ -623,6 +705,8 @@ pub fn worked() -> Vec<Vec<Call>> {
         ]),
         after(vec![replaced(2, 2, &[0x62]), replaced(2, 3, &[])]),
         after(vec![replaced(0, 3, &[0xD83D]), replaced(1, 2, &[])]),
+        after(vec![from_units(1, &[0xDCA9, 0xD83D]), replaced_by(2, 2, 1)]),
+        after(vec![replaced_by(1, 2, 0), replaced_by(1, 7, 0)]),
         after(vec![copied(1, 2, &[0x62])]),
         after(vec![copied(1, 4, &[])]),
         after(vec![units_from(2, &[Step::Next, Step::SizeHint])]),

@@ -41,7 +41,8 @@ impl Machine {
             ChangeIndexed::PushWtf8 => return self.push_to_indexed(tape),
             ChangeIndexed::PushUnitSlice => return self.push_slice_to_indexed(tape),
             ChangeIndexed::Cut(call) => return cut(&mut self.indexed, call, tape),
-            ChangeIndexed::ReplaceUnits => return replace(&mut self.indexed, tape),
+            ChangeIndexed::ReplaceUnits => return replace_units(&mut self.indexed, tape),
+            ChangeIndexed::Replace => return self.replace_by_string(tape),
             ChangeIndexed::Mark => self.indexed.mark_units(tape.alloc),
             ChangeIndexed::ShrinkToFit => self.indexed.shrink_to_fit(),
         }
@@ -80,6 +81,13 @@ impl Machine {
         let whole = self.copy(tape);
         let (begin, end) = tape.reader.range();
         append_slice(&mut self.indexed, whole.as_wtf8(), begin, end)
+    }
+
+    /// `insert` or `replace`, by a clone of a string.
+    fn replace_by_string(&mut self, tape: &mut Tape<'_>) -> Result<(), Stop> {
+        let (begin, end) = tape.reader.range();
+        let new = self.copy(tape);
+        replace_part(&mut self.indexed, begin, end, new.as_wtf8())
     }
 
     /// `into_buf`: the result becomes the string of a register.
@@ -230,14 +238,14 @@ fn truncate_units(string: &mut IndexedBuf<Global>, tape: &mut Tape<'_>) -> Resul
 }
 
 /// `insert_units`, `remove_units` or `replace_units`.
-fn replace(string: &mut IndexedBuf<Global>, tape: &mut Tape<'_>) -> Result<(), Stop> {
+fn replace_units(string: &mut IndexedBuf<Global>, tape: &mut Tape<'_>) -> Result<(), Stop> {
     let (begin, end) = tape.reader.range();
     let units = tape.reader.counted_units(tape.alloc);
-    replace_part(string, begin, end, units.as_slice())
+    replace_part_by_units(string, begin, end, units.as_slice())
 }
 
 /// The call that replaces the units from one index to another by others.
-fn replace_part(
+fn replace_part_by_units(
     string: &mut IndexedBuf<Global>,
     begin: usize,
     end: usize,
@@ -253,6 +261,22 @@ fn replace_part(
         return done(string.remove_units(begin, end));
     }
     done(string.replace_units(begin, end, units))
+}
+
+/// The call that replaces the units from one index to another by a string.
+fn replace_part(
+    string: &mut IndexedBuf<Global>,
+    begin: usize,
+    end: usize,
+    new: Wtf8<'_>,
+) -> Result<(), Stop> {
+    if end < begin || string.unit_len() < end {
+        return Err(Stop::Refused);
+    }
+    if begin == end {
+        return done(string.insert(begin, new));
+    }
+    done(string.replace(begin, end, new))
 }
 
 /// `slice_units`: writes the slice, and appends it to a string.

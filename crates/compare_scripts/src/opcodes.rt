@@ -321,6 +321,9 @@ pub enum ChangeIndexed {
     /// Two numbers, units: `replace_units` from one index to another by these units; `insert_units` if the numbers are
     /// equal, else `remove_units` if there are no units.
     ReplaceUnits,
+    /// Two numbers, register: `replace` from one index to another by a clone of that string; `insert` if the numbers are
+    /// equal.
+    Replace,
     /// Makes the string keep marks from now on (`mark_units`).
     Mark,
     /// `shrink_to_fit`.
@@ -601,6 +604,7 @@ impl ChangeIndexed {
             154 => ChangeIndexed::PushUnitSlice,
             155 => ChangeIndexed::ShrinkToFit,
             156 => ChangeIndexed::ReplaceUnits,
+            157 => ChangeIndexed::Replace,
             _ => return None,
         };
         Some(call)

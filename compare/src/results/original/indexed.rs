@@ -68,7 +68,16 @@ impl Machine {
                 self.cut_indexed(front);
             }
             Opcode::IndexedClear => self.cut_indexed(Some(Wtf8Buf::new())),
-            Opcode::IndexedReplaceUnits => self.replace_units(reader),
+            Opcode::IndexedReplaceUnits => {
+                let (begin, end) = (reader.number(), reader.number());
+                let units = reader.units();
+                self.replace_units(begin, end, units);
+            }
+            Opcode::IndexedReplace => {
+                let (begin, end) = (reader.number(), reader.number());
+                let units = self.copy(reader).to_ill_formed_utf16().collect();
+                self.replace_units(begin, end, units);
+            }
             Opcode::IndexedPushSlice => self.push_indexed_slice(reader),
             Opcode::IndexedUnitAt => {
                 let unit = self.indexed.to_ill_formed_utf16().nth(reader.number());
@@ -128,9 +137,7 @@ impl Machine {
     }
 
     /// Makes the string of all units anew, as the crate changes none in the middle.
-    fn replace_units(&mut self, reader: &mut Reader<'_>) {
-        let (begin, end) = (reader.number(), reader.number());
-        let units = reader.units();
+    fn replace_units(&mut self, begin: usize, end: usize, units: Vec<u16>) {
         let mut all = self.indexed_units();
         if all.get(begin..end).is_none() {
             return self.line("refused");
