@@ -1,8 +1,8 @@
 """The must-fail edits of this repository: where they are, how they are applied, and which functions they change.
 
-A file of gate/must_fail has the edits of one module, in the order of its source: a line `edit: NAME`, or `control: NAME`
-for one that keeps the meaning, then a line `file: PATH` and pairs of lines `old: TEXT` and `new: TEXT`, as a file of
-crates/*/must-fail, which has one edit.
+A file of gate/must_fail has the edits of one module, or of a crate with few, in the order of the source: a line
+`edit: NAME`, or `control: NAME` for one that keeps the meaning, then a line `file: PATH` and pairs of lines `old: TEXT` and
+`new: TEXT`, as a file of crates/*/must-fail, which has one edit.
 """
 import pathlib
 import re
