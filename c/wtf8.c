@@ -240,6 +240,13 @@ static inline handle asked(const wtf8_string *string, wtf8_string *empty) {
     return (handle){empty};
 }
 
+/* Writes a copy of a string that a call is given twice into the struct that `made` names, which holds no buffer: the proved
+ * code changes one string and reads another. The copy has to be freed, also if memory for it was refused. */
+static __attribute__((noinline)) wtf8_result copy_to(handle *made, handle *string) {
+    init(made->at);
+    return PROVED(set_string)(made, string);
+}
+
 /* What an array of length 0 points to. Nothing is read or written there. */
 static uint16_t nothing[1];
 static uint32_t no_points[1];
@@ -353,9 +360,8 @@ wtf8_result wtf8_push_string(wtf8_string *string, const wtf8_string *other) {
         handle copy = asked(other, &second);
         return PROVED(push_string)(&changed, &copy);
     }
-    init(&second);
     handle made = {&second};
-    wtf8_result code = PROVED(set_string)(&made, &changed);
+    wtf8_result code = copy_to(&made, &changed);
     if (code == WTF8_OK) code = PROVED(push_string)(&changed, &made);
     PROVED(free)(&made);
     return code;
@@ -383,9 +389,8 @@ wtf8_result wtf8_insert(wtf8_string *string, size_t index, const wtf8_string *ot
         handle copy = asked(other, &second);
         return PROVED(insert)(&changed, index, &copy);
     }
-    init(&second);
     handle made = {&second};
-    wtf8_result code = PROVED(set_string)(&made, &changed);
+    wtf8_result code = copy_to(&made, &changed);
     if (code == WTF8_OK) code = PROVED(insert)(&changed, index, &made);
     PROVED(free)(&made);
     return code;
@@ -398,9 +403,8 @@ wtf8_result wtf8_replace(wtf8_string *string, size_t begin, size_t end, const wt
         handle copy = asked(other, &second);
         return PROVED(replace)(&changed, begin, end, &copy);
     }
-    init(&second);
     handle made = {&second};
-    wtf8_result code = PROVED(set_string)(&made, &changed);
+    wtf8_result code = copy_to(&made, &changed);
     if (code == WTF8_OK) code = PROVED(replace)(&changed, begin, end, &made);
     PROVED(free)(&made);
     return code;
