@@ -87,11 +87,3 @@ latin1_ends {all} {rest} {n} k part back a e ends l =
           (All-append (λ m. m ≤ 0xFF) (take n all) (take k part) a.front ends.front);
       next = λ _. omega (arith, here, other);
     }
-
--- no units are left
-pub latin1_all : {all rest : List ℕ} {n : ℕ} → AreLatin1To all n rest → length rest ≡ 0 → EndsLatin1 all n
-latin1_all {all} {rest} {n} a none = record {
-  within = a.within;
-  front = a.front;
-  next = λ l. absurd (omega (arith, l, none, ap length a.left, length-drop n all));
-}
