@@ -20,9 +20,10 @@ use std::cmp::Ordering;
 /// stores may overwrite after them.
 const PART: usize = 512;
 
-/// The same for shorter strings: fewer bytes to zero. Up to 64 units of any kind fit `MIDDLE_PART`.
+/// The same for shorter strings: fewer bytes to zero.
 const SHORT_PART: usize = 96;
 
+/// The same for strings between: up to 64 units of any kind fit it.
 const MIDDLE_PART: usize = 224;
 
 /// Decodes the first code points of a string, at most a byte for each unit of `block` but `POSITIONS`, to the front of it. Returns

@@ -6,7 +6,7 @@ ghost use Rattle.wtf8.specs.private.Prefixes.{ReadsOn};
 
 use crate::from_utf16::kernel::{self, MIN_SPARE};
 use crate::from_utf16::transcode::MAX_POINT_BYTES;
-use crate::from_utf16::{Progress, QUARTER_BLOCK, TWO_BLOCKS, on_stack};
+use crate::from_utf16::{HALF_BLOCK, Progress, QUARTER_BLOCK, TWO_BLOCKS, on_stack};
 use crate::lanes::ascii::{ascii_run_len, narrow_saturating};
 use std::simd::prelude::*;
 
@@ -55,20 +55,6 @@ fn write_run(v: &[u16], from: Progress, out: &mut [u8], len: usize) -> (usize, P
     on_stack::write_point(v, to, out, end)
 }
 
-/// Writes blocks at index `len`.
-#[inline(always)]
-fn write_blocks(v: &[u16], from: Progress, out: &mut [u8], len: usize) -> (usize, Progress)
-    requires within { from.at + QUARTER_BLOCK ≤ length v.now }
-    requires room { len + MIN_SPARE ≤ length out.old }
-    ensures order { (from.at < result.1.at) × (result.1.at ≤ length v.now) }
-    ensures end { result.0 ≤ length out.new }
-    ensures read { (w : List ℕ) → ReadsOn (w ++ take len out.old) (w ++ take result.0 out.new) v.now from.at from.is_utf8 result.1.at result.1.is_utf8 }
-{
-    let (count, to) = kernel::write_blocks(v, from.at, &mut out[len..]);
-    let is_utf8 = from.is_utf8 & to.is_utf8;
-    (len + count, Progress { at: to.at, is_utf8 })
-}
-
 /// Encodes the next units at index `len`. Returns the index after their bytes and how far units are encoded.
 #[inline(always)]
 fn write_next(v: &[u16], from: Progress, out: &mut [u8], len: usize) -> (usize, Progress)
@@ -79,13 +65,13 @@ fn write_next(v: &[u16], from: Progress, out: &mut [u8], len: usize) -> (usize, 
     ensures read { (w : List ℕ) → ReadsOn (w ++ take len out.old) (w ++ take result.0 out.new) v.now from.at from.is_utf8 result.1.at result.1.is_utf8 }
 {
     let left = v.len() - from.at;
-    if left < QUARTER_BLOCK || out.len() - len < MIN_SPARE {
+    if v.len() < HALF_BLOCK || left < QUARTER_BLOCK || out.len() - len < MIN_SPARE {
         return on_stack::write_point(v, from, out, len);
     }
     if TWO_BLOCKS <= left && v[from.at] < 0x80 {
         return write_run(v, from, out, len);
     }
-    write_blocks(v, from, out, len)
+    kernel::write_blocks(v, from, out, len)
 }
 
 /// Encodes code units from the front of a list on, paired or not, to the front of `out`, which must have room for four

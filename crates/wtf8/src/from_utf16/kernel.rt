@@ -52,9 +52,6 @@ const LANES_AFTER: [usize; 16] = [1, 2, 3, 4, 5, 6, 7, 8, 9, 10, 11, 12, 13, 14,
 /// Lanes 0 to 7 of two vectors, the second ones after the first ones.
 const BOTH_HALVES: [usize; 16] = [0, 1, 2, 3, 4, 5, 6, 7, 8, 9, 10, 11, 12, 13, 14, 15];
 
-/// Lanes 0 to 3 of two vectors, then lanes 4 to 7 of the first, twice.
-const BOTH_QUARTERS: [usize; 16] = [0, 1, 2, 3, 8, 9, 10, 11, 4, 5, 6, 7, 4, 5, 6, 7];
-
 /// Heads and lasts of a block's units, and whether none of these is a lone surrogate.
 #[derive(Clone, Copy)]
 struct UnitBytes {
@@ -263,82 +260,83 @@ fn without_first(units: u16x8, count: usize) -> u16x8
     u16x8::from_le_bytes(padding::without_first(units.to_le_bytes(), 2 * count))
 }
 
-/// The first `QUARTER_BLOCK` units, then zeros.
+/// The units from index `at` on, then zeros: by a load of the last `HALF_BLOCK` units of the list, and one from index `at` on
+/// if they are no fewer. Stored to the stack and loaded from there, the block would wait for the stores, some 20 ns.
 #[inline(always)]
-fn first_quarter(units: &[u16]) -> u16x8
-    requires { QUARTER_BLOCK ≤ length units.now }
-    ensures { result ≡ take 4 units.now ++ replicate 4 0 }
+fn padded(v: &[u16], at: usize) -> u16x16
+    requires least { HALF_BLOCK ≤ length v.now }
+    requires within { at ≤ length v.now }
+    requires most { length v.now < at + BLOCK_UNITS }
+    ensures { result ≡ drop at v.now ++ replicate (16 - (length v.now - at)) 0 }
 {
-    u16x4::from_slice(units).shuffle(u16x4::splat(0), [0, 1, 2, 3, 4, 5, 6, 7])
-}
-
-/// The units, then zeros, by loads of the first and the last `HALF_BLOCK` units or `QUARTER_BLOCK`, which may overlap.
-/// Stored to the stack and loaded from there, the block would wait for the stores, some 20 ns.
-#[inline(always)]
-fn padded(units: &[u16]) -> u16x16
-    requires least { QUARTER_BLOCK ≤ length units.now }
-    requires most { length units.now < BLOCK_UNITS }
-    ensures { result ≡ units.now ++ replicate (16 - length units.now) 0 }
-{
-    if HALF_BLOCK <= units.len() {
-        let last = u16x8::from_slice(&units[units.len() - HALF_BLOCK..]);
-        let rest = without_first(last, BLOCK_UNITS - units.len());
-        return u16x8::from_slice(units).shuffle(rest, BOTH_HALVES);
+    let left = v.len() - at;
+    let last = u16x8::from_slice(&v[v.len() - HALF_BLOCK..]);
+    if left < HALF_BLOCK {
+        return without_first(last, HALF_BLOCK - left).shuffle(u16x8::splat(0), BOTH_HALVES);
     }
-    let last = first_quarter(&units[units.len() - QUARTER_BLOCK..]);
-    let rest = without_first(last, HALF_BLOCK - units.len());
-    first_quarter(units).shuffle(rest, BOTH_QUARTERS)
+    let rest = without_first(last, BLOCK_UNITS - left);
+    u16x8::from_slice(&v[at..]).shuffle(rest, BOTH_HALVES)
 }
 
-/// Encodes units as a block with zeros after them. A lead before these is lone, and each of them takes one byte, a
-/// zero, which is left out. Returns the index after the other bytes, and whether no unit is a lone surrogate.
+/// Encodes the units from index `at` on as a block with zeros after them. A lead before these is lone, and each of them
+/// takes one byte, a zero, which is left out. Returns the index after the other bytes, and whether no unit is a lone
+/// surrogate.
 #[inline(always)]
-fn write_last_block(units: &[u16], scratch: &mut [u8], len: usize) -> (usize, bool)
-    requires least { QUARTER_BLOCK ≤ length units.now }
-    requires most { length units.now < BLOCK_UNITS }
+fn write_last_block(v: &[u16], at: usize, scratch: &mut [u8], len: usize) -> (usize, bool)
+    requires least { HALF_BLOCK ≤ length v.now }
+    requires within { at < length v.now }
+    requires most { length v.now < at + BLOCK_UNITS }
     requires room { len + MIN_SPARE ≤ length scratch.old }
     ensures within { result.0 ≤ len + MAX_BLOCK_BYTES }
-    ensures bytes { take result.0 scratch.new ≡ take len scratch.old ++ packed_units 0 (tagged_units 0 units.now 0) }
-    ensures form { IsKnownForm (packed_units 0 (tagged_units 0 units.now 0)) units.now result.1 }
+    ensures bytes { take result.0 scratch.new ≡ take len scratch.old ++ packed_units 0 (tagged_units 0 (drop at v.now) 0) }
+    ensures form { IsKnownForm (packed_units 0 (tagged_units 0 (drop at v.now) 0)) (drop at v.now) result.1 }
 {
-    let may_be_ascii = (units[0] | units[units.len() - 1]) < 0x80;
-    let written = write_any_block(padded(units), may_be_ascii, scratch, len);
-    (written.end - (BLOCK_UNITS - units.len()), written.is_utf8)
+    let may_be_ascii = (v[at] | v[v.len() - 1]) < 0x80;
+    let written = write_any_block(padded(v, at), may_be_ascii, scratch, len);
+    let zeros = BLOCK_UNITS - (v.len() - at);
+    (written.end - zeros, written.is_utf8)
 }
 
-/// Encodes the number of blocks that has units and room whatever the units are, so that no turn compares either, then
-/// `QUARTER_BLOCK` or more that are left at the end. Returns the number of bytes, and how far units are encoded.
+/// Encodes units at index `len`: the number of blocks that has units and room whatever the units are, so that no turn
+/// compares either, then `QUARTER_BLOCK` or more that are left at the end. Returns the index after their bytes and how far
+/// units are encoded.
 #[inline(always)]
-pub(crate) fn write_blocks(v: &[u16], at: usize, scratch: &mut [u8]) -> (usize, Progress)
-    requires units { at + QUARTER_BLOCK ≤ length v.now }
-    requires room { MIN_SPARE ≤ length scratch.old }
-    ensures order { at < result.1.at }
-    ensures within { result.0 ≤ length scratch.new }
+pub(crate) fn write_blocks(
+    v: &[u16],
+    from: Progress,
+    out: &mut [u8],
+    len: usize,
+) -> (usize, Progress)
+    requires least { HALF_BLOCK ≤ length v.now }
+    requires units { from.at + QUARTER_BLOCK ≤ length v.now }
+    requires room { len + MIN_SPARE ≤ length out.old }
+    ensures order { from.at < result.1.at }
+    ensures within { result.0 ≤ length out.new }
     ensures units { result.1.at ≤ length v.now }
-    ensures read { (w : List ℕ) (known : Bool) → ReadsOn w (w ++ take result.0 scratch.new) v.now at known result.1.at (known && result.1.is_utf8) }
+    ensures read { (w : List ℕ) → ReadsOn (w ++ take len out.old) (w ++ take result.0 out.new) v.now from.at from.is_utf8 result.1.at result.1.is_utf8 }
 {
-    let room = (scratch.len() - MIN_SPARE) / MAX_BLOCK_BYTES + 1;
-    let blocks = ((v.len() - at) / BLOCK_UNITS).min(room);
-    let mut to = Progress { at, is_utf8: true };
-    let mut len = 0;
+    let room = (out.len() - len - MIN_SPARE) / MAX_BLOCK_BYTES + 1;
+    let blocks = ((v.len() - from.at) / BLOCK_UNITS).min(room);
+    let mut to = from;
+    let mut end = len;
     for _ in 0..blocks {
         let may_be_ascii = (v[to.at] | v[to.at + BLOCK_UNITS - 1]) < 0x80;
         let block = u16x16::from_slice(&v[to.at..]);
-        let written = write_any_block(block, may_be_ascii, scratch, len);
-        len = written.end;
+        let written = write_any_block(block, may_be_ascii, out, end);
+        end = written.end;
         to.at += written.units;
         to.is_utf8 &= written.is_utf8;
     }
     let left = v.len() - to.at;
-    if QUARTER_BLOCK <= left && left < BLOCK_UNITS && len + MIN_SPARE <= scratch.len() {
-        let (end, is_utf8) = write_last_block(&v[to.at..], scratch, len);
+    if QUARTER_BLOCK <= left && left < BLOCK_UNITS && end + MIN_SPARE <= out.len() {
+        let (end, is_utf8) = write_last_block(v, to.at, out, end);
         let all = Progress {
             at: v.len(),
             is_utf8: to.is_utf8 & is_utf8,
         };
         return (end, all);
     }
-    (len, to)
+    (end, to)
 }
 
 /// Appends blocks through a scratch buffer, until fewer than `QUARTER_BLOCK` are left or ASCII follows a full buffer. A
@@ -351,6 +349,7 @@ pub(crate) fn append_blocks<const SCRATCH: usize, A: Allocator>(
     growth: Growth,
 ) -> Result<Progress, AllocError>
     requires room { (MIN_SPARE ≤ SCRATCH) × (SCRATCH < 2 ^ 16) }
+    requires least { HALF_BLOCK ≤ length v.now }
     requires within { from.at + QUARTER_BLOCK ≤ length v.now }
     ensures order { IfOk result (λ to. (from.at < to.at) × (to.at ≤ length v.now)) }
     ensures read { IfOk result (λ to. ReadsOn bytes.old.items bytes.new.items v.now from.at from.is_utf8 to.at to.is_utf8) }
@@ -362,11 +361,10 @@ pub(crate) fn append_blocks<const SCRATCH: usize, A: Allocator>(
     let scratch = &mut scratch[..];
     let mut read = from;
     loop {
-        let (len, to) = write_blocks(v, read.at, scratch);
+        let (len, to) = write_blocks(v, read, scratch, 0);
         make_room(bytes, v, to.at, len, len, growth)?;
         bytes.extend_from_slice(&scratch[..len])?;
-        read.at = to.at;
-        read.is_utf8 &= to.is_utf8;
+        read = to;
         if v.len() - read.at < QUARTER_BLOCK || v[read.at] < 0x80 {
             return Ok(read);
         }

@@ -7,16 +7,17 @@ ghost use Rattle.wtf8.specs.private.Prefixes.{HasRoomFrom, IsKnownForm, IsReadTo
 use crate::codec::code_point::{CodePoint, FIRST_LEAD};
 use crate::codec::encoding::{four_bytes, three_bytes, two_bytes};
 use crate::from_utf16::kernel::{self, MIN_SPARE};
-use crate::from_utf16::{Progress, QUARTER_BLOCK, decode};
+use crate::from_utf16::{HALF_BLOCK, Progress, QUARTER_BLOCK, decode};
 use crate::vec::to_vec_in;
 use std::alloc::{AllocError, Allocator};
 
-/// The most units that are encoded one by one. With 5 in place of 12, as blocks from 6 units on, lists of 6 to 12 units take
-/// 1.1 of the time to be pushed and 1.2 as new strings, and 1.9 and 1.8 on x86-64 without SSSE3.
-pub(crate) const MAX_ONE_BY_ONE: usize = 12;
+/// The most units that are encoded one by one. With 12 in place of 8, 12 units that are not ASCII take 1.2 to 1.6 of the
+/// instructions, 9 of which one is not ASCII .8 to .9. With 5 in place of 12, as blocks from 6 units on, lists of 6 to 12 units
+/// take 1.1 of the time to be pushed and 1.2 as new strings, and 1.9 and 1.8 on x86-64 without SSSE3.
+pub(crate) const MAX_ONE_BY_ONE: usize = 8;
 
 /// At least three bytes for each unit, and four for the last code point. A multiple of 16, so that few stores zero them.
-const ONE_BY_ONE_BYTES: usize = 48;
+const ONE_BY_ONE_BYTES: usize = 32;
 
 /// Writes an array at index `at`. Returns the index after it.
 #[inline(always)]
@@ -134,25 +135,32 @@ fn write_one_by_one(v: &[u16], is_utf8: bool, out: &mut [u8]) -> (usize, bool)
     write_points(v, Progress { at: 0, is_utf8 }, out, 0)
 }
 
-/// Encodes units at the front of `out` as blocks, and one code point at a time those that these leave. Returns the number of
-/// their bytes, and whether none of them is a lone surrogate. Not inlined, so that shorter lists save no registers for it.
+/// Encodes units at the front of `out` as blocks, and one code point at a time those that these leave, fewer than
+/// `QUARTER_BLOCK`. Returns the number of their bytes, and whether none of them is a lone surrogate. Each block that ends
+/// with a lead leaves it to the next one, so that more blocks may follow than were counted. Not inlined, so that shorter
+/// lists save no registers for it.
 #[inline(never)]
 fn write_blocks(v: &[u16], out: &mut [u8]) -> (usize, bool)
-    requires units { QUARTER_BLOCK ≤ length v.now }
-    requires spare { MIN_SPARE ≤ length out.old }
-    requires room { 3 * length v.now + 4 ≤ length out.old }
+    requires units { HALF_BLOCK ≤ length v.now }
+    requires room { 3 * length v.now + MIN_SPARE ≤ length out.old }
     ensures within { result.0 ≤ length out.new }
     ensures read { (w : List ℕ) → ReadsOn w (w ++ take result.0 out.new) v.now 0 true (length v.now) result.1 }
 {
-    let (len, to) = kernel::write_blocks(v, 0, out);
-    write_points(v, to, out, len)
+    let mut len = 0;
+    let mut read = Progress {
+        at: 0,
+        is_utf8: true,
+    };
+    while QUARTER_BLOCK <= v.len() - read.at {
+        (len, read) = kernel::write_blocks(v, read, out, len);
+    }
+    write_points(v, read, out, len)
 }
 
 /// Encodes units at the front of `out` in the way that is shorter. Returns as `write_blocks` does.
 #[inline(always)]
 fn write_all(v: &[u16], out: &mut [u8]) -> (usize, bool)
-    requires spare { MIN_SPARE ≤ length out.old }
-    requires room { 3 * length v.now + 4 ≤ length out.old }
+    requires room { 3 * length v.now + MIN_SPARE ≤ length out.old }
     ensures within { result.0 ≤ length out.new }
     ensures read { (w : List ℕ) → ReadsOn w (w ++ take result.0 out.new) v.now 0 true (length v.now) result.1 }
 {
@@ -170,8 +178,8 @@ pub(crate) fn encode<const N: usize, A: Allocator>(
     alloc: A,
     v: &[u16],
 ) -> Result<(Vec<u8, A>, bool), AllocError>
-    requires bytes { (MIN_SPARE ≤ N) × (N < 2 ^ 16) }
-    requires room { 3 * length v.now + 4 ≤ N }
+    requires bytes { N < 2 ^ 16 }
+    requires room { 3 * length v.now + MIN_SPARE ≤ N }
     ensures form { IfOk result (λ r. IsKnownForm r.0.items v.now r.1) }
     ensures empty { v.now ≡ [] → IsOk result }
 {

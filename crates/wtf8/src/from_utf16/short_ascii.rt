@@ -1,4 +1,4 @@
-// Lists of at least `QUARTER_BLOCK` and fewer than `TWO_BLOCKS` units that are all ASCII, as most names are: tested and
+// Lists of at least `QUARTER_BLOCK` and fewer than `2 * TWO_BLOCKS` units that are all ASCII, as most names are: tested and
 // narrowed as two overlapping blocks.
 ghost use Rattle.std.specs.Prelude.{◌≡◌, ◌++◌, ◌+◌, ◌*◌, ◌<◌, ◌≤◌, length, vec_capacity, IfOk, IsTrue};
 ghost use Rattle.wtf8.specs.private.EncodedBytes.{BecomesOrKeeps};
@@ -11,7 +11,7 @@ use std::simd::prelude::*;
 
 /// Whether `N` to `2 * N` units are all ASCII, by loads of the first and the last `N`, which may overlap.
 #[inline(always)]
-fn are_ends_ascii<const N: usize>(units: &[u16]) -> bool
+pub(crate) fn are_ends_ascii<const N: usize>(units: &[u16]) -> bool
     requires lanes { N ≤ u64.BITS }
     requires all { (N ≤ length units.now) × (length units.now ≤ 2 * N) }
     ensures { IsTrue result → AreAscii units.now }
@@ -21,28 +21,30 @@ fn are_ends_ascii<const N: usize>(units: &[u16]) -> bool
     is_ascii_block(narrow_saturating(front.simd_max(back)))
 }
 
-/// Whether there are at least `QUARTER_BLOCK` units and fewer than `TWO_BLOCKS`, all ASCII.
+/// Whether there are at least `QUARTER_BLOCK` units and fewer than `2 * TWO_BLOCKS`, all ASCII.
 #[inline(always)]
 pub(crate) fn is_short_ascii(units: &[u16]) -> bool
     ensures ascii { IsTrue result → AreAscii units.now }
-    ensures len { IsTrue result → (QUARTER_BLOCK ≤ length units.now) × (length units.now < TWO_BLOCKS) }
+    ensures len { IsTrue result → (QUARTER_BLOCK ≤ length units.now) × (length units.now < 2 * TWO_BLOCKS) }
 {
     // Most other text is told by its first unit.
-    if units.len() < QUARTER_BLOCK || TWO_BLOCKS <= units.len() || 0x80 <= units[0] {
+    if units.len() < QUARTER_BLOCK || 2 * TWO_BLOCKS <= units.len() || 0x80 <= units[0] {
         return false;
     }
     if units.len() < HALF_BLOCK {
         are_ends_ascii::<QUARTER_BLOCK>(units)
     } else if units.len() < BLOCK_UNITS {
         are_ends_ascii::<HALF_BLOCK>(units)
-    } else {
+    } else if units.len() < TWO_BLOCKS {
         are_ends_ascii::<BLOCK_UNITS>(units)
+    } else {
+        are_ends_ascii::<TWO_BLOCKS>(units)
     }
 }
 
 /// Appends `N` to `2 * N` ASCII units as their first and their last `N` bytes, which may overlap.
 #[inline(always)]
-fn push_ends<const N: usize, A: Allocator>(bytes: &mut Vec<u8, A>, units: &[u16])
+pub(crate) fn push_ends<const N: usize, A: Allocator>(bytes: &mut Vec<u8, A>, units: &[u16])
     requires lanes { N ≤ u64.BITS }
     requires all { (N ≤ length units.now) × (length units.now ≤ 2 * N) }
     requires ascii { AreAscii units.now }
@@ -63,7 +65,7 @@ fn push_ends<const N: usize, A: Allocator>(bytes: &mut Vec<u8, A>, units: &[u16]
 /// Appends units of which `is_short_ascii` is true.
 #[inline(always)]
 pub(crate) fn push<A: Allocator>(bytes: &mut Vec<u8, A>, units: &[u16])
-    requires len { (QUARTER_BLOCK ≤ length units.now) × (length units.now < TWO_BLOCKS) }
+    requires len { (QUARTER_BLOCK ≤ length units.now) × (length units.now < 2 * TWO_BLOCKS) }
     requires ascii { AreAscii units.now }
     requires room { length bytes.old.items + length units.now ≤ vec_capacity bytes.old }
     ensures items { bytes.new.items ≡ bytes.old.items ++ units.now }
@@ -73,15 +75,17 @@ pub(crate) fn push<A: Allocator>(bytes: &mut Vec<u8, A>, units: &[u16])
         push_ends::<QUARTER_BLOCK, A>(bytes, units);
     } else if units.len() < BLOCK_UNITS {
         push_ends::<HALF_BLOCK, A>(bytes, units);
-    } else {
+    } else if units.len() < TWO_BLOCKS {
         push_ends::<BLOCK_UNITS, A>(bytes, units);
+    } else {
+        push_ends::<TWO_BLOCKS, A>(bytes, units);
     }
 }
 
 /// Makes a vector of the bytes of units of which `is_short_ascii` is true.
 #[inline(always)]
 pub(crate) fn encode<A: Allocator>(alloc: A, units: &[u16]) -> Result<Vec<u8, A>, AllocError>
-    requires len { (QUARTER_BLOCK ≤ length units.now) × (length units.now < TWO_BLOCKS) }
+    requires len { (QUARTER_BLOCK ≤ length units.now) × (length units.now < 2 * TWO_BLOCKS) }
     requires ascii { AreAscii units.now }
     ensures { IfOk result (λ bytes. bytes.items ≡ units.now) }
 {
@@ -93,7 +97,7 @@ pub(crate) fn encode<A: Allocator>(alloc: A, units: &[u16]) -> Result<Vec<u8, A>
 /// Appends units of which `is_short_ascii` is true, or leaves the bytes as they are if memory is refused.
 #[inline(always)]
 pub(crate) fn append<A: Allocator>(bytes: &mut Vec<u8, A>, units: &[u16]) -> Result<(), AllocError>
-    requires len { (QUARTER_BLOCK ≤ length units.now) × (length units.now < TWO_BLOCKS) }
+    requires len { (QUARTER_BLOCK ≤ length units.now) × (length units.now < 2 * TWO_BLOCKS) }
     requires ascii { AreAscii units.now }
     ensures { BecomesOrKeeps bytes.old (bytes.old.items ++ units.now) bytes.new result }
 {

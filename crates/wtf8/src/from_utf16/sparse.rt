@@ -1,4 +1,4 @@
-// Encodes a few non_ascii among ASCII units: units from 80 to D7FF. Their indices are read from a mask, so that no load waits
+// Encodes a few units that are not ASCII, among ASCII units: units from 80 to D7FF. Their indices are read from a mask, so that no load waits
 // for the letter before it.
 ghost use Rattle.std.specs.Prelude.{◌≡◌, ◌↔◌, ℕ, List, Bool, ◌++◌, ◌+◌, ◌-◌, ◌*◌, ◌<◌, ◌≤◌, length, take, drop, slice_index, vec_capacity, IsTrue, IfNone, IfSome};
 ghost use Rattle.wtf8.specs.Form.{encoding};

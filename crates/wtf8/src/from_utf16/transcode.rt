@@ -1,5 +1,5 @@
 // Encodes code units in steps, by what the next units are: an ASCII run and the code point after it, blocks of `kernel`,
-// or one code point. `decode_utf16` decodes the last ones, fewer than `QUARTER_BLOCK`.
+// or one code point. `decode_utf16` decodes the last ones, fewer than `QUARTER_BLOCK`, and lists of fewer than `HALF_BLOCK`.
 ghost use Rattle.std.specs.Prelude.{◌≡◌, ℕ, List, [], ◌++◌, ◌+◌, ◌<◌, ◌≤◌, ◌⊎◌, length, take, drop, vec_capacity, IfOk, IsOk};
 ghost use Rattle.wtf8.specs.private.Prefixes.{IsKnownForm, IsReadTo, ReadsOn, HasRoomFrom};
 ghost use Rattle.wtf8.specs.private.Search.{IsNonAsciiMask};
@@ -8,11 +8,9 @@ use crate::codec::code_point::CodePoint;
 use crate::codec::encoding;
 use crate::from_utf16::kernel::{self, MIN_SPARE};
 use crate::from_utf16::room::{Growth, make_room, may_be_ascii, reserve_ascii};
-use crate::from_utf16::short_ascii::{self, is_short_ascii};
+use crate::from_utf16::short_ascii::{self, are_ends_ascii, is_short_ascii, push_ends};
 use crate::from_utf16::sparse::{SPARSE_SPARE, append_sparse, is_two_or_three_bytes};
-use crate::from_utf16::{
-    BLOCK_UNITS, HALF_BLOCK, Progress, QUARTER_BLOCK, TWO_BLOCKS, decode, on_stack,
-};
+use crate::from_utf16::{HALF_BLOCK, Progress, QUARTER_BLOCK, TWO_BLOCKS, decode, on_stack};
 use crate::lanes::ascii::{first_not_ascii, narrow_saturating};
 use crate::vec::spare_capacity;
 use std::alloc::{AllocError, Allocator};
@@ -33,11 +31,12 @@ const SCRATCH_BYTES: usize = 512;
 /// The scratch buffer's size for fewer than `TWO_BLOCKS` units: room for two blocks, since it is zeroed first.
 const SHORT_SCRATCH_BYTES: usize = 112;
 
-/// The size in bytes of the scratch buffer of a new string of fewer than `TWO_BLOCKS` units.
-const SHORT_BYTES: usize = 112;
+/// The size in bytes of the scratch buffer of a new string of fewer than `TWO_BLOCKS` units: a multiple of 16, so that few
+/// stores zero it.
+const SHORT_BYTES: usize = 160;
 
-/// The most units of a new string that are encoded on the stack if they do not begin with an ASCII run: counting them first
-/// takes a tenth to a third more instructions.
+/// The most units of a new string that are encoded on the stack unless the first `2 * TWO_BLOCKS` are ASCII: counting them
+/// first takes a tenth to a third more instructions.
 const STACK_UNITS: usize = 128;
 
 /// The size in bytes of their scratch buffer.
@@ -120,29 +119,6 @@ fn append_front<const N: usize, A: Allocator>(
     Ok((to, block.simd_ge(Simd::splat(0x80)).to_bitmask()))
 }
 
-/// Appends the ASCII run in the next `N` units and the code point after it; one code point if spare capacity is less.
-#[inline(always)]
-fn append_ascii_run<const N: usize, A: Allocator>(
-    bytes: &mut Vec<u8, A>,
-    v: &[u16],
-    from: Progress,
-    growth: Growth,
-) -> Result<Progress, AllocError>
-    requires lanes { (0 < N) × (N ≤ u64.BITS) }
-    requires within { from.at + N ≤ length v.now }
-    ensures order { IfOk result (λ to. (from.at < to.at) × (to.at ≤ length v.now)) }
-    ensures read { IfOk result (λ to. ReadsOn bytes.old.items bytes.new.items v.now from.at from.is_utf8 to.at to.is_utf8) }
-    ensures begins { take (length bytes.old.items) bytes.new.items ≡ bytes.old.items }
-    ensures room { HasRoomFrom bytes.old v.now from.at from.is_utf8 → IsOk result }
-    ensures capacity { vec_capacity bytes.old ≤ vec_capacity bytes.new }
-{
-    let (to, _) = append_front::<N, A>(bytes, v, from)?;
-    if to.at == from.at + N {
-        return Ok(to);
-    }
-    append_point(bytes, v, to, growth)
-}
-
 /// Appends ASCII by blocks of `TWO_BLOCKS` units, as long as a block is all ASCII and the next one begins with ASCII.
 /// Returns the index of the last block's first unit, and what `append_front` returns of that block. Without this loop each
 /// block is a step of `append_steps`, and long ASCII takes 1.2 of the instructions.
@@ -164,10 +140,34 @@ fn append_ascii_blocks<A: Allocator>(
     loop {
         let (to, non_ascii) = append_front::<TWO_BLOCKS, A>(bytes, v, read)?;
         let is_full = non_ascii == 0 && to.at != read.at;
-        if !is_full || v.len() - to.at < TWO_BLOCKS || 0x80 <= v[to.at] {
+        if !is_full || v.len() - to.at < 2 * TWO_BLOCKS || 0x80 <= v[to.at] {
             return Ok((read.at, to, non_ascii));
         }
         read = to;
+    }
+}
+
+/// Appends the units from index `from.at` on, if they are `TWO_BLOCKS` or more and fewer than twice that, all ASCII, and fit the
+/// spare capacity. Returns how far units are encoded. So ASCII ends with one step, whatever its length.
+#[inline(always)]
+fn append_ascii_end<A: Allocator>(bytes: &mut Vec<u8, A>, v: &[u16], from: Progress) -> Progress
+    requires within { from.at ≤ length v.now }
+    ensures order { (from.at ≤ result.at) × (result.at ≤ length v.now) }
+    ensures read { ReadsOn bytes.old.items bytes.new.items v.now from.at from.is_utf8 result.at result.is_utf8 }
+    ensures begins { take (length bytes.old.items) bytes.new.items ≡ bytes.old.items }
+    ensures capacity { vec_capacity bytes.old ≤ vec_capacity bytes.new }
+{
+    let units = &v[from.at..];
+    if units.len() < TWO_BLOCKS || 2 * TWO_BLOCKS <= units.len() {
+        return from;
+    }
+    if spare_capacity(bytes) < units.len() || !are_ends_ascii::<TWO_BLOCKS>(units) {
+        return from;
+    }
+    push_ends::<TWO_BLOCKS, A>(bytes, units);
+    Progress {
+        at: v.len(),
+        is_utf8: from.is_utf8,
     }
 }
 
@@ -195,7 +195,7 @@ fn append_next<A: Allocator>(
         let (at, front, non_ascii) = append_ascii_blocks(bytes, v, from)?;
         to = front;
         if to.at == at + TWO_BLOCKS {
-            return Ok(to);
+            return Ok(append_ascii_end(bytes, v, to));
         }
         let are_sparse = non_ascii != 0 && non_ascii.count_ones() <= MAX_SPARSE;
         if are_sparse && is_two_or_three_bytes(v[to.at]) && 2 * TWO_BLOCKS <= v.len() - at {
@@ -212,36 +212,6 @@ fn append_next<A: Allocator>(
         return append_point(bytes, v, from, growth);
     }
     kernel::append_blocks::<SCRATCH_BYTES, A>(bytes, v, to, growth)
-}
-
-/// Takes a step while `QUARTER_BLOCK` or more units are left. The last block may have fewer units than others.
-#[inline(always)]
-fn append_last<A: Allocator>(
-    bytes: &mut Vec<u8, A>,
-    v: &[u16],
-    from: Progress,
-    growth: Growth,
-) -> Result<Progress, AllocError>
-    requires within { from.at + QUARTER_BLOCK ≤ length v.now }
-    ensures order { IfOk result (λ to. (from.at < to.at) × (to.at ≤ length v.now)) }
-    ensures read { IfOk result (λ to. ReadsOn bytes.old.items bytes.new.items v.now from.at from.is_utf8 to.at to.is_utf8) }
-    ensures begins { take (length bytes.old.items) bytes.new.items ≡ bytes.old.items }
-    ensures room { HasRoomFrom bytes.old v.now from.at from.is_utf8 → IsOk result }
-    ensures capacity { vec_capacity bytes.old ≤ vec_capacity bytes.new }
-{
-    let left = v.len() - from.at;
-    let is_ascii = v[from.at] < 0x80;
-    if is_ascii && left < HALF_BLOCK {
-        return append_ascii_run::<QUARTER_BLOCK, A>(bytes, v, from, growth);
-    }
-    // One ASCII unit is no run: a block that takes it too costs no more than one without it.
-    if !is_ascii || 0x80 <= v[from.at + 1] {
-        return kernel::append_blocks::<SHORT_SCRATCH_BYTES, A>(bytes, v, from, growth);
-    }
-    if left < BLOCK_UNITS {
-        return append_ascii_run::<HALF_BLOCK, A>(bytes, v, from, growth);
-    }
-    append_ascii_run::<BLOCK_UNITS, A>(bytes, v, from, growth)
 }
 
 /// With these loops in `append_utf16` itself, 40 units whose ends join take 1.4% more instructions.
@@ -263,8 +233,11 @@ fn append_steps<A: Allocator>(
     while TWO_BLOCKS <= v.len() - read.at {
         read = append_next(bytes, v, read, growth)?;
     }
+    if v.len() < HALF_BLOCK {
+        return Ok(read);
+    }
     while QUARTER_BLOCK <= v.len() - read.at {
-        read = append_last(bytes, v, read, growth)?;
+        read = kernel::append_blocks::<SHORT_SCRATCH_BYTES, A>(bytes, v, read, growth)?;
     }
     Ok(read)
 }
@@ -311,6 +284,9 @@ pub(crate) fn append_utf16<A: Allocator>(
 {
     reserve_ascii(bytes, v, from.at)?;
     let read = append_steps(bytes, v, from, growth)?;
+    if read.at == v.len() {
+        return Ok(read.is_utf8);
+    }
     make_room(
         bytes,
         v,
@@ -335,7 +311,9 @@ pub(crate) fn encode<A: Allocator>(alloc: A, v: &[u16]) -> Result<(Vec<u8, A>, b
     if v.len() < TWO_BLOCKS {
         return on_stack::encode::<SHORT_BYTES, A>(alloc, v);
     }
-    if v.len() <= STACK_UNITS && (0x80 <= v[0] || 0x80 <= v[1]) {
+    if v.len() < 2 * TWO_BLOCKS
+        || v.len() <= STACK_UNITS && !are_ends_ascii::<TWO_BLOCKS>(&v[..2 * TWO_BLOCKS])
+    {
         return on_stack::encode::<STACK_BYTES, A>(alloc, v);
     }
     let room = if may_be_ascii(v) { v.len() } else { 0 };

@@ -171,9 +171,6 @@ Each1-take P zero u e = tt
 Each1-take P (suc k) [] e = tt
 Each1-take P (suc k) (x ∷ u) e = (e.0, Each1-take P k u e.1)
 
-pub and_assoc : (a b c : Bool) → ((a && b) && c) ≡ (a && (b && c))
-and_assoc a b c = grind (arith)
-
 -- sixteen units of which the last is no lead, or the fifteen before a lead, are encoded by appending their pieces
 pub packed_units-read : (w kept : List ℕ) {bytes f u : List ℕ} {at : ℕ} {known more : Bool} (k : ℕ) → IsReadTo (w ++ kept) f u at known
     → at + 16 ≤ length u → ((i : ℕ) → Fits w16 (get_or u i 0))

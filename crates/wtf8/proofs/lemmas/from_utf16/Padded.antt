@@ -1,10 +1,11 @@
 -- Units and zeros after them as the lanes of a block.
 use Rattle.wtf8.proofs.Common.{◌≡◌, ℕ, suc, ◌+◌, ◌-◌, ◌*◌, ◌/◌, ◌%◌, ◌<◌, ◌≤◌, List, [], ◌∷◌, ◌++◌, length, take, drop}
 use Rattle.wtf8.proofs.Common.{replicate, Each1, refl, sym, ap, ◌∙◌, arith, subst, Fits, w16, pick_l_whole, zero}
-use Rattle.wtf8.proofs.Common.{length-append, length-drop, length-replicate}
+use Rattle.wtf8.proofs.Common.{length-append, length-drop, length-replicate, append_assoc, take_all, take-append-drop}
+use Rattle.std.proofs.lemmas.List.{drop-drop, replicate-append-replicate}
 use Rattle.std.proofs.lemmas.Simd.{Each1-replicate}
 use lib.Lanes.{chunk, pick_l, digits_l, number_l}
-use Rattle.wtf8.proofs.lemmas.lanes.Padding.{of_below, of_length}
+use Rattle.wtf8.proofs.lemmas.lanes.Padding.{of_below}
 
 -- the bytes of units, the low one first
 abbrev le_bytes : List ℕ → List ℕ
@@ -60,41 +61,40 @@ without_first u n few long f =
     ∙ ap (λ w. digits_l 65536 8 (number_l 256 w)) (drops u n few) ∙ ap (λ k. digits_l 65536 k (number_l 256 (le_bytes v))) (sym m)
     ∙ from_le_bytes v (fits n n (eight u) g))
 
-abbrev Halves : List ℕ → Type 0
-Halves u = let n = 16 - length u in
-    pick_l 0 (chunk 0 8 u ++ (drop n (chunk (length u - 8) 8 u) ++ replicate n 0)) (0 ∷ 1 ∷ 2 ∷ 3 ∷ 4 ∷ 5 ∷ 6 ∷ 7 ∷ 8 ∷ 9 ∷ 10 ∷ 11 ∷ 12 ∷ 13 ∷ 14 ∷ 15 ∷ [])
-    ≡ u ++ replicate n 0
+-- the last eight units without the first `n` of them
+last_lanes : (v : List ℕ) (n at : ℕ) → 8 ≤ length v → length v + n ≡ at + 8 → drop n (chunk (length v - 8) 8 v) ≡ drop at v
+last_lanes v n at least same =
+    let from = length v - 8 in
+    ap (drop n) (take_all 8 (drop from v) (omega (arith, length-drop from v, least))) ∙ drop-drop n from v
+    ∙ ap (λ k. drop k v) (omega (arith, least, same))
 
-pub halves : (u : List ℕ) → 8 ≤ length u → length u < 16 → Halves u
-halves u least most =
-    let of = of_length Halves u in
-    of_below (λ k. length u ≡ 8 + k → Halves u) 8 (length u - 8) (
-      of 15 refl,
-      (
-        of 14 refl,
-        (
-          of 13 refl,
-          (
-            of 12 refl,
-            (
-              of 11 refl,
-              (
-                of 10 refl,
-                (of 9 refl, (of 8 refl, tt)),
-              ),
-            ),
-          ),
-        ),
-      ),
-    ) (omega (arith, most)) (omega (arith, least))
+abbrev sixteen : List ℕ → List ℕ
+sixteen u = pick_l 0 u (0 ∷ 1 ∷ 2 ∷ 3 ∷ 4 ∷ 5 ∷ 6 ∷ 7 ∷ 8 ∷ 9 ∷ 10 ∷ 11 ∷ 12 ∷ 13 ∷ 14 ∷ 15 ∷ [])
 
-abbrev Quarters : List ℕ → Type 0
-Quarters u = let n = 8 - length u in
-    pick_l 0 ((take 4 u ++ replicate 4 0) ++ (drop n (take 4 (take (length u - (length u - 4)) (drop (length u - 4) u)) ++ replicate 4 0) ++ replicate n 0))
-    (0 ∷ 1 ∷ 2 ∷ 3 ∷ 8 ∷ 9 ∷ 10 ∷ 11 ∷ 4 ∷ 5 ∷ 6 ∷ 7 ∷ 4 ∷ 5 ∷ 6 ∷ 7 ∷ []) ≡ u ++ replicate (16 - length u) 0
+-- lanes that are the units from index `at` on and zeros are so as a block
+as_block : (v lanes : List ℕ) (at : ℕ) → at ≤ length v → length v < at + 16 → lanes ≡ drop at v ++ replicate (16 - (length v - at)) 0
+    → sixteen lanes ≡ drop at v ++ replicate (16 - (length v - at)) 0
+as_block v lanes at within most all =
+    let n = 16 - (length v - at) in
+    pick_l_whole 0 lanes 16 (ap length all
+    ∙ omega (arith, within, most, length-append (drop at v) (replicate n 0), length-drop at v, length-replicate {A = ℕ} n 0)) ∙ all
 
-pub quarters : (u : List ℕ) → 4 ≤ length u → length u < 8 → Quarters u
-quarters u least most =
-    let of = of_length Quarters u in
-    of_below (λ k. length u ≡ 4 + k → Quarters u) 4 (length u - 4) (of 7 refl, (of 6 refl, (of 5 refl, (of 4 refl, tt)))) (omega (arith, most))
-    (omega (arith, least))
+pub few_left : (v : List ℕ) (at : ℕ) → 8 ≤ length v → at ≤ length v → length v - at < 8
+    → let n = 8 - (length v - at) in
+    sixteen ((drop n (chunk (length v - 8) 8 v) ++ replicate n 0) ++ replicate 8 0) ≡ drop at v ++ replicate (16 - (length v - at)) 0
+few_left v at least within few =
+    let n = 8 - (length v - at) in
+    as_block v _ at within (omega (arith, within, few)) (ap (λ u. (u ++ replicate n 0) ++ replicate 8 0)
+    (last_lanes v n at least (omega (arith, least, within, few))) ∙ append_assoc (drop at v) (replicate n 0) (replicate 8 0)
+    ∙ ap (λ u. drop at v ++ u) (replicate-append-replicate n 8 0 ∙ ap (λ k. replicate k 0) (omega (arith, within, few))))
+
+pub many_left : (v : List ℕ) (at : ℕ) → 8 ≤ length v → at ≤ length v → 8 ≤ length v - at → length v < at + 16
+    → let n = 16 - (length v - at) in
+    sixteen (chunk at 8 v ++ (drop n (chunk (length v - 8) 8 v) ++ replicate n 0)) ≡ drop at v ++ replicate n 0
+many_left v at least within many most =
+    let n = 16 - (length v - at) in
+    let after : drop n (chunk (length v - 8) 8 v) ≡ drop 8 (drop at v) =
+    last_lanes v n (at + 8) least (omega (arith, least, within, many, most)) ∙ sym (drop-drop 8 at v) in
+    as_block v _ at within most (ap (λ u. chunk at 8 v ++ (u ++ replicate n 0)) after
+    ∙ sym (append_assoc (take 8 (drop at v)) (drop 8 (drop at v)) (replicate n 0))
+    ∙ ap (λ u. u ++ replicate n 0) (take-append-drop 8 (drop at v)))

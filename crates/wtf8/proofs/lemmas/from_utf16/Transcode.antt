@@ -135,6 +135,11 @@ front_read {w} {long} {new} {f} {u} {low} {at} {known} k n end x few within satu
         (divides j few own) (after (suc j) ascii cut)
         (subst (λ v. IsKnownForm (take (suc j) block) v true) same (IsKnownForm-ascii (take (suc j) block) own)))
 
+-- what is read on after bytes and no others is read on after these bytes
+pub ReadsOn-nil : (w : List ℕ) {new u : List ℕ} {from to : ℕ} {was is : Bool} → ReadsOn (w ++ []) new u from was to is
+    → ReadsOn w new u from was to is
+ReadsOn-nil w {new} {u} {from} {to} {was} on front read = on front (subst (λ z. IsReadTo z front u from was) (sym (append-nil w)) read)
+
 -- Steps, one after the other.
 
 -- what loops over steps keep: units are encoded from `from` on as far as `to`, and the capacity is no smaller
