@@ -64,7 +64,14 @@ impl<A: Allocator> IndexedBuf<A> {
         let to = marked.mark_after(from, end);
         self.text.replace_units_at(from, begin, to, end, units)?;
         let count = units.len();
-        marks::count_replaced(&self.text, &mut self.count, &mut self.marks, begin, end, count);
+        marks::count_replaced(
+            &self.text,
+            &mut self.count,
+            &mut self.marks,
+            begin,
+            end,
+            count,
+        );
         Ok(())
     }
 
@@ -114,7 +121,14 @@ impl<A: Allocator> IndexedBuf<A> {
         let from = marked.mark_at(begin);
         let to = marked.mark_after(from, end);
         self.text.replace_at(from, begin, to, end, text)?;
-        marks::count_replaced(&self.text, &mut self.count, &mut self.marks, begin, end, count);
+        marks::count_replaced(
+            &self.text,
+            &mut self.count,
+            &mut self.marks,
+            begin,
+            end,
+            count,
+        );
         Ok(())
     }
 }
