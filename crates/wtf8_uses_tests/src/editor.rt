@@ -208,19 +208,26 @@ fn is_kept(heap: Lent<'_>, editor: &mut Editor<Lent<'_>>, grants: u64) -> bool {
     is_refused && is_undone && is_redone && heap.requests() == 0
 }
 
+/// Fails unless both requests of an insertion are granted.
+fn expect_granted(heap: Lent<'_>, editor: &mut Editor<Lent<'_>>) -> Result<(), Failed> {
+    heap.grant(2);
+    let is_inserted = editor.insert(&SIXTEEN).is_ok() && editor.cursor() == 17;
+    expect(is_inserted, Wrong::Requests)
+}
+
 /// Fails unless the new units and the longer text are refused, and then granted.
 fn expect_kept(heap: Lent<'_>) -> Result<(), Failed> {
     let Ok(mut editor) = Editor::from_units(heap, &[0x63]) else {
         return Err(Failed::by(Wrong::Memory));
     };
-    expect(editor.insert(&[0x61]).is_ok(), Wrong::Memory)?;
+    if editor.insert(&[0x61]).is_err() {
+        return Err(Failed::by(Wrong::Memory));
+    }
     let is_kept = is_kept(heap, &mut editor, 0) && is_kept(heap, &mut editor, 1);
-    expect(is_kept, Wrong::Outcome)?;
-    heap.grant(2);
-    expect(
-        editor.insert(&SIXTEEN).is_ok() && editor.cursor() == 17,
-        Wrong::Requests,
-    )
+    if !is_kept {
+        return Err(Failed::by(Wrong::Outcome));
+    }
+    expect_granted(heap, &mut editor)
 }
 
 #[test]

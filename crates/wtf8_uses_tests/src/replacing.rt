@@ -1,8 +1,8 @@
 // All occurrences replaced. Expected values are what `replaceAll` of Node.js 18 returned.
 use crate::shared::has_units;
-use std::alloc::Global;
+use std::alloc::{AllocError, Global};
 use unit_text::UnitText;
-use wtf8_tests::wrong::{Failed, Wrong, in_row, made};
+use wtf8_tests::wrong::{Failed, Wrong, expect, in_row};
 use wtf8_uses::string_prototype::replace_all;
 
 /// A text, what is looked for, what takes its place, and the text that results, all in code units.
@@ -70,21 +70,34 @@ static REPLACEMENTS: [Replacement; 9] = [
     },
 ];
 
-/// The text of these units.
-fn text_of(alloc: Global, units: &[u16]) -> Result<UnitText<Global>, Failed> {
-    made(UnitText::from_units(alloc, units))
+/// Fails unless a text was made, and has these units.
+fn expect_whole(made: Result<UnitText<Global>, AllocError>, units: &[u16]) -> Result<(), Failed> {
+    match made {
+        Ok(whole) => expect(has_units(whole.as_wtf8(), units), Wrong::Units),
+        Err(_) => Err(Failed::by(Wrong::Memory)),
+    }
+}
+
+/// Fails unless `replace_all` returns the units of the row, whose text `text` is.
+fn expect_replaced_in(
+    alloc: Global,
+    text: &UnitText<Global>,
+    row: &Replacement,
+) -> Result<(), Failed> {
+    let Ok(search) = UnitText::from_units(alloc, row.search) else {
+        return Err(Failed::by(Wrong::Memory));
+    };
+    let Ok(other) = UnitText::from_units(alloc, row.other) else {
+        return Err(Failed::by(Wrong::Memory));
+    };
+    expect_whole(replace_all(alloc, text, &search, &other), row.whole)
 }
 
 /// Fails unless `replace_all` returns the units of the row.
 fn expect_replaced(alloc: Global, row: &Replacement) -> Result<(), Failed> {
-    let text = text_of(alloc, row.text)?;
-    let search = text_of(alloc, row.search)?;
-    let other = text_of(alloc, row.other)?;
-    let whole = made(replace_all(alloc, &text, &search, &other))?;
-    if has_units(whole.as_wtf8(), row.whole) {
-        Ok(())
-    } else {
-        Err(Failed::by(Wrong::Units))
+    match UnitText::from_units(alloc, row.text) {
+        Ok(text) => expect_replaced_in(alloc, &text, row),
+        Err(_) => Err(Failed::by(Wrong::Memory)),
     }
 }
 
