@@ -6,7 +6,7 @@ ghost use Rattle.wtf8.specs.private.Prefixes.{ReadsOn};
 
 use crate::from_utf16::kernel::{self, MIN_SPARE};
 use crate::from_utf16::transcode::MAX_POINT_BYTES;
-use crate::from_utf16::{HALF_BLOCK, Progress, QUARTER_BLOCK, TWO_BLOCKS, on_stack};
+use crate::from_utf16::{Progress, QUARTER_BLOCK, TWO_BLOCKS, on_stack};
 use crate::lanes::ascii::{ascii_run_len, narrow_saturating};
 use std::simd::prelude::*;
 
@@ -65,7 +65,7 @@ fn write_next(v: &[u16], from: Progress, out: &mut [u8], len: usize) -> (usize, 
     ensures read { (w : List ℕ) → ReadsOn (w ++ take len out.old) (w ++ take result.0 out.new) v.now from.at from.is_utf8 result.1.at result.1.is_utf8 }
 {
     let left = v.len() - from.at;
-    if v.len() < HALF_BLOCK || left < QUARTER_BLOCK || out.len() - len < MIN_SPARE {
+    if left < QUARTER_BLOCK || out.len() - len < MIN_SPARE {
         return on_stack::write_point(v, from, out, len);
     }
     if TWO_BLOCKS <= left && v[from.at] < 0x80 {

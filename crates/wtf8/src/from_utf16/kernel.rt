@@ -52,6 +52,9 @@ const LANES_AFTER: [usize; 16] = [1, 2, 3, 4, 5, 6, 7, 8, 9, 10, 11, 12, 13, 14,
 /// Lanes 0 to 7 of two vectors, the second ones after the first ones.
 const BOTH_HALVES: [usize; 16] = [0, 1, 2, 3, 4, 5, 6, 7, 8, 9, 10, 11, 12, 13, 14, 15];
 
+/// Lanes 0 to 3 of two vectors, then lanes 4 to 7 of the first, twice.
+const BOTH_QUARTERS: [usize; 16] = [0, 1, 2, 3, 8, 9, 10, 11, 4, 5, 6, 7, 4, 5, 6, 7];
+
 /// Heads and lasts of a block's units, and whether none of these is a lone surrogate.
 #[derive(Clone, Copy)]
 struct UnitBytes {
@@ -260,15 +263,38 @@ fn without_first(units: u16x8, count: usize) -> u16x8
     u16x8::from_le_bytes(padding::without_first(units.to_le_bytes(), 2 * count))
 }
 
+/// The first `QUARTER_BLOCK` units, then zeros.
+#[inline(always)]
+fn first_quarter(units: &[u16]) -> u16x8
+    requires { QUARTER_BLOCK ≤ length units.now }
+    ensures { result ≡ take 4 units.now ++ replicate 4 0 }
+{
+    u16x4::from_slice(units).shuffle(u16x4::splat(0), [0, 1, 2, 3, 4, 5, 6, 7])
+}
+
+/// The units, fewer than `HALF_BLOCK`, then zeros: by loads of the first and the last `QUARTER_BLOCK`, which may overlap.
+#[inline(always)]
+fn padded_few(units: &[u16]) -> u16x16
+    requires least { QUARTER_BLOCK ≤ length units.now }
+    requires few { length units.now < HALF_BLOCK }
+    ensures { result ≡ units.now ++ replicate (16 - length units.now) 0 }
+{
+    let last = first_quarter(&units[units.len() - QUARTER_BLOCK..]);
+    let rest = without_first(last, HALF_BLOCK - units.len());
+    first_quarter(units).shuffle(rest, BOTH_QUARTERS)
+}
+
 /// The units from index `at` on, then zeros: by a load of the last `HALF_BLOCK` units of the list, and one from index `at` on
 /// if they are no fewer. Stored to the stack and loaded from there, the block would wait for the stores, some 20 ns.
 #[inline(always)]
 fn padded(v: &[u16], at: usize) -> u16x16
-    requires least { HALF_BLOCK ≤ length v.now }
-    requires within { at ≤ length v.now }
+    requires least { at + QUARTER_BLOCK ≤ length v.now }
     requires most { length v.now < at + BLOCK_UNITS }
     ensures { result ≡ drop at v.now ++ replicate (16 - (length v.now - at)) 0 }
 {
+    if v.len() < HALF_BLOCK {
+        return padded_few(&v[at..]);
+    }
     let left = v.len() - at;
     let last = u16x8::from_slice(&v[v.len() - HALF_BLOCK..]);
     if left < HALF_BLOCK {
@@ -283,8 +309,7 @@ fn padded(v: &[u16], at: usize) -> u16x16
 /// surrogate.
 #[inline(always)]
 fn write_last_block(v: &[u16], at: usize, scratch: &mut [u8], len: usize) -> (usize, bool)
-    requires least { HALF_BLOCK ≤ length v.now }
-    requires within { at < length v.now }
+    requires least { at + QUARTER_BLOCK ≤ length v.now }
     requires most { length v.now < at + BLOCK_UNITS }
     requires room { len + MIN_SPARE ≤ length scratch.old }
     ensures within { result.0 ≤ len + MAX_BLOCK_BYTES }
@@ -307,7 +332,6 @@ pub(crate) fn write_blocks(
     out: &mut [u8],
     len: usize,
 ) -> (usize, Progress)
-    requires least { HALF_BLOCK ≤ length v.now }
     requires units { from.at + QUARTER_BLOCK ≤ length v.now }
     requires room { len + MIN_SPARE ≤ length out.old }
     ensures order { from.at < result.1.at }
@@ -349,7 +373,6 @@ pub(crate) fn append_blocks<const SCRATCH: usize, A: Allocator>(
     growth: Growth,
 ) -> Result<Progress, AllocError>
     requires room { (MIN_SPARE ≤ SCRATCH) × (SCRATCH < 2 ^ 16) }
-    requires least { HALF_BLOCK ≤ length v.now }
     requires within { from.at + QUARTER_BLOCK ≤ length v.now }
     ensures order { IfOk result (λ to. (from.at < to.at) × (to.at ≤ length v.now)) }
     ensures read { IfOk result (λ to. ReadsOn bytes.old.items bytes.new.items v.now from.at from.is_utf8 to.at to.is_utf8) }

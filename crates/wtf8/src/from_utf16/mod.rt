@@ -5,11 +5,10 @@
 //     to 63, to 128 if 64 are not ASCII   `on_stack`, only of a new string: as blocks
 //     32 to 63, all ASCII                 two blocks, which may overlap
 //     32 or more, the first one ASCII     the ASCII run; then `sparse` if few are not ASCII, one code point, or blocks
-//     4 or more, of a list of 8 or more   `kernel`: blocks, of which the last may have fewer units than the others
-//     others                              `decode`, the plain form of the conversion: one code point at a time
+//     4 or more, others                   `kernel`: blocks, of which the last may have fewer units than the others
+//     at most 3                           `decode`, the plain form of the conversion: one code point at a time
 //
-// In a slice, `front` takes the ASCII run and one code point if 32 or more are left, the first one ASCII, and else blocks; one
-// code point at a time of a list of fewer than 8.
+// In a slice, `front` takes the ASCII run and one code point if 32 or more are left, the first one ASCII, and else blocks.
 pub(crate) mod decode;
 pub(crate) mod encoded_len;
 pub(crate) mod front;
@@ -26,7 +25,6 @@ pub(crate) const BLOCK_UNITS: usize = 16;
 
 pub(crate) const TWO_BLOCKS: usize = 2 * BLOCK_UNITS;
 
-/// Also the least number of units of a list that is encoded as blocks.
 pub(crate) const HALF_BLOCK: usize = BLOCK_UNITS / 2;
 
 /// Also the least number of the last units that are encoded as a block. With 1 in its place, 17 units that are not ASCII take 1.2

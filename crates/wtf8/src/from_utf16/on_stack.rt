@@ -7,7 +7,7 @@ ghost use Rattle.wtf8.specs.private.Prefixes.{HasRoomFrom, IsKnownForm, IsReadTo
 use crate::codec::code_point::{CodePoint, FIRST_LEAD};
 use crate::codec::encoding::{four_bytes, three_bytes, two_bytes};
 use crate::from_utf16::kernel::{self, MIN_SPARE};
-use crate::from_utf16::{HALF_BLOCK, Progress, QUARTER_BLOCK, decode};
+use crate::from_utf16::{Progress, QUARTER_BLOCK, decode};
 use crate::vec::to_vec_in;
 use std::alloc::{AllocError, Allocator};
 
@@ -141,7 +141,6 @@ fn write_one_by_one(v: &[u16], is_utf8: bool, out: &mut [u8]) -> (usize, bool)
 /// lists save no registers for it.
 #[inline(never)]
 fn write_blocks(v: &[u16], out: &mut [u8]) -> (usize, bool)
-    requires units { HALF_BLOCK ≤ length v.now }
     requires room { 3 * length v.now + MIN_SPARE ≤ length out.old }
     ensures within { result.0 ≤ length out.new }
     ensures read { (w : List ℕ) → ReadsOn w (w ++ take result.0 out.new) v.now 0 true (length v.now) result.1 }

@@ -1,5 +1,5 @@
 // Encodes code units in steps, by what the next units are: an ASCII run and the code point after it, blocks of `kernel`,
-// or one code point. `decode_utf16` decodes the last ones, fewer than `QUARTER_BLOCK`, and lists of fewer than `HALF_BLOCK`.
+// or one code point. `decode_utf16` decodes the last ones, fewer than `QUARTER_BLOCK`.
 ghost use Rattle.std.specs.Prelude.{◌≡◌, ℕ, List, [], ◌++◌, ◌+◌, ◌<◌, ◌≤◌, ◌⊎◌, length, take, drop, vec_capacity, IfOk, IsOk};
 ghost use Rattle.wtf8.specs.private.Prefixes.{IsKnownForm, IsReadTo, ReadsOn, HasRoomFrom};
 ghost use Rattle.wtf8.specs.private.Search.{IsNonAsciiMask};
@@ -10,7 +10,7 @@ use crate::from_utf16::kernel::{self, MIN_SPARE};
 use crate::from_utf16::room::{Growth, make_room, may_be_ascii, reserve_ascii};
 use crate::from_utf16::short_ascii::{self, are_ends_ascii, is_short_ascii, push_ends};
 use crate::from_utf16::sparse::{SPARSE_SPARE, append_sparse, is_two_or_three_bytes};
-use crate::from_utf16::{HALF_BLOCK, Progress, QUARTER_BLOCK, TWO_BLOCKS, decode, on_stack};
+use crate::from_utf16::{Progress, QUARTER_BLOCK, TWO_BLOCKS, decode, on_stack};
 use crate::lanes::ascii::{first_not_ascii, narrow_saturating};
 use crate::vec::spare_capacity;
 use std::alloc::{AllocError, Allocator};
@@ -232,9 +232,6 @@ fn append_steps<A: Allocator>(
     let mut read = from;
     while TWO_BLOCKS <= v.len() - read.at {
         read = append_next(bytes, v, read, growth)?;
-    }
-    if v.len() < HALF_BLOCK {
-        return Ok(read);
     }
     while QUARTER_BLOCK <= v.len() - read.at {
         read = kernel::append_blocks::<SHORT_SCRATCH_BYTES, A>(bytes, v, read, growth)?;

@@ -5,7 +5,7 @@ use Rattle.wtf8.proofs.Common.{length-append, length-drop, length-replicate, app
 use Rattle.std.proofs.lemmas.List.{drop-drop, replicate-append-replicate}
 use Rattle.std.proofs.lemmas.Simd.{Each1-replicate}
 use lib.Lanes.{chunk, pick_l, digits_l, number_l}
-use Rattle.wtf8.proofs.lemmas.lanes.Padding.{of_below}
+use Rattle.wtf8.proofs.lemmas.lanes.Padding.{of_below, of_length}
 
 -- the bytes of units, the low one first
 abbrev le_bytes : List ℕ → List ℕ
@@ -98,3 +98,14 @@ many_left v at least within many most =
     as_block v _ at within most (ap (λ u. chunk at 8 v ++ (u ++ replicate n 0)) after
     ∙ sym (append_assoc (take 8 (drop at v)) (drop 8 (drop at v)) (replicate n 0))
     ∙ ap (λ u. u ++ replicate n 0) (take-append-drop 8 (drop at v)))
+
+abbrev Quarters : List ℕ → Type 0
+Quarters u = let n = 8 - length u in
+    pick_l 0 ((take 4 u ++ replicate 4 0) ++ (drop n (take 4 (take (length u - (length u - 4)) (drop (length u - 4) u)) ++ replicate 4 0) ++ replicate n 0))
+    (0 ∷ 1 ∷ 2 ∷ 3 ∷ 8 ∷ 9 ∷ 10 ∷ 11 ∷ 4 ∷ 5 ∷ 6 ∷ 7 ∷ 4 ∷ 5 ∷ 6 ∷ 7 ∷ []) ≡ u ++ replicate (16 - length u) 0
+
+pub quarters : (u : List ℕ) → 4 ≤ length u → length u < 8 → Quarters u
+quarters u least most =
+    let of = of_length Quarters u in
+    of_below (λ k. length u ≡ 4 + k → Quarters u) 4 (length u - 4) (of 7 refl, (of 6 refl, (of 5 refl, (of 4 refl, tt)))) (omega (arith, most))
+    (omega (arith, least))
