@@ -1030,13 +1030,13 @@ function replacedAboutMarksScript(units) {
 const replacedAboutMarksScripts = (kinds) => kinds.map((kind) => replacedAboutMarksScript(textOfKind(kind, 250)));
 const replacedScripts = () => [...listsOf(NINE, 3).map(replacedScript), ...replacedAboutMarksScripts(KINDS)];
 
-// At most 255 random units that are put in place of others, half of the time so that they join those before and after.
+// At most 255 random units that are put in place of others, half of the time so that they form pairs with the units before and after.
 function randomPut(below) {
   const units = randomUnits(below).slice(0, 255);
   return units.length < 2 || below(2) === 0 ? units : joining(units);
 }
 
-// Random calls that replace units of the indexed string by units, by a string or by itself, or that read it.
+// Random calls that replace units of the indexed string by units, by a string or by the indexed string, or that read it.
 function randomIndexedCalls({ indexed }, below) {
   const { length } = indexed;
   const begin = below(length + 1);
