@@ -1,6 +1,7 @@
 pub mod comparing
 pub mod lanes
 pub mod laws
+pub mod buffers
 pub mod codec
 pub mod strings
 pub mod formatting

@@ -3,7 +3,6 @@ pub mod CountedParts
 pub mod FullBlocks
 pub mod PackedWords
 pub mod UnitCuts
-pub mod UnitEdits
 pub mod UnitEnds
 pub mod UnitLanes
 pub mod UnitMarks

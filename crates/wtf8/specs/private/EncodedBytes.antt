@@ -72,6 +72,12 @@ map_run n f (suc k) w = f w ∷ map_run n f k (drop n w)
 abbrev pub BeginsWithUnits : List ℕ → List ℕ → ℕ → Type 0
 BeginsWithUnits w v at = (h : IsWellFormed w) → (rest : IsWellFormed (drop at w)) × (units h.points ≡ v ++ units rest.points)
 
+-- `v` begins with the units of the first code points of `w`, if it is well-formed: `c` units for each of `n` bytes, up to
+-- `most` bytes.
+abbrev pub BeginsWithPoints : List ℕ → List ℕ → ℕ → ℕ → ℕ → Type 0
+BeginsWithPoints w v most n c =
+    (k : ℕ) → n * k ≤ most → (length (take (c * k) v) ≡ c * k) × BeginsWithUnits w (take (c * k) v) (n * k)
+
 -- `left` less `rest` was written at `at..end`: `new` before `end`, then `rest`, is `old` before `at`, then `left`. What
 -- is at index `end + 32` and later is as before.
 pub record Writes (old : List ℕ) (at : ℕ) (left new : List ℕ) (end : ℕ) (rest : List ℕ) : Type 0 where

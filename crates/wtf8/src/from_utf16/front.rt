@@ -1,14 +1,12 @@
 // Encodes code units at the front of a list into a slice, without memory.
-ghost use Rattle.std.specs.Prelude.{◌≡◌, ◌⊎◌, ℕ, List, ◌++◌, ◌+◌, ◌<◌, ◌≤◌, length, take, drop};
+ghost use Rattle.std.specs.Prelude.{◌≡◌, ◌⊎◌, ℕ, List, [], ◌++◌, ◌+◌, ◌<◌, ◌≤◌, length, take, drop};
 ghost use Rattle.wtf8.specs.Form.{IsForm};
 ghost use Rattle.wtf8.specs.UnitPosition.{DividesPair};
-ghost use Rattle.wtf8.specs.private.Prefixes.{ReadsOn};
+ghost use Rattle.wtf8.specs.private.Prefixes.{IsReadTo};
 
 use crate::from_utf16::kernel::{self, MIN_SPARE};
 use crate::from_utf16::transcode::MAX_POINT_BYTES;
-use crate::from_utf16::{Progress, QUARTER_BLOCK, TWO_BLOCKS, on_stack};
-use crate::lanes::ascii::{ascii_run_len, narrow_saturating};
-use std::simd::prelude::*;
+use crate::from_utf16::{Progress, QUARTER_BLOCK, on_stack};
 
 /// How many code units at the front of a list were encoded, and how many bytes they took.
 #[derive(Clone, Copy)]
@@ -19,59 +17,34 @@ pub struct EncodedFront {
     pub bytes: usize,
 }
 
-/// Writes the ASCII run in the next `TWO_BLOCKS` units at index `len`. Returns the index after it and how far units are
-/// encoded.
-#[inline(always)]
-fn write_ascii(v: &[u16], from: Progress, out: &mut [u8], len: usize) -> (usize, Progress)
-    requires within { from.at + TWO_BLOCKS ≤ length v.now }
-    requires room { len + TWO_BLOCKS ≤ length out.old }
-    ensures order { (from.at ≤ result.1.at) × (result.1.at ≤ from.at + TWO_BLOCKS) }
-    ensures end { result.0 + from.at ≡ len + result.1.at }
-    ensures read { (w : List ℕ) → ReadsOn (w ++ take len out.old) (w ++ take result.0 out.new) v.now from.at from.is_utf8 result.1.at result.1.is_utf8 }
+/// `encode_front`, which also tells whether no unit is a lone surrogate. Returns the number of bytes, and how far units are
+/// encoded. Not inlined, so that short lists save no registers for it.
+#[inline(never)]
+pub(crate) fn write_front(v: &[u16], out: &mut [u8]) -> (usize, Progress)
+    requires { 4 ≤ length out.old }
+    ensures within { result.0 ≤ length out.new }
+    ensures read { IsReadTo (take result.0 out.new) [] v.now result.1.at result.1.is_utf8 }
+    ensures some { 0 < length v.now → 0 < result.1.at }
+    ensures stops { (result.1.at ≡ length v.now) ⊎ (length out.new < result.0 + 52) }
+    ensures len { length out.new ≡ length out.old }
 {
-    let block = narrow_saturating(Simd::<u16, TWO_BLOCKS>::from_slice(&v[from.at..]));
-    block.copy_to_slice(&mut out[len..]);
-    let count = ascii_run_len(block);
-    let to = Progress {
-        at: from.at + count,
-        is_utf8: from.is_utf8,
+    let least = if out.len() < MIN_SPARE {
+        MAX_POINT_BYTES
+    } else {
+        MIN_SPARE
     };
-    (len + count, to)
-}
-
-/// Writes the ASCII run in the next `TWO_BLOCKS` units and the code point after it, if the run ends among them.
-#[inline(always)]
-fn write_run(v: &[u16], from: Progress, out: &mut [u8], len: usize) -> (usize, Progress)
-    requires within { from.at + TWO_BLOCKS ≤ length v.now }
-    requires room { len + MIN_SPARE ≤ length out.old }
-    ensures order { (from.at < result.1.at) × (result.1.at ≤ length v.now) }
-    ensures end { result.0 ≤ length out.new }
-    ensures read { (w : List ℕ) → ReadsOn (w ++ take len out.old) (w ++ take result.0 out.new) v.now from.at from.is_utf8 result.1.at result.1.is_utf8 }
-{
-    let (end, to) = write_ascii(v, from, out, len);
-    if to.at == from.at + TWO_BLOCKS {
-        return (end, to);
+    let mut bytes = 0;
+    let mut read = Progress {
+        at: 0,
+        is_utf8: true,
+    };
+    while QUARTER_BLOCK <= v.len() - read.at && MIN_SPARE <= out.len() - bytes {
+        (bytes, read) = kernel::write_blocks(v, read, out, bytes);
     }
-    on_stack::write_point(v, to, out, end)
-}
-
-/// Encodes the next units at index `len`. Returns the index after their bytes and how far units are encoded.
-#[inline(always)]
-fn write_next(v: &[u16], from: Progress, out: &mut [u8], len: usize) -> (usize, Progress)
-    requires within { from.at < length v.now }
-    requires room { len + 4 ≤ length out.old }
-    ensures order { (from.at < result.1.at) × (result.1.at ≤ length v.now) }
-    ensures end { result.0 ≤ length out.new }
-    ensures read { (w : List ℕ) → ReadsOn (w ++ take len out.old) (w ++ take result.0 out.new) v.now from.at from.is_utf8 result.1.at result.1.is_utf8 }
-{
-    let left = v.len() - from.at;
-    if left < QUARTER_BLOCK || out.len() - len < MIN_SPARE {
-        return on_stack::write_point(v, from, out, len);
+    while read.at < v.len() && least <= out.len() - bytes {
+        (bytes, read) = on_stack::write_point(v, read, out, bytes);
     }
-    if TWO_BLOCKS <= left && v[from.at] < 0x80 {
-        return write_run(v, from, out, len);
-    }
-    kernel::write_blocks(v, from, out, len)
+    (bytes, read)
 }
 
 /// Encodes code units from the front of a list on, paired or not, to the front of `out`, which must have room for four
@@ -92,19 +65,7 @@ pub fn encode_front(units: &[u16], out: &mut [u8]) -> EncodedFront
     ensures stops { (result.units ≡ length units.now) ⊎ (length out.new < result.bytes + 52) }
     ensures len { length out.new ≡ length out.old }
 {
-    let least = if out.len() < MIN_SPARE {
-        MAX_POINT_BYTES
-    } else {
-        MIN_SPARE
-    };
-    let mut bytes = 0;
-    let mut read = Progress {
-        at: 0,
-        is_utf8: true,
-    };
-    while read.at < units.len() && least <= out.len() - bytes {
-        (bytes, read) = write_next(units, read, out, bytes);
-    }
+    let (bytes, read) = write_front(units, out);
     EncodedFront {
         units: read.at,
         bytes,

@@ -1,13 +1,13 @@
 // Encodes short lists of code units on the stack, so that the number of their bytes is known before memory is requested.
-ghost use Rattle.std.specs.Prelude.{◌≡◌, ℕ, List, [], true, ◌++◌, ◌+◌, ◌-◌, ◌*◌, ◌^◌, ◌<◌, ◌≤◌, length, take, slice_index, vec_capacity, IfOk, IsOk, OnErr};
+ghost use Rattle.std.specs.Prelude.{◌≡◌, ℕ, List, [], true, ◌++◌, ◌+◌, ◌-◌, ◌*◌, ◌^◌, ◌<◌, ◌≤◌, length, take, vec_capacity, IfOk, IsOk, OnErr};
 ghost use Rattle.wtf8.specs.CodePoint.{number};
 ghost use Rattle.wtf8.specs.Form.{encoding};
 ghost use Rattle.wtf8.specs.private.Prefixes.{HasRoomFrom, IsKnownForm, IsReadTo, ReadsOn};
 
 use crate::codec::code_point::{CodePoint, FIRST_LEAD};
 use crate::codec::encoding::{four_bytes, three_bytes, two_bytes};
-use crate::from_utf16::kernel::{self, MIN_SPARE};
-use crate::from_utf16::{Progress, QUARTER_BLOCK, decode};
+use crate::from_utf16::kernel::MIN_SPARE;
+use crate::from_utf16::{Progress, decode, front};
 use crate::vec::to_vec_in;
 use std::alloc::{AllocError, Allocator};
 
@@ -56,25 +56,6 @@ fn write_encoding(out: &mut [u8], at: usize, code_point: CodePoint) -> usize
     }
 }
 
-/// `write_point` of a unit below the surrogates.
-#[inline(always)]
-fn write_unit(v: &[u16], from: Progress, out: &mut [u8], len: usize) -> (usize, Progress)
-    requires within { from.at < length v.now }
-    requires low { slice_index v.now from.at < FIRST_LEAD }
-    requires room { len + 4 ≤ length out.old }
-    ensures order { (from.at < result.1.at) × (result.1.at ≤ length v.now) }
-    ensures end { result.0 ≤ len + 3 * (result.1.at - from.at) }
-    ensures most { result.0 ≤ len + 4 }
-    ensures read { (w : List ℕ) → ReadsOn (w ++ take len out.old) (w ++ take result.0 out.new) v.now from.at from.is_utf8 result.1.at result.1.is_utf8 }
-{
-    let end = write_encoding(out, len, CodePoint::from_unit(v[from.at]));
-    let to = Progress {
-        at: from.at + 1,
-        is_utf8: from.is_utf8,
-    };
-    (end, to)
-}
-
 /// Encodes the code point at `from.at` at index `len`. Returns the index after its bytes and how far units are encoded.
 #[inline(always)]
 pub(crate) fn write_point(
@@ -90,14 +71,11 @@ pub(crate) fn write_point(
     ensures most { result.0 ≤ len + 4 }
     ensures read { (w : List ℕ) → ReadsOn (w ++ take len out.old) (w ++ take result.0 out.new) v.now from.at from.is_utf8 result.1.at result.1.is_utf8 }
 {
-    let unit = v[from.at];
-    // Each branch has its own call, in which the compiler knows the encoded length: with one call for both a unit of
-    // two or three bytes takes two instructions more.
-    if unit < 0x800 {
-        return write_unit(v, from, out, len);
-    }
-    if unit < FIRST_LEAD {
-        return write_unit(v, from, out, len);
+    if v[from.at] < FIRST_LEAD {
+        // By a call of its own, in which the compiler knows more of the encoded length: 8 units of three bytes take 1.1 without.
+        let end = write_encoding(out, len, CodePoint::from_unit(v[from.at]));
+        let (at, is_utf8) = (from.at + 1, from.is_utf8);
+        return (end, Progress { at, is_utf8 });
     }
     let (code_point, at, is_scalar) = decode::read_point(v, from.at);
     let end = write_encoding(out, len, code_point);
@@ -105,26 +83,8 @@ pub(crate) fn write_point(
     (end, Progress { at, is_utf8 })
 }
 
-/// Encodes the units from index `from.at` on, one code point at a time, at index `start`. Returns the index after their
-/// bytes, and whether `from.is_utf8` and none of them is a lone surrogate.
-#[inline(always)]
-fn write_points(v: &[u16], from: Progress, out: &mut [u8], start: usize) -> (usize, bool)
-    requires within { from.at ≤ length v.now }
-    requires start { start ≤ 3 * from.at }
-    requires room { 3 * length v.now + 4 ≤ length out.old }
-    ensures most { result.0 ≤ 3 * length v.now }
-    ensures read { (w : List ℕ) → ReadsOn (w ++ take start out.old) (w ++ take result.0 out.new) v.now from.at from.is_utf8 (length v.now) result.1 }
-{
-    let mut len = start;
-    let mut read = from;
-    while read.at < v.len() {
-        (len, read) = write_point(v, read, out, len);
-    }
-    (len, read.is_utf8)
-}
-
-/// Encodes units at the front of `out`. Returns the number of their bytes, and whether `is_utf8` and none of them is a
-/// lone surrogate.
+/// Encodes units at the front of `out`, one code point at a time. Returns the number of their bytes, and whether `is_utf8`
+/// and none of them is a lone surrogate.
 #[inline(always)]
 fn write_one_by_one(v: &[u16], is_utf8: bool, out: &mut [u8]) -> (usize, bool)
     requires few { length v.now ≤ MAX_ONE_BY_ONE }
@@ -132,42 +92,27 @@ fn write_one_by_one(v: &[u16], is_utf8: bool, out: &mut [u8]) -> (usize, bool)
     ensures within { result.0 ≤ length out.new }
     ensures read { (w : List ℕ) → ReadsOn w (w ++ take result.0 out.new) v.now 0 is_utf8 (length v.now) result.1 }
 {
-    write_points(v, Progress { at: 0, is_utf8 }, out, 0)
-}
-
-/// Encodes units at the front of `out` as blocks, and one code point at a time those that these leave, fewer than
-/// `QUARTER_BLOCK`. Returns the number of their bytes, and whether none of them is a lone surrogate. Each block that ends
-/// with a lead leaves it to the next one, so that more blocks may follow than were counted. Not inlined, so that shorter
-/// lists save no registers for it.
-#[inline(never)]
-fn write_blocks(v: &[u16], out: &mut [u8]) -> (usize, bool)
-    requires room { 3 * length v.now + MIN_SPARE ≤ length out.old }
-    ensures within { result.0 ≤ length out.new }
-    ensures read { (w : List ℕ) → ReadsOn w (w ++ take result.0 out.new) v.now 0 true (length v.now) result.1 }
-{
     let mut len = 0;
-    let mut read = Progress {
-        at: 0,
-        is_utf8: true,
-    };
-    while QUARTER_BLOCK <= v.len() - read.at {
-        (len, read) = kernel::write_blocks(v, read, out, len);
+    let mut read = Progress { at: 0, is_utf8 };
+    while read.at < v.len() {
+        (len, read) = write_point(v, read, out, len);
     }
-    write_points(v, read, out, len)
+    (len, read.is_utf8)
 }
 
-/// Encodes units at the front of `out` in the way that is shorter. Returns as `write_blocks` does.
+/// Encodes units at the front of `out` in the way that is shorter. Returns the number of their bytes, and whether none of
+/// them is a lone surrogate.
 #[inline(always)]
 fn write_all(v: &[u16], out: &mut [u8]) -> (usize, bool)
     requires room { 3 * length v.now + MIN_SPARE ≤ length out.old }
     ensures within { result.0 ≤ length out.new }
-    ensures read { (w : List ℕ) → ReadsOn w (w ++ take result.0 out.new) v.now 0 true (length v.now) result.1 }
+    ensures form { IsKnownForm (take result.0 out.new) v.now result.1 }
 {
     if v.len() <= MAX_ONE_BY_ONE {
-        write_one_by_one(v, true, out)
-    } else {
-        write_blocks(v, out)
+        return write_one_by_one(v, true, out);
     }
+    let (len, read) = front::write_front(v, out);
+    (len, read.is_utf8)
 }
 
 /// Makes a vector of just the bytes of the units, which are encoded in `N` bytes. Returns whether none of them is a lone

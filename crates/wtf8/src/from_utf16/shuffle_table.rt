@@ -7,7 +7,7 @@ use std::simd::prelude::*;
 
 /// Writes the rows. Until it is whole, a row is `[lanes; zeros]`, 16 together. Each unit is given by its three lanes,
 /// `[first second last]`, and makes four rows of each, one for each value of its two bits: its last lane is added, its last
-/// two, the same two (the higher bit is never set alone), or all three, in place of as many zeros.
+/// two, the same two (the higher bit is never set alone), or all three, in place of one, two or three zeros.
 macro_rules! shuffles {
     ([$([$($lane:literal)*; $($zero:literal)*])*]) => {
         &[$([$($lane,)* $($zero),*]),*]

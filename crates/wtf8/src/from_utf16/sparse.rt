@@ -1,5 +1,5 @@
-// Encodes a few units that are not ASCII, among ASCII units: units from 80 to D7FF. Their indices are read from a mask, so that no load waits
-// for the letter before it.
+// Encodes a few units that are not ASCII, among ASCII units: units from 80 to D7FF. Their indices are read from a mask, so
+// that no load waits for the letter before it.
 ghost use Rattle.std.specs.Prelude.{◌≡◌, ◌↔◌, ℕ, List, Bool, ◌++◌, ◌+◌, ◌-◌, ◌*◌, ◌<◌, ◌≤◌, length, take, drop, slice_index, vec_capacity, IsTrue, IfNone, IfSome};
 ghost use Rattle.wtf8.specs.Form.{encoding};
 ghost use Rattle.wtf8.specs.private.Prefixes.{AreAscii, ReadsOn};

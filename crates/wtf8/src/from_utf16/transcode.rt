@@ -63,15 +63,6 @@ fn append_point<A: Allocator>(
     ensures capacity { vec_capacity bytes.old ≤ vec_capacity bytes.new }
 {
     make_room(bytes, v, from.at, 0, MAX_POINT_BYTES, growth)?;
-    let unit = v[from.at];
-    if unit < 0x800 {
-        // Letters of most alphabets: never a surrogate, and at most two bytes.
-        encoding::append(bytes, CodePoint::from_unit(unit))?;
-        return Ok(Progress {
-            at: from.at + 1,
-            is_utf8: from.is_utf8,
-        });
-    }
     let (code_point, at, is_scalar) = decode::read_point(v, from.at);
     encoding::append(bytes, code_point)?;
     let is_utf8 = from.is_utf8 & is_scalar;
@@ -121,7 +112,7 @@ fn append_front<const N: usize, A: Allocator>(
 
 /// Appends ASCII by blocks of `TWO_BLOCKS` units, as long as a block is all ASCII and the next one begins with ASCII.
 /// Returns the index of the last block's first unit, and what `append_front` returns of that block. Without this loop each
-/// block is a step of `append_steps`, and long ASCII takes 1.2 of the instructions.
+/// block is a turn of the loop in `append_utf16`, and long ASCII takes 1.2 of the instructions.
 #[inline(always)]
 fn append_ascii_blocks<A: Allocator>(
     bytes: &mut Vec<u8, A>,
@@ -214,31 +205,6 @@ fn append_next<A: Allocator>(
     kernel::append_blocks::<SCRATCH_BYTES, A>(bytes, v, to, growth)
 }
 
-/// With these loops in `append_utf16` itself, 40 units whose ends join take 1.4% more instructions.
-#[inline(always)]
-fn append_steps<A: Allocator>(
-    bytes: &mut Vec<u8, A>,
-    v: &[u16],
-    from: Progress,
-    growth: Growth,
-) -> Result<Progress, AllocError>
-    requires within { from.at ≤ length v.now }
-    ensures order { IfOk result (λ to. to.at ≤ length v.now) }
-    ensures read { IfOk result (λ to. ReadsOn bytes.old.items bytes.new.items v.now from.at from.is_utf8 to.at to.is_utf8) }
-    ensures begins { take (length bytes.old.items) bytes.new.items ≡ bytes.old.items }
-    ensures room { HasRoomFrom bytes.old v.now from.at from.is_utf8 → IsOk result }
-    ensures capacity { vec_capacity bytes.old ≤ vec_capacity bytes.new }
-{
-    let mut read = from;
-    while TWO_BLOCKS <= v.len() - read.at {
-        read = append_next(bytes, v, read, growth)?;
-    }
-    while QUARTER_BLOCK <= v.len() - read.at {
-        read = kernel::append_blocks::<SHORT_SCRATCH_BYTES, A>(bytes, v, read, growth)?;
-    }
-    Ok(read)
-}
-
 /// `decode_utf16` joins each pair, so it yields no trail directly after a lead, and `append` has nothing to join.
 #[inline(always)]
 fn append_rest<A: Allocator>(
@@ -280,7 +246,13 @@ pub(crate) fn append_utf16<A: Allocator>(
     ensures capacity { vec_capacity bytes.old ≤ vec_capacity bytes.new }
 {
     reserve_ascii(bytes, v, from.at)?;
-    let read = append_steps(bytes, v, from, growth)?;
+    let mut read = from;
+    while TWO_BLOCKS <= v.len() - read.at {
+        read = append_next(bytes, v, read, growth)?;
+    }
+    while QUARTER_BLOCK <= v.len() - read.at {
+        read = kernel::append_blocks::<SHORT_SCRATCH_BYTES, A>(bytes, v, read, growth)?;
+    }
     if read.at == v.len() {
         return Ok(read.is_utf8);
     }

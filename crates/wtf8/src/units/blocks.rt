@@ -1,7 +1,7 @@
 // Decodes blocks of WTF-8 code points of one encoded length to code units.
 ghost use Rattle.std.specs.Prelude.{◌≡◌, ◌*◌, ◌/◌, ◌<◌, ◌≤◌, ◌++◌, length, drop, get_or, IsTrue, IfSome};
 ghost use lib.Lanes.{Each1};
-ghost use Rattle.wtf8.specs.private.EncodedBytes.{BeginsWithUnits, map_run, unit_of_two, unit_of_three, pairs_of_fours};
+ghost use Rattle.wtf8.specs.private.EncodedBytes.{BeginsWithPoints, BeginsWithUnits, map_run, unit_of_two, unit_of_three, pairs_of_fours};
 
 use std::simd::prelude::*;
 
@@ -19,12 +19,17 @@ const BACKS_OF_FOURS: [usize; 16] = [2, 3, 6, 7, 10, 11, 14, 15, 18, 19, 22, 23,
 /// Leads and trails by turns.
 const INTERLEAVE: [usize; 16] = [0, 8, 1, 9, 2, 10, 3, 11, 4, 12, 5, 13, 6, 14, 7, 15];
 
-/// Code points of one encoded length, which have `N` units in `BYTES` bytes.
-pub(crate) trait EncodedLength<const N: usize, const BYTES: usize> {
+/// Code points of one encoded length, of `WIDTH` bytes and `UNITS` units each, which have `N` units in `BYTES` bytes.
+pub(crate) trait EncodedLength<
+    const N: usize,
+    const BYTES: usize,
+    const WIDTH: usize,
+    const UNITS: usize,
+> {
     /// Returns the units of the first `BYTES` bytes, or `None` if not all code points in them have this length.
     fn read(bytes: &[u8]) -> Option<[u16; N]>
         requires { BYTES ≤ length bytes.now }
-        ensures { IfSome result (λ units. (length units ≡ N) × BeginsWithUnits bytes.now units BYTES) };
+        ensures { IfSome result (λ units. (length units ≡ N) × BeginsWithUnits bytes.now units BYTES × BeginsWithPoints bytes.now units BYTES WIDTH UNITS) };
 }
 
 pub(crate) struct TwoBytes;
@@ -99,7 +104,7 @@ fn read_eight_fours(bytes: u8x32) -> (u16x8, [u16; 16])
     (fronts % u16x8::splat(256), units.to_array())
 }
 
-impl EncodedLength<16, 32> for TwoBytes {
+impl EncodedLength<16, 32, 2, 1> for TwoBytes {
     #[inline(always)]
     fn read(bytes: &[u8]) -> Option<[u16; 16]> {
         let (firsts, units) = read_sixteen_twos(u8x32::from_slice(bytes));
@@ -110,7 +115,7 @@ impl EncodedLength<16, 32> for TwoBytes {
     }
 }
 
-impl EncodedLength<8, 24> for ThreeBytes {
+impl EncodedLength<8, 24, 3, 1> for ThreeBytes {
     #[inline(always)]
     fn read(bytes: &[u8]) -> Option<[u16; 8]> {
         let back = u8x16::from_slice(&bytes[8..]);
@@ -122,7 +127,7 @@ impl EncodedLength<8, 24> for ThreeBytes {
     }
 }
 
-impl EncodedLength<16, 32> for FourBytes {
+impl EncodedLength<16, 32, 4, 2> for FourBytes {
     #[inline(always)]
     fn read(bytes: &[u8]) -> Option<[u16; 16]> {
         let (firsts, units) = read_eight_fours(u8x32::from_slice(bytes));

@@ -5,7 +5,6 @@ ghost use lib.Lanes.{Each1, mask_l};
 ghost use Rattle.wtf8.specs.private.UnitEnds.{by_position, bytes_one_before, bytes_two_before, low_byte, high_of_two, high_byte, low_of_any, high_of_any};
 ghost use Rattle.wtf8.specs.private.UnitEnds.{set_lanes, words, joined_words, picked};
 
-use crate::units::packing_table::packing_row;
 use std::simd::prelude::*;
 
 /// The number of positions that are decoded together.
@@ -93,25 +92,6 @@ fn units_of_two(bytes: u8x32, one_before: u8x32) -> (u8x32, u8x32)
     )
 }
 
-/// The high byte of units of up to three bytes, from that of up to two. The low byte is the same.
-#[inline(always)]
-fn high_of_three(bytes: u8x32, two_before: u8x32, high: u8x32) -> u8x32
-    requires two { two_before ≡ bytes_two_before bytes }
-    requires high { high ≡ by_position (λ z y x b. high_of_two x b) 0 0 0 bytes }
-    ensures { result ≡ by_position (λ z y x b. high_byte y x b) 0 0 0 bytes }
-{
-    high + two_before.saturating_sub(u8x32::splat(0xE0)) * u8x32::splat(16)
-}
-
-/// By how much the byte two positions before each byte exceeds 0x70: 0x80 or more where it leads four bytes.
-#[inline(always)]
-fn excess_before(bytes: u8x32, two_before: u8x32) -> u8x32
-    requires { two_before ≡ bytes_two_before bytes }
-    ensures { result ≡ by_position (λ z y x b. y - 0x70) 0 0 0 bytes }
-{
-    two_before.saturating_sub(u8x32::splat(FIRST_OF_FOUR - 0x80))
-}
-
 /// Takes the low and high bytes of units of up to three bytes. The third of four ends a lead, the fourth a trail. The
 /// excess is an argument, since LLVM replaces one that is computed here by two comparisons: 4 to 8% more instructions
 /// for supplementary code points.
@@ -185,7 +165,8 @@ pub(crate) fn unit_ends(bytes: u8x32) -> UnitEnds
             ends: end_positions(bytes),
         };
     }
-    let high = high_of_three(bytes, two_before, high);
+    // The high byte of units of up to three bytes. The low byte is the same.
+    let high = high + two_before.saturating_sub(u8x32::splat(0xE0)) * u8x32::splat(16);
     if are_below(two_before, 0xF0) {
         return UnitEnds {
             low,
@@ -193,22 +174,14 @@ pub(crate) fn unit_ends(bytes: u8x32) -> UnitEnds
             ends: end_positions(bytes),
         };
     }
-    let excess = excess_before(bytes, two_before);
+    // By how much the byte two positions before each byte exceeds 0x70: 0x80 or more where it leads four bytes.
+    let excess = two_before.saturating_sub(u8x32::splat(FIRST_OF_FOUR - 0x80));
     let (low, high) = units_of_four(bytes, excess, low, high);
     UnitEnds {
         low,
         high,
         ends: ends_of_four(bytes, one_before, two_before),
     }
-}
-
-#[inline(always)]
-pub(crate) fn pack_words(lanes: u8x16, index: usize) -> [u16; 8]
-    requires { index < 256 }
-    ensures { (s : List Bool) → length s ≡ 8 → index ≡ mask_l s
-        → take (length (picked (words lanes) s)) result ≡ picked (words lanes) s }
-{
-    u16x8::from_le_bytes(lanes.swizzle_dyn(packing_row(index))).to_array()
 }
 
 #[inline(always)]

@@ -229,14 +229,6 @@ pub IsReadTo-low : {w front v : List ℕ} {at : ℕ} {known : Bool} → IsReadTo
 IsReadTo-low {w} {front} {v} {at} {known} read within low = subst (IsReadTo (w ++ encoding (get_or v at 0)) front v (at + 1)) (and-true known)
     (IsReadTo-point {scalar = true} read (omega arith) (IsFirstRead-low v at (get_or v at 0) within low refl) (λ _ s. omega (arith, s.0, low)))
 
-pub IsReadTo-low_written : (w old new : List ℕ) (len after : ℕ) {front v : List ℕ} {at p : ℕ} {known : Bool}
-    → IsReadTo (w ++ take len old) front v at known
-    → IsFirstRead v at (at + 1) p → p < 0xD800 → take after new ≡ take len old ++ encoding p
-    → IsReadTo (w ++ take after new) front v (at + 1) known
-IsReadTo-low_written w old new len after {front} {v} {at} {p} {known} read first low written =
-    subst (IsReadTo (w ++ take after new) front v (at + 1)) (and-true known)
-    (IsReadTo-written w old new len after {scalar = true} read (omega arith) first (λ _ s. omega (arith, s.0, low)) written)
-
 -- All items of a decoder over a slice.
 
 -- the units that a drained iterator yielded are the units that it had left

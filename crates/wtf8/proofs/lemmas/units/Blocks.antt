@@ -1,23 +1,27 @@
 -- Blocks of code points of one encoded length, decoded to units.
 use Rattle.wtf8.proofs.Common.{◌≡◌, ℕ, zero, suc, ◌<◌, ◌≤◌, List, [], ◌∷◌, ◌++◌, length, take, drop, get_or, refl, sym, ap, ◌∙◌, arith}
 use Rattle.wtf8.proofs.Common.{IsWellFormed, units, encoding, length-append, units_of, ◌+◌, ◌*◌, subst, Each1, drop-drop, length-drop}
-use Rattle.wtf8.proofs.Common.{length-take, take-append-drop, append_assoc, get_or_append_left, drop-append-le}
-use Rattle.wtf8.proofs.Common.{BeginsWithUnits, unit_of_two, unit_of_three, ◌/◌, AreAscii}
+use Rattle.wtf8.proofs.Common.{length-take, take-append-add, take-append-drop, append_assoc, get_or_append_left, drop-append-le}
+use Rattle.wtf8.proofs.Common.{BeginsWithUnits, unit_of_two, unit_of_three, ◌-◌, ◌/◌, ◌%◌, AreAscii, take_at, take-take, length-take-le}
 use Rattle.wtf8.proofs.lemmas.codec.Encoding.{encoding_cases, encoding-from_ascii_byte}
 use native.Mathlib.Nat.{mul-suc}
-use Rattle.wtf8.specs.private.EncodedBytes.{map_run, lead_of_four, trail_of_four, pairs_of_fours}
-use Rattle.wtf8.proofs.lemmas.codec.Readings.{first_of, IsWellFormed-equal_bytes, units_one, units_two}
+use Rattle.std.proofs.Math.Nat.{div-add-mod}
+use Rattle.std.proofs.lemmas.List.{append_cancel_right}
+use Rattle.wtf8.specs.private.EncodedBytes.{BeginsWithPoints, map_run, lead_of_four, trail_of_four, pairs_of_fours}
+use Rattle.wtf8.proofs.lemmas.codec.Readings.{first_of, IsWellFormed-equal_bytes, same_points, units_one, units_two}
 
 -- the string after its first `at` bytes, whose units are `v`
 pub record UnitsThenRest (w v : List ℕ) (at : ℕ) (h : IsWellFormed w) : Type 0 where
   pub rest : IsWellFormed (drop at w)
   pub whole : units h.points ≡ v ++ units rest.points
 
--- `f` decodes each code point whose lead byte satisfies `P`, which has `n` bytes and needs no others; `run` decodes several
-pub record DecodesRun (n : ℕ) (P : ℕ → Type 0) (f : List ℕ → List ℕ) (run : ℕ → List ℕ → List ℕ) : Type 0 where
+-- `f` decodes each code point whose lead byte satisfies `P`, which has `n` bytes and needs no others, to `c` units; `run`
+-- decodes several
+pub record DecodesRun (n c : ℕ) (P : ℕ → Type 0) (f : List ℕ → List ℕ) (run : ℕ → List ℕ → List ℕ) : Type 0 where
   pub positive : 0 < n
   pub width : (p : ℕ) (r : List ℕ) → P (get_or (encoding p ++ r) 0 0) → length (encoding p) ≡ n
   pub part : (p : ℕ) (r : List ℕ) → P (get_or (encoding p ++ r) 0 0) → f (encoding p ++ r) ≡ units_of p
+  pub count : (b : List ℕ) → length (f b) ≡ c
   pub local : (b r : List ℕ) → n ≤ length b → f (b ++ r) ≡ f b
   pub none : (w : List ℕ) → run 0 w ≡ []
   pub more : (k : ℕ) (w : List ℕ) → run (suc k) w ≡ f w ++ run k (drop n w)
@@ -25,20 +29,20 @@ pub record DecodesRun (n : ℕ) (P : ℕ → Type 0) (f : List ℕ → List ℕ)
 abbrev pub lead_byte : List ℕ → ℕ
 lead_byte w = get_or w 0 0
 
-pub DecodesRun-one_byte : DecodesRun 1 (λ b. b < 0x80) (λ w. lead_byte w ∷ []) (map_run 1 lead_byte)
+pub DecodesRun-one_byte : DecodesRun 1 1 (λ b. b < 0x80) (λ w. lead_byte w ∷ []) (map_run 1 lead_byte)
 DecodesRun-one_byte = grind (arith, encoding-from_ascii_byte, get_or_append_left, units_one)
 
-pub DecodesRun-two_bytes : DecodesRun 2 (λ b. b / 32 ≡ 6) (λ w. unit_of_two w ∷ []) (map_run 2 unit_of_two)
+pub DecodesRun-two_bytes : DecodesRun 2 1 (λ b. b / 32 ≡ 6) (λ w. unit_of_two w ∷ []) (map_run 2 unit_of_two)
 DecodesRun-two_bytes = grind (arith, get_or_append_left, encoding_cases, units_one)
 
-pub DecodesRun-three_bytes : DecodesRun 3 (λ b. b / 16 ≡ 14) (λ w. unit_of_three w ∷ []) (map_run 3 unit_of_three)
+pub DecodesRun-three_bytes : DecodesRun 3 1 (λ b. b / 16 ≡ 14) (λ w. unit_of_three w ∷ []) (map_run 3 unit_of_three)
 DecodesRun-three_bytes = grind (arith, get_or_append_left, encoding_cases, units_one)
 
-pub DecodesRun-four_bytes : DecodesRun 4 (λ b. b / 8 ≡ 30) (λ w. lead_of_four w ∷ trail_of_four w ∷ []) pairs_of_fours
+pub DecodesRun-four_bytes : DecodesRun 4 2 (λ b. b / 8 ≡ 30) (λ w. lead_of_four w ∷ trail_of_four w ∷ []) pairs_of_fours
 DecodesRun-four_bytes = grind (arith, get_or_append_left, encoding_cases, units_two)
 
 -- the units of `k` code points, if the lead bytes of all satisfy `P`
-units_then_rest : {P : ℕ → Type 0} (n : ℕ) (f : List ℕ → List ℕ) (run : ℕ → List ℕ → List ℕ) → DecodesRun n P f run → (k : ℕ) (w b r : List ℕ)
+units_then_rest : {P : ℕ → Type 0} {c : ℕ} (n : ℕ) (f : List ℕ → List ℕ) (run : ℕ → List ℕ → List ℕ) → DecodesRun n c P f run → (k : ℕ) (w b r : List ℕ)
     (h : IsWellFormed w) → w ≡ b ++ r → n * k ≤ length b → Each1 P (map_run n lead_byte k b) → UnitsThenRest w (run k b) (n * k) h
 units_then_rest n f run rows zero w b r h e long each =
     let none : n * 0 ≡ 0 = omega arith in
@@ -63,13 +67,69 @@ units_then_rest {P} n f run rows (suc k) w b r h e long each =
     }
 
 -- a decoded block has the next units, if the lead bytes of its code points satisfy `P`
-pub begins_with_run : {P : ℕ → Type 0} (n k : ℕ) (f : List ℕ → List ℕ) (run : ℕ → List ℕ → List ℕ) → DecodesRun n P f run
+pub begins_with_run : {P : ℕ → Type 0} {c : ℕ} (n k : ℕ) (f : List ℕ → List ℕ) (run : ℕ → List ℕ → List ℕ) → DecodesRun n c P f run
     → (w firsts block : List ℕ) → n * k ≤ length w → firsts ≡ map_run n lead_byte k (take (n * k) w) → block ≡ run k (take (n * k) w)
     → Each1 P firsts → BeginsWithUnits w block (n * k)
 begins_with_run {P} n k f run rows w firsts block long e g each h =
     let after = units_then_rest n f run rows k w (take (n * k) w) (drop (n * k) w) h (sym (take-append-drop (n * k) w))
     (omega (arith, long, length-take (n * k) w)) (subst (Each1 P) e each) in
     (after.rest, after.whole ∙ ap (λ b. b ++ units after.rest.points) (sym g))
+
+leads_front : (P : ℕ → Type 0) (n j k : ℕ) (b : List ℕ) → j ≤ k → Each1 P (map_run n lead_byte k b) → Each1 P (map_run n lead_byte j b)
+leads_front P n zero k b few each = tt
+leads_front P n (suc j) zero b few each = absurd (omega arith)
+leads_front P n (suc j) (suc k) b few each = (each.0, leads_front P n j k (drop n b) (omega arith) each.1)
+
+run_front : {P : ℕ → Type 0} {n : ℕ} (c : ℕ) (f : List ℕ → List ℕ) (run : ℕ → List ℕ → List ℕ) → DecodesRun n c P f run → (j k : ℕ) (b : List ℕ)
+    → j ≤ k → take (c * j) (run k b) ≡ run j b
+run_front c f run rows zero k b few = let none : c * 0 ≡ 0 = omega arith in ap (λ m. take m (run k b)) none ∙ sym (rows.none b)
+run_front c f run rows (suc j) zero b few = absurd (omega arith)
+run_front {n = n} c f run rows (suc j) (suc k) b few =
+    let count : c * suc j ≡ length (f b) + c * j = omega (arith, mul-suc c j, rows.count b) in
+    ap (take (c * suc j)) (rows.more k b) ∙ (ap (λ m. take m (f b ++ run k (drop n b))) count ∙ (take-append-add (f b) (run k (drop n b)) (c * j)
+    ∙ (ap (λ u. f b ++ u) (run_front c f run rows j k (drop n b) (omega arith)) ∙ sym (rows.more j b))))
+
+-- so do the first code points of a block the block's first units
+pub begins_with_points : {P : ℕ → Type 0} (n c k : ℕ) (f : List ℕ → List ℕ) (run : ℕ → List ℕ → List ℕ) → DecodesRun n c P f run
+    → (w firsts block : List ℕ) {m : ℕ} → length block ≡ m → ((j : ℕ) → n * j ≤ n * k → (j ≤ k) × (c * j ≤ length block)) → n * k ≤ length w
+    → firsts ≡ map_run n lead_byte k (take (n * k) w) → block ≡ run k (take (n * k) w) → Each1 P firsts
+    → (length block ≡ m) × BeginsWithUnits w block (n * k) × BeginsWithPoints w block (n * k) n c
+begins_with_points {P} n c k f run rows w firsts block count few long e g each = (
+  count,
+  begins_with_run n k f run rows w firsts block long e g each,
+  λ j within. (
+    length-take-le (c * j) block (few j within).1,
+    λ h.
+        let front = take (n * k) w in
+        let own : run j front ≡ take (c * j) block = sym (ap (take (c * j)) g ∙ run_front c f run rows j k front (few j within).0) in
+        let after = units_then_rest n f run rows j w front (drop (n * k) w) h (sym (take-append-drop (n * k) w))
+        (omega (arith, long, within, length-take (n * k) w)) (leads_front P n j k front (few j within).0 (subst (Each1 P) e each)) in
+        (after.rest, after.whole ∙ ap (λ b. b ++ units after.rest.points) own),
+  ),
+)
+
+-- the string after the first `d` bytes of a block, which are whole code points, has the units after the block's first ones
+pub after_points : (w v b : List ℕ) (most n c d : ℕ) → BeginsWithPoints w v most n c → d ≤ most → d % n ≡ 0 → b ≡ drop d w
+    → (h : IsWellFormed w) (rest : IsWellFormed b)
+    → (length (take (c * (d / n)) v) ≡ c * (d / n)) × (units h.points ≡ take (c * (d / n)) v ++ units rest.points)
+after_points w v b most n c d begins within whole same h rest =
+    let bytes : n * (d / n) ≡ d = omega (arith, div-add-mod d n, whole) in
+    let own = begins (d / n) (omega (arith, bytes, within)) in
+    let first = own.1 h in
+    (own.0, first.1 ∙ ap (λ p. take (c * (d / n)) v ++ units p) (same_points first.0 rest (ap (λ m. drop m w) bytes ∙ sym same)))
+
+-- what was written, and the units `r` that are left, are what was written before the first units `q` of a block, and the block's
+pub written_again : (x a f q r u v : List ℕ) (at : ℕ) → at ≤ length x → take at x ++ r ≡ a ++ u → u ≡ f ++ v → v ≡ q ++ r
+    → (length q ≤ at) × (take (at - length q) x ++ v ≡ take at x ++ r) × (at - length q + length v ≡ at + length r)
+written_again x a f q r u v at within written back again =
+    let front = a ++ f in
+    let own : take at x ≡ front ++ q = append_cancel_right (take at x) (front ++ q) r (written ∙ (ap (λ u. a ++ u) (back ∙ ap (λ v. f ++ v) again)
+    ∙ (sym (append_assoc a f (q ++ r)) ∙ sym (append_assoc front q r)))) in
+    let count : length front + length q ≡ at = omega (arith, ap length own, length-append front q, length-take-le at x within) in
+    let kept : take (at - length q) x ≡ front = sym (take-take (at - length q) at x (omega arith))
+    ∙ (ap (take (at - length q)) own ∙ take_at front q (at - length q) (omega (arith, count))) in
+    let whole = ap (λ u. u ++ v) kept ∙ (ap (λ v. front ++ v) again ∙ (sym (append_assoc front q r) ∙ ap (λ u. u ++ r) (sym own))) in
+    (omega (arith, count), whole, omega (arith, count, ap length again, length-append q r))
 
 -- ASCII bytes are their own lead bytes and units
 one_byte_run : (w : List ℕ) → w ≡ map_run 1 lead_byte (length w) w

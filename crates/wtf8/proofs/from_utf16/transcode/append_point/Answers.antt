@@ -1,40 +1,14 @@
-use Rattle.wtf8.proofs.Common.{◌+◌, ap, arith, length, ◌&&◌, ◌++◌, encoding, number, subst, true, false≢true, IsReadTo, List, [], ℕ, refl}
-use Rattle.std.proofs.Math.Bool.{and-true}
+use Rattle.wtf8.proofs.Common.{ap, arith, length, ◌&&◌, ◌++◌, encoding, number, false≢true, IsReadTo, List, [], ℕ, refl}
 use Rattle.wtf8.proofs.lemmas.from_utf16.EncodedLen.{HasRoomAfter-nothing}
-use Rattle.wtf8.proofs.lemmas.from_utf16.Decoding.{IsFirstRead-unit, IsReadTo-point}
-use Rattle.wtf8.proofs.from_utf16.transcode.append_point.Goals.{After-append, After-append-2}
+use Rattle.wtf8.proofs.lemmas.from_utf16.Decoding.{IsReadTo-point}
+use Rattle.wtf8.proofs.from_utf16.transcode.append_point.Goals.{After-append}
 use Rattle.wtf8.proofs.from_utf16.transcode.append_point.Goals as goal
-
--- a unit below 800 is encoded, if its encoding is appended
-unit_read : (g : _) (c : After-append g) (w front : List ℕ) → IsReadTo w front c.args.v.now c.args.from.at c.args.from.is_utf8
-    → IsReadTo (w ++ encoding (number c.from_unit.result)) front c.args.v.now (c.args.from.at + 1) c.args.from.is_utf8
-unit_read g c w front read =
-    let v = c.args.v.now in
-    let at = c.args.from.at in
-    let low = c.if-unit-lt2048.true in
-    let first = IsFirstRead-unit v at c.requires.within (omega (arith, low)) (λ l. omega (arith, l.0, low)) in
-    rw c.from_unit.ensures (subst (IsReadTo _ front v (at + 1)) (and-true c.args.from.is_utf8)
-    (IsReadTo-point {scalar = true} read (omega arith) first (λ _ s. omega (arith, s.0, low))))
 
 pub returns-in_err-make_room-clause-room : goal.returns-in_err-make_room-clause-room
 returns-in_err-make_room-clause-room g c room = absurd (false≢true (c.in_err-make_room.ensures.room [] refl (HasRoomAfter-nothing c.args.bytes.now room)))
 
-pub returns-in_err-append-clause-room : goal.returns-in_err-append-clause-room
-returns-in_err-append-clause-room g c room =
-    let read = unit_read g (goal.at.returns-in_err-append-clause-room g c).After-append _ room.0 room.1 in
-    absurd (false≢true (c.in_err-append.ensures.room (omega (
-      arith,
-      room.2 _ _ read.form.form,
-      ap (λ b. length (b ++ encoding (number c.from_unit.result))) c.make_room.ensures.items,
-      c.make_room.ensures.capacity,
-    ))))
-
-pub returns-then-unit-lt2048-clause-read : goal.returns-then-unit-lt2048-clause-read
-returns-then-unit-lt2048-clause-read g c front read = rw (c.in_ok-append.ensures.ok, c.make_room.ensures.items)
-    (unit_read g (goal.at.returns-then-unit-lt2048-clause-read g c).After-append _ front read)
-
 -- the first code point is encoded, if its encoding is appended
-point_read : (g : _) (c : After-append-2 g) (w front : List ℕ) → IsReadTo w front c.args.v.now c.args.from.at c.args.from.is_utf8
+point_read : (g : _) (c : After-append g) (w front : List ℕ) → IsReadTo w front c.args.v.now c.args.from.at c.args.from.is_utf8
     → IsReadTo (w ++ encoding (number c.read_point-at.result.0)) front c.args.v.now c.read_point-at.result.1
     (c.args.from.is_utf8 && c.read_point-at.result.2)
 point_read g c w front read =
@@ -42,10 +16,10 @@ point_read g c w front read =
     IsReadTo-point read (omega (arith, first.order))
     (record { within = first.within; divides_no_pair = first.divides_no_pair; reads = first.reads }) first.scalar
 
-pub returns-in_err-append-2-clause-room : goal.returns-in_err-append-2-clause-room
-returns-in_err-append-2-clause-room g c room =
-    let read = point_read g (goal.at.returns-in_err-append-2-clause-room g c).After-append-2 _ room.0 room.1 in
-    absurd (false≢true (c.in_err-append-2.ensures.room (omega (
+pub returns-in_err-append-clause-room : goal.returns-in_err-append-clause-room
+returns-in_err-append-clause-room g c room =
+    let read = point_read g (goal.at.returns-in_err-append-clause-room g c).After-append _ room.0 room.1 in
+    absurd (false≢true (c.in_err-append.ensures.room (omega (
       arith,
       room.2 _ _ read.form.form,
       ap (λ b. length (b ++ encoding (number c.read_point-at.result.0))) c.make_room.ensures.items,
@@ -53,5 +27,5 @@ returns-in_err-append-2-clause-room g c room =
     ))))
 
 pub returns-clause-read : goal.returns-clause-read
-returns-clause-read g c front read = rw (c.in_ok-append-2.ensures.ok, c.make_room.ensures.items)
-    (point_read g (goal.at.returns-clause-read g c).After-append-2 _ front read)
+returns-clause-read g c front read = rw (c.in_ok-append.ensures.ok, c.make_room.ensures.items)
+    (point_read g (goal.at.returns-clause-read g c).After-append _ front read)

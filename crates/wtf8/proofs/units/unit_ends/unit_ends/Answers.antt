@@ -1,5 +1,5 @@
 use Rattle.wtf8.proofs.Common.{◌∙◌, ◌<◌, List, ℕ, arith, Each1, subst}
-use Rattle.wtf8.proofs.lemmas.units.UnitLanes.{high_byte-short, low_of_any-short, high_of_any-short, below_two}
+use Rattle.wtf8.proofs.lemmas.units.UnitLanes.{excess-block, high_lanes-block, high_byte-short, low_of_any-short, high_of_any-short, below_two}
 use Rattle.wtf8.specs.private.UnitEnds.{bytes_one_before, bytes_two_before}
 use Rattle.wtf8.proofs.units.unit_ends.unit_ends.Goals as goal
 
@@ -31,9 +31,17 @@ returns-then-are_below-2-clause-low c =
 pub returns-then-are_below-2-clause-high : goal.returns-then-are_below-2-clause-high
 returns-then-are_below-2-clause-high c =
     let two = subst (Each1 (λ b. b < 0xF0)) c.bytes_before.ensures.two (c.are_below-2.ensures c.if-are_below-2.true) in
-    c.high_of_three-high.ensures ∙ high_of_any-short 0 0 0 c.args.bytes (omega arith) two
+    rw (c.bytes_before.ensures.two, c.units_of_two.ensures.high) (high_lanes-block c.args.bytes c.fits-bytes.0 c.fits-bytes.1
+    ∙ high_of_any-short 0 0 0 c.args.bytes (omega arith) two)
 
 pub returns-then-are_below-2-clause-ends : goal.returns-then-are_below-2-clause-ends
 returns-then-are_below-2-clause-ends c =
     let two = subst (Each1 (λ b. b < 0xF0)) c.bytes_before.ensures.two (c.are_below-2.ensures c.if-are_below-2.true) in
     c.end_positions-then-are_below-2.ensures two
+
+pub units_of_four-requires-clause-excess : goal.units_of_four-requires-clause-excess
+units_of_four-requires-clause-excess c = rw c.bytes_before.ensures.two (excess-block c.args.bytes c.fits-bytes.0 c.fits-bytes.1)
+
+pub units_of_four-requires-clause-high : goal.units_of_four-requires-clause-high
+units_of_four-requires-clause-high c = rw (c.bytes_before.ensures.two, c.units_of_two.ensures.high) (high_lanes-block c.args.bytes
+    c.fits-bytes.0 c.fits-bytes.1)

@@ -8,7 +8,7 @@ use Rattle.wtf8.proofs.lemmas.codec.Readings.{same_points}
 use Rattle.wtf8.proofs.lemmas.strings.Concatenation.{one_form}
 use Rattle.wtf8.proofs.lemmas.strings.Editing.{edited, room_for_form, some_weaker, unchanged, unit_of_surrogate, units_replaced, utf8_prefix_after_edit}
 use Rattle.wtf8.proofs.lemmas.strings.Positions.{cut_by}
-use Rattle.wtf8.proofs.lemmas.units.UnitEdits.{rounded_in_order}
+use Rattle.wtf8.proofs.lemmas.buffers.UnitEdits.{rounded_in_order}
 use Rattle.wtf8.proofs.buffers.buf.Wtf8Buf.replace_middle.Goals.{After-replace}
 use Rattle.wtf8.proofs.buffers.buf.Wtf8Buf.replace_middle.Goals as goal
 

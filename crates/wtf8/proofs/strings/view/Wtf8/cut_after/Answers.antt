@@ -1,7 +1,7 @@
 use Rattle.wtf8.proofs.Common.{◌≡◌, ◌∙◌, ap, sym, arith, ℕ, List, length, length-drop, ◌+◌, ◌≤◌, IsWellFormed}
 use Rattle.wtf8.proofs.lemmas.strings.Positions.{cut_by, points_after}
 use Rattle.wtf8.proofs.lemmas.units.UnitCuts.{Divided, Undivided, trail_in_pair}
-use Rattle.wtf8.proofs.lemmas.units.UnitEdits.{cuts_after_none, cuts_after_pair, cuts_after_trail, divided_after_mark, undivided_at_mark}
+use Rattle.wtf8.proofs.lemmas.buffers.UnitEdits.{cuts_after_none, cuts_after_pair, cuts_after_trail, divided_after_mark, undivided_at_mark}
 use Rattle.wtf8.proofs.strings.view.Wtf8.cut_after.Goals.{After-initial_trail_surrogate}
 use Rattle.wtf8.proofs.strings.view.Wtf8.cut_after.Goals as goal
 

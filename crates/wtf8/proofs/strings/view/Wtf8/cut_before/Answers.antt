@@ -1,7 +1,7 @@
 use Rattle.wtf8.proofs.Common.{◌≡◌, ◌∙◌, sym, arith}
 use Rattle.wtf8.proofs.lemmas.strings.Positions.{points_before}
 use Rattle.wtf8.proofs.lemmas.units.UnitCuts.{Undivided, pair_at_cut}
-use Rattle.wtf8.proofs.lemmas.units.UnitEdits.{cuts_before_lead, cuts_before_none, cuts_before_pair, divided_after_mark, undivided_at_mark}
+use Rattle.wtf8.proofs.lemmas.buffers.UnitEdits.{cuts_before_lead, cuts_before_none, cuts_before_pair, divided_after_mark, undivided_at_mark}
 use Rattle.wtf8.proofs.strings.view.Wtf8.cut_before.Goals.{After-final_lead_surrogate}
 use Rattle.wtf8.proofs.strings.view.Wtf8.cut_before.Goals as goal
 

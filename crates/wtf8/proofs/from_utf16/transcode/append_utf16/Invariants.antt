@@ -1,6 +1,6 @@
 use Rattle.wtf8.proofs.Common.{◌-◌, length}
 use Rattle.wtf8.proofs.lemmas.from_utf16.Transcode.{KeepsEncoding}
-use Rattle.wtf8.proofs.from_utf16.transcode.append_steps.Given as goal
+use Rattle.wtf8.proofs.from_utf16.transcode.append_utf16.Given as goal
 
 abbrev pub invariant-loop-read : goal.invariant-loop-read
 invariant-loop-read g l = KeepsEncoding l.fn.bytes l.bytes l.v l.fn.from l.read
