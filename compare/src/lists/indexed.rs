@@ -1,8 +1,6 @@
 //! Scripts of calls on the indexed string, with marks and without.
 
-use crate::lists::generate::{
-    self, from_units, operand, pushed, registers, runs, unit_lists, with_text, with_units,
-};
+use crate::lists::generate::{self, from_units, operand, pushed, registers, runs, unit_lists};
 use crate::lists::long::{on, string_in};
 use crate::lists::worked::JOINING;
 use crate::random::Random;

@@ -155,7 +155,7 @@ pub(crate) fn count_more<A: Allocator>(
     add_to_kept(CountedView::new(text, *count), marks);
 }
 
-/// Counts the units of a string in which those from index `begin` to before `end` were replaced by `new` others, and
+/// Counts the units of a string in which the units from index `begin` to before `end` were replaced by `new` others, and
 /// makes the marks after `begin` anew, if marks are kept. The marks of the old string before `begin` are marks of the new
 /// one.
 #[inline(always)]

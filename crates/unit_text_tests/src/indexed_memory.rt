@@ -518,8 +518,8 @@ enum Make {
     Clone,
 }
 
-/// Calls that make a buffer, and the number of their requests. Units request their bytes at once, or, if they are 64 or more
-/// and the first 64 are ASCII, a byte for each first.
+/// Calls that make a buffer, and the number of their requests. Units request their bytes at once, or first a byte for each:
+/// 64 to 128 if the first 64 are ASCII, more if the first one is.
 static MAKES: [(Make, u64); 8] = [
     (Make::Capacity(0), 0),
     (Make::Capacity(8), 1),

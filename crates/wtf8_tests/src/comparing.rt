@@ -107,7 +107,7 @@ fn expect_string(
     }
 }
 
-/// Fails unless the strings are those of the table, in its order.
+/// Fails unless the strings are the table's, in its order.
 fn expect_table(alloc: Global, strings: &[Wtf8Buf<Global>]) -> Result<(), Failed> {
     let mut row = 0usize;
     for units in &TABLE {

@@ -36,7 +36,7 @@ fn replace_by_string<A: Allocator>(
     text.replace_at(from, begin, to, end, new)
 }
 
-/// The string of the units, in which those from `begin` to before `end` are replaced by units.
+/// The string of the units, in which the units from `begin` to before `end` are replaced by units.
 fn replaced(
     alloc: Global,
     units: &[u16],
@@ -50,7 +50,7 @@ fn replaced(
     Ok(text)
 }
 
-/// The string of the units, in which those from `begin` to before `end` are replaced by a string.
+/// The string of the units, in which the units from `begin` to before `end` are replaced by a string.
 fn replaced_by_view(
     alloc: Global,
     units: &[u16],
@@ -64,7 +64,7 @@ fn replaced_by_view(
     Ok(text)
 }
 
-/// The string of the units, in which those from `begin` to before `end` are replaced by the string of the new ones.
+/// The string of the units, in which the units from `begin` to before `end` are replaced by the string of the new ones.
 fn replaced_by_string(
     alloc: Global,
     units: &[u16],
@@ -124,7 +124,7 @@ fn strings_in_place_of_units_have_the_bytes_of_the_rows(rt: HostRuntime) -> Resu
     Ok(())
 }
 
-/// The units, of which those from `begin` to before `end` are replaced.
+/// The units, with others in place of the ones from `begin` to before `end`.
 fn spliced(
     alloc: Global,
     units: &[u16],
@@ -180,7 +180,7 @@ fn expect_replaced_as(
     expect_equal(replaced_by_string(alloc, units, range, new), &whole)
 }
 
-/// Fails unless the string of the units has all units, and the bytes of their string, after a replacement of those from
+/// Fails unless the string of the units has all units, and the bytes of their string, after a replacement of the units from
 /// `begin` to before `end`.
 fn expect_replaced(
     alloc: Global,
