@@ -8,7 +8,7 @@
 //     4 or more, others                   `kernel`: blocks, of which the last may have fewer units than the others
 //     at most 3                           `decode`, the plain form of the conversion: one code point at a time
 //
-// In a slice, and for `on_stack`, `front`: blocks, and one code point at a time at most 3 that are left or lack room for a block.
+// In a slice, and for `on_stack`, `front`: blocks; one code point at a time if fewer than 4 units are left or a block has no room.
 pub(crate) mod decode;
 pub(crate) mod encoded_len;
 pub(crate) mod front;

@@ -186,8 +186,8 @@ fn decode_end<
     write_front(units, Undecoded { view, at }, block, N, BYTES)
 }
 
-/// Decodes full blocks of code points of one encoded length, as many as follow each other while `least` bytes are left, then
-/// `decode_end` if that is a block. With blocks down to the last whole one, 24 CJK units take fewer instructions than 17.
+/// Decodes full blocks of code points of one encoded length one after another, while `least` bytes are left; and the rest by
+/// `decode_end`, if `least` is a block. With blocks down to the last whole one, 24 CJK units take fewer instructions than 17.
 #[inline(always)]
 fn decode_full_blocks<
     'a,
