@@ -473,7 +473,7 @@ impl<A: Allocator> IndexedBuf<A> {
         ensures ok { OnOk result (AppendsUnits self.old (units (lossy_chars text.now)) self.new) }
         ensures kept { OnErr result (KeepsContents self.old self.new) }
 
-        // A push whose bytes fit is never refused, nor are no bytes, and the capacity never shrinks.
+        // A push whose bytes fit is never refused, nor is an empty one, and the capacity never shrinks.
         ensures room { HasRoomFor self.old (units (lossy_chars text.now)) → IsOk result }
         ensures empty { text.now ≡ [] → IsOk result }
         ensures capacity { self.old.capacity ≤ self.new.capacity }
@@ -494,7 +494,7 @@ impl<A: Allocator> IndexedBuf<A> {
         ensures ok { IfOk result (λ used. AppendsUnits self.old (units (lossy_chars (take used text.now))) self.new) }
         ensures kept { OnErr result (KeepsContents self.old self.new) }
 
-        // A push whose bytes fit is never refused, nor are no bytes, and the capacity never shrinks.
+        // A push whose bytes fit is never refused, nor is an empty one, and the capacity never shrinks.
         ensures room { (used : ℕ) → LeavesUnfinished text.now used → HasRoomFor self.old (units (lossy_chars (take used text.now))) → IsOk result }
         ensures empty { text.now ≡ [] → IsOk result }
         ensures capacity { self.old.capacity ≤ self.new.capacity }
@@ -511,7 +511,7 @@ impl<A: Allocator> IndexedBuf<A> {
         ensures ok { OnOk result (AppendsUnits self.old units.now self.new) }
         ensures kept { OnErr result (KeepsContents self.old self.new) }
 
-        // A push whose bytes fit is never refused, nor are no units, and the capacity never shrinks.
+        // A push whose bytes fit is never refused, nor is an empty one, and the capacity never shrinks.
         ensures room { HasRoomFor self.old units.now → IsOk result }
         ensures empty { units.now ≡ [] → IsOk result }
         ensures capacity { self.old.capacity ≤ self.new.capacity }

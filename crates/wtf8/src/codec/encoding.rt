@@ -157,7 +157,7 @@ pub(crate) fn read_three(bytes: &[u8]) -> u32
 }
 
 #[inline(always)]
-fn read_four(bytes: &[u8]) -> u32
+pub(crate) fn read_four(bytes: &[u8]) -> u32
     requires front { BeginsWithPoint bytes.now }
     requires least { 0xF0 ≤ slice_index bytes.now 0 }
     ensures { FirstPointIs bytes.now result 4 }

@@ -20,7 +20,7 @@ const BLOCK: usize = 32;
 const BEFORE: usize = 3;
 
 /// The fewest bytes that hold a block and the bytes before it.
-const LEAST: usize = BLOCK + BEFORE;
+const MIN_LEN: usize = BLOCK + BEFORE;
 
 /// The number of bytes that `near_error` has read one code point at a time.
 pub(crate) const NEAR: usize = 16;
@@ -56,7 +56,7 @@ fn follows_in_lanes(third: u8x32, second: u8x32, first: u8x32, bytes: u8x32) -> 
 /// The number of bytes from index `at + BEFORE` on, at most `BLOCK`, each of which may follow the three before it.
 #[inline(always)]
 fn follows_in_block(bytes: &[u8], at: usize) -> usize
-    requires { at + LEAST ≤ length bytes.now }
+    requires { at + MIN_LEN ≤ length bytes.now }
     ensures within { result ≤ BLOCK }
     ensures follow { FollowsIn bytes.now at (at + result) }
 {
@@ -106,14 +106,14 @@ fn begins_long_text(bytes: &[u8]) -> usize
 /// The number of bytes at the front each of which may follow the three before it. The last block, which overlaps the one
 /// before it, is tested first: the compiler then keeps the constants of a test in registers throughout the loop.
 fn follows_throughout(bytes: &[u8]) -> usize
-    requires { LEAST ≤ length bytes.now }
+    requires { MIN_LEN ≤ length bytes.now }
     ensures { FollowsUpTo bytes.now result }
 {
     let front = begins_long_text(bytes);
     if front < BLOCK {
         return front;
     }
-    let last = bytes.len() - LEAST;
+    let last = bytes.len() - MIN_LEN;
     let end = last + BEFORE + follows_in_block(bytes, last);
     let mut at = front - BEFORE;
     while at < last {
@@ -154,7 +154,7 @@ fn follows_at_front(bytes: &[u8]) -> usize
 {
     match bytes.len() {
         ..=BEFORE => 0,
-        ..LEAST => begins_text(bytes),
+        ..MIN_LEN => begins_text(bytes),
         _ => follows_throughout(bytes),
     }
 }

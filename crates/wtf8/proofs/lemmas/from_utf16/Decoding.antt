@@ -1,12 +1,9 @@
 -- The items of a decoder are a reading of its iterator's units.
-use Rattle.wtf8.proofs.Common.{◌≡◌, ◌+◌, ◌-◌, ◌<◌, length, take, drop, get_or, append-nil, Reads, inl, inr, ℕ, List, [], ◌∷◌, ◌++◌, Option}
-use Rattle.wtf8.proofs.Common.{None, Some, Result, Ok, Err, refl, sym, ap, ◌∙◌, subst, arith, Drains, peekable_steps, peekable_peeked}
-use Rattle.wtf8.proofs.Common.{point_of_item, map, decode_steps, ReadsAll, IsClean, IsCodePoint, IsLead, IsTrail, IsReadTo, same_from_push}
-use Rattle.wtf8.proofs.Common.{IsSurrogate, MatchResult, units, pair, MatchOption, IfSome, Bool, IsTrue, AreScalar, IsKnownForm, bytes}
-use Rattle.wtf8.proofs.Common.{true, ◌*◌, length-take}
-use Rattle.wtf8.proofs.Common.{encoding, map-append, take-append-drop, ◌≤◌, append_assoc}
-use Rattle.wtf8.proofs.Common.{length-drop, take_all, DividesPair, copied_steps, iter_steps, iter_rest, common_steps}
-use Rattle.wtf8.proofs.Common.{get_or-drop, ◌&&◌, IsForm, MeetsAsPair, take-add, take_at}
+use Rattle.wtf8.proofs.Common.{◌≡◌, ◌+◌, ◌-◌, ◌<◌, length, take, drop, get_or, append-nil, Reads, inl, inr, ℕ, List, [], ◌∷◌, ◌++◌, Option, None, Some, Result, Ok}
+use Rattle.wtf8.proofs.Common.{Err, refl, sym, ap, ◌∙◌, subst, arith, Drains, peekable_steps, peekable_peeked, point_of_item, map, decode_steps, ReadsAll, IsClean}
+use Rattle.wtf8.proofs.Common.{IsCodePoint, IsLead, IsTrail, IsReadTo, same_from_push, IsSurrogate, MatchResult, units, pair, MatchOption, IfSome, Bool, IsTrue}
+use Rattle.wtf8.proofs.Common.{AreScalar, IsKnownForm, bytes, true, ◌*◌, length-take, encoding, map-append, take-append-drop, ◌≤◌, append_assoc, length-drop}
+use Rattle.wtf8.proofs.Common.{take_all, DividesPair, copied_steps, iter_steps, iter_rest, common_steps, get_or-drop, ◌&&◌, IsForm, MeetsAsPair, take-add, take_at}
 use Rattle.std.proofs.lemmas.List.{drop_more, nil_from_length}
 use Rattle.std.specs.Iterator.{Yields}
 use Rattle.std.specs.Iterator.Adapters.{peekable_source, PeekedOrNext, PeeksNext, copied_source}

@@ -1,19 +1,18 @@
 -- The length of the form of units: one byte for each unit, and what each adds beyond that.
-use Rattle.wtf8.proofs.Common.{◌≡◌, ℕ, ◌+◌, ◌-◌, ◌≤◌, List, [], ◌∷◌, ◌++◌, length, take, drop, get_or, arith, ap, ◌∙◌, sym}
-use Rattle.wtf8.proofs.Common.{length-append, length-drop, take_all, drop_all, subst, Bool, false, true, false≢true, Fits, w16, Each1}
-use Rattle.wtf8.proofs.Common.{IsKnownForm, IsReadTo, HasRoomFrom, HasRoomAfter, append-nil, vec_capacity, IsForm, cases_lt, inl, inr, refl, zero, suc, ◌*◌, ◌/◌, ◌%◌, ◌<◌}
-use Rattle.wtf8.proofs.Common.{zip2, map, replicate, top, cond, eqb, ltb, sel_l, bit_and, nat_tests, sum_l, Each1, Each2, Each2-of}
-use Rattle.wtf8.proofs.Common.{IsClean, units, bytes, encoding, IsLead, IsTrail, length-take, take-add, sum_bound}
+use Rattle.wtf8.proofs.Common.{◌≡◌, ℕ, ◌+◌, ◌-◌, ◌≤◌, List, [], ◌∷◌, ◌++◌, length, take, drop, get_or, arith, ap, ◌∙◌, sym, length-append, length-drop, take_all}
+use Rattle.wtf8.proofs.Common.{drop_all, subst, Bool, false, true, false≢true, Fits, w16, Each1, IsKnownForm, IsReadTo, HasRoomFrom, HasRoomAfter, append-nil}
+use Rattle.wtf8.proofs.Common.{vec_capacity, IsForm, cases_lt, inl, inr, refl, zero, suc, ◌*◌, ◌/◌, ◌%◌, ◌<◌, zip2, map, replicate, top, cond, eqb, ltb, sel_l}
+use Rattle.wtf8.proofs.Common.{bit_and, nat_tests, sum_l, Each2, Each2-of, IsClean, units, bytes, encoding, IsLead, IsTrail, length-take, take-add, sum_bound}
 use Rattle.wtf8.proofs.Common.{get_or-drop}
 use Rattle.wtf8.specs.private.EncodedLengths.{each_more, more_bytes, IsCounted}
 use Rattle.wtf8.specs.declared.from_utf16.encoded_len.Counted.{Counted}
 use Rattle.wtf8.proofs.lemmas.codec.Encoding.{encoding_cases}
-use Rattle.wtf8.proofs.lemmas.codec.Readings.{units_one, units_two, lead_of, trail_of, clean-first, clean-rest, no_trail_after_lead}
+use Rattle.wtf8.proofs.lemmas.codec.Readings.{units_one, units_two, lead_of, trail_of, clean-first, clean-rest, no_trail_after_lead, lists_have_lengths, same_form}
+use Rattle.wtf8.proofs.lemmas.lanes.AsciiFronts.{Each1-drop, Each1-take}
 use Rattle.wtf8.proofs.lemmas.from_utf16.Kernel.{and_lanes}
 use Rattle.std.specs.declared.vec.Vec.{Vec}
 use Rattle.std.proofs.lemmas.Simd.{chunk-fits}
 use Rattle.wtf8.specs.private.PackedUnits.{packed_units, tagged_units}
-use Rattle.wtf8.proofs.lemmas.codec.Readings.{lists_have_lengths, same_form}
 use Rattle.wtf8.proofs.lemmas.from_utf16.PackedUnits.{last_units-read, packed_units-form}
 use Rattle.wtf8.proofs.lemmas.from_utf16.Transcode.{IsKnownForm-nil}
 
@@ -153,17 +152,11 @@ sum-none k xs e = ap (λ k. sum_l (take k xs)) e
 pub sum-take_add : (m n : ℕ) (xs : List ℕ) → sum_l (take (m + n) xs) ≡ sum_l (take m xs) + sum_l (take n (drop m xs))
 sum-take_add m n xs = ap sum_l (take-add m n xs) ∙ sum-append (take m xs) (take n (drop m xs))
 
-Each1-take_drop : (P : ℕ → Type 0) (n at : ℕ) (xs : List ℕ) → Each1 P xs → Each1 P (take n (drop at xs))
-Each1-take_drop P zero at xs e = tt
-Each1-take_drop P (suc n) zero [] e = tt
-Each1-take_drop P (suc n) (suc at) [] e = tt
-Each1-take_drop P (suc n) zero (x ∷ xs) e = (e.0, Each1-take_drop P n zero xs e.1)
-Each1-take_drop P (suc n) (suc at) (x ∷ xs) e = Each1-take_drop P (suc n) at xs e.1
-
 pub sum-most : (n at : ℕ) (u : List ℕ) → sum_l (take n (drop at (each_more u))) ≤ 2 * n
 sum-most n at u =
-    let xs = take n (drop at (each_more u)) in
-    omega (arith, sum_bound 2 xs (Each1-take_drop (λ a. a ≤ 2) n at (each_more u) (each_more-most u)), length-take n (drop at (each_more u)))
+    let left = drop at (each_more u) in
+    let most = Each1-take (λ a. a ≤ 2) n left (Each1-drop (λ a. a ≤ 2) at (each_more u) (each_more-most u)) in
+    omega (arith, sum_bound 2 (take n left) most, length-take n left)
 
 -- no number is greater than the sum
 each_at_most_sum : (k : ℕ) (xs : List ℕ) → sum_l xs ≤ k → Each1 (λ a. a ≤ k) xs

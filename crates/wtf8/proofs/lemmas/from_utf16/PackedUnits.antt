@@ -1,17 +1,15 @@
 -- Blocks of units of any kinds: their tags, and the piece of bytes that each unit contributes.
-use Rattle.wtf8.proofs.Common.{◌≡◌, ℕ, zero, suc, ◌+◌, ◌-◌, ◌/◌, ◌%◌, ◌<◌, ◌≤◌, List, [], ◌∷◌, ◌++◌, length, take, get_or, refl, sym}
-use Rattle.wtf8.proofs.Common.{ap, ◌∙◌, arith, lt-ltb, le-ltb, subst, cases_lt, inl, inr, true, drop, append-nil, append_assoc, units_of}
-use Rattle.wtf8.proofs.Common.{IsSurrogate, encoding, IsKnownForm, Fits, Each1, Bool, IsTrue, ◌&&◌, DividesPair}
-use Rattle.wtf8.proofs.Common.{length-chunk, take_all, w16, take-append-add, length-take-le, take-take, get_or-drop}
-use Rattle.wtf8.proofs.Common.{◌⊎◌, IsUnit, IsLead, IsTrail, pair, same_from_push, replicate, length-append, length-replicate, drop_all, get_or-append-add}
+use Rattle.wtf8.proofs.Common.{◌≡◌, ℕ, zero, suc, ◌+◌, ◌-◌, ◌/◌, ◌%◌, ◌<◌, ◌≤◌, List, [], ◌∷◌, ◌++◌, length, take, get_or, refl, sym, ap, ◌∙◌, arith, lt-ltb, le-ltb}
+use Rattle.wtf8.proofs.Common.{subst, cases_lt, inl, inr, true, drop, append-nil, append_assoc, units_of, IsSurrogate, encoding, IsKnownForm, Fits, Each1, Bool}
+use Rattle.wtf8.proofs.Common.{IsTrue, ◌&&◌, DividesPair, length-chunk, take_all, w16, take-append-add, length-take-le, take-take, get_or-drop, ◌⊎◌, IsUnit, IsLead}
+use Rattle.wtf8.proofs.Common.{IsTrail, pair, same_from_push, replicate, length-append, length-replicate, drop_all, get_or-append-add, AreAscii, map, min}
 use Rattle.std.proofs.lemmas.List.{take-append-le, get_or-take, drop_more, get_or-replicate}
 use Rattle.std.proofs.lemmas.Grind.{get_or_default_zero}
 use Rattle.std.proofs.lemmas.Simd.{chunk-fits}
 use Rattle.std.proofs.Math.Seq.{take-append_seam}
 use Rattle.wtf8.specs.private.Prefixes.{IsReadTo}
 use Rattle.wtf8.specs.private.PackedUnits.{packed_unit, packed_units, tagged, tagged_units, tagged_block}
-use Rattle.wtf8.proofs.Common.{AreAscii, map, min}
-use Rattle.wtf8.proofs.lemmas.lanes.AsciiFronts.{ascii_saturated, saturated}
+use Rattle.wtf8.proofs.lemmas.lanes.AsciiFronts.{Each1-take, ascii_saturated, saturated}
 use Rattle.wtf8.proofs.lemmas.codec.Encoding.{encoding_one, encoding_two, encoding_three, encoding_four, third_row}
 use Rattle.wtf8.proofs.lemmas.codec.Readings.{unpaired-after_no_lead, unpaired-nil_right, unpaired-before_no_trail, units_one, units_pair}
 use Rattle.wtf8.proofs.lemmas.from_utf16.Transcode.{IsKnownForm-append, IsKnownForm-nil, IsReadTo-append, undivided-after_no_lead}
@@ -165,11 +163,6 @@ packed_units-form b (x ∷ y ∷ u) a known f first last units = elim (tag_cases
       (packed_units-form y u a known f.1.1 (λ k. omega (arith, k.0.1, t.0)) last (λ k. (units k).1.1))
   | trail l t ↦ absurd (first (l, t))
 ]
-
-pub Each1-take : (P : ℕ → Type 0) (k : ℕ) (u : List ℕ) → Each1 P u → Each1 P (take k u)
-Each1-take P zero u e = tt
-Each1-take P (suc k) [] e = tt
-Each1-take P (suc k) (x ∷ u) e = (e.0, Each1-take P k u e.1)
 
 -- sixteen units of which the last is no lead, or the fifteen before a lead, are encoded by appending their pieces
 pub packed_units-read : (w kept : List ℕ) {bytes f u : List ℕ} {at : ℕ} {known more : Bool} (k : ℕ) → IsReadTo (w ++ kept) f u at known

@@ -1,10 +1,8 @@
 -- Blocks of units: their masks, their form, and the string after they are appended.
-use Rattle.wtf8.proofs.Common.{◌≡◌, ℕ, zero, suc, ◌-◌, ◌%◌, ◌^◌, ◌<◌, ◌≤◌, eqb, Bool, true, false, cond, ◌&&◌, List, [], ◌∷◌, map, length}
-use Rattle.wtf8.proofs.Common.{replicate, Fits, refl, sym, ap, ◌∙◌, arith, and_parts, cases_Bool, Each1, zip2, mask_l, top}
-use Rattle.wtf8.proofs.Common.{AreAscii, IsSurrogate, ◌+◌, ◌/◌, ◌++◌, IsTrue, take, drop, get_or, subst, take-append-drop, common_steps}
-use Rattle.wtf8.proofs.Common.{append_assoc, append-nil, length-chunk, MeetsAsPair, IsKnownForm, DividesPair, w16, get_or-drop}
-use Rattle.wtf8.proofs.Common.{length-take, take-add, AreScalarUnits}
-use Rattle.wtf8.proofs.Common.{take-append-add, min, length-map, take-take, zip2_splat, IsLead, IsReadTo}
+use Rattle.wtf8.proofs.Common.{◌≡◌, ℕ, zero, suc, ◌-◌, ◌%◌, ◌^◌, ◌<◌, ◌≤◌, eqb, Bool, true, false, cond, ◌&&◌, List, [], ◌∷◌, map, length, replicate, Fits, refl}
+use Rattle.wtf8.proofs.Common.{sym, ap, ◌∙◌, arith, and_parts, cases_Bool, Each1, zip2, mask_l, top, AreAscii, IsSurrogate, ◌+◌, ◌/◌, ◌++◌, IsTrue, take, drop}
+use Rattle.wtf8.proofs.Common.{get_or, subst, take-append-drop, common_steps, append_assoc, append-nil, length-chunk, MeetsAsPair, IsKnownForm, DividesPair, w16}
+use Rattle.wtf8.proofs.Common.{get_or-drop, length-take, take-add, AreScalarUnits, take-append-add, min, length-map, take-take, zip2_splat, IsLead, IsReadTo}
 use Rattle.wtf8.proofs.Common.{ReadsOn, HasRoomFrom, vec_capacity}
 use Rattle.std.specs.declared.vec.Vec.{Vec}
 use Rattle.wtf8.specs.declared.from_utf16.Progress.{Progress}
@@ -14,8 +12,7 @@ use Rattle.wtf8.proofs.lemmas.lanes.AsciiFronts.{saturated_front}
 use Rattle.std.proofs.lemmas.Bool.{eqb-false}
 use Rattle.std.proofs.lemmas.List.{get_or-take}
 use Rattle.std.proofs.lemmas.Simd.{bitmask_splat, map-map, Each1-get_or}
-use Rattle.wtf8.proofs.lemmas.codec.Readings.{form_append-unpaired, meets_by, unpaired-after_no_lead, unpaired-nil_left}
-use Rattle.wtf8.proofs.lemmas.codec.Readings.{MeetsAsPair-back}
+use Rattle.wtf8.proofs.lemmas.codec.Readings.{form_append-unpaired, meets_by, unpaired-after_no_lead, unpaired-nil_left, MeetsAsPair-back}
 use Rattle.wtf8.proofs.lemmas.codec.Scalars.{IsKnownForm-ascii, scalar-append}
 
 -- Masks of blocks of units.

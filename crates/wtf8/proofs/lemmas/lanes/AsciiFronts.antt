@@ -111,6 +111,17 @@ pub Each1-map_all : (P : ℕ → Type 0) (f : ℕ → ℕ) → ((x : ℕ) → P 
 Each1-map_all P f h [] = tt
 Each1-map_all P f h (x ∷ xs) = (h x, Each1-map_all P f h xs)
 
+-- the first of lanes that satisfy `P`, and the others
+pub Each1-take : (P : ℕ → Type 0) (k : ℕ) (u : List ℕ) → Each1 P u → Each1 P (take k u)
+Each1-take P zero u e = tt
+Each1-take P (suc k) [] e = tt
+Each1-take P (suc k) (x ∷ u) e = (e.0, Each1-take P k u e.1)
+
+pub Each1-drop : (P : ℕ → Type 0) (k : ℕ) (u : List ℕ) → Each1 P u → Each1 P (drop k u)
+Each1-drop P zero u e = e
+Each1-drop P (suc k) [] e = tt
+Each1-drop P (suc k) (x ∷ u) e = Each1-drop P k u e.1
+
 -- selecting each lane if it is below FF, else FF, saturates the lanes
 pub saturated_lanes : (n : ℕ) (xs : List ℕ) → length xs ≡ n
     → sel_l (map (top 15) (zip2 (λ a b. cond (ltb a b) 0xFFFF 0) xs (replicate n 0xFF))) xs (replicate n 0xFF) ≡ map (λ n. min n 0xFF) xs

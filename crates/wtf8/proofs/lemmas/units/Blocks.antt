@@ -1,9 +1,9 @@
 -- Blocks of code points of one encoded length, decoded to units.
-use Rattle.wtf8.proofs.Common.{◌≡◌, ℕ, zero, suc, ◌<◌, ◌≤◌, List, [], ◌∷◌, ◌++◌, length, take, drop, get_or, refl, sym, ap, ◌∙◌, arith}
-use Rattle.wtf8.proofs.Common.{IsWellFormed, units, encoding, length-append, units_of, ◌+◌, ◌*◌, subst, Each1, drop-drop, length-drop}
-use Rattle.wtf8.proofs.Common.{length-take, take-append-add, take-append-drop, append_assoc, get_or_append_left, drop-append-le}
-use Rattle.wtf8.proofs.Common.{BeginsWithUnits, unit_of_two, unit_of_three, ◌-◌, ◌/◌, ◌%◌, AreAscii, take_at, take-take, length-take-le}
-use Rattle.wtf8.proofs.lemmas.codec.Encoding.{encoding_cases, encoding-from_ascii_byte}
+use Rattle.wtf8.proofs.Common.{◌≡◌, ℕ, zero, suc, ◌<◌, ◌≤◌, List, [], ◌∷◌, ◌++◌, length, take, drop, get_or, refl, sym, ap, ◌∙◌, arith, IsWellFormed, units}
+use Rattle.wtf8.proofs.Common.{encoding, length-append, units_of, ◌+◌, ◌*◌, subst, Each1, drop-drop, length-drop, length-take, take-append-add, take-append-drop}
+use Rattle.wtf8.proofs.Common.{append_assoc, get_or_append_left, drop-append-le, BeginsWithUnits, unit_of_two, unit_of_three, ◌-◌, ◌/◌, ◌%◌, AreAscii, take_at}
+use Rattle.wtf8.proofs.Common.{take-take, length-take-le, FirstPointIs}
+use Rattle.wtf8.proofs.lemmas.codec.Encoding.{encoding_cases}
 use native.Mathlib.Nat.{mul-suc}
 use Rattle.std.proofs.Math.Nat.{div-add-mod}
 use Rattle.std.proofs.lemmas.List.{append_cancel_right}
@@ -28,9 +28,6 @@ pub record DecodesRun (n c : ℕ) (P : ℕ → Type 0) (f : List ℕ → List �
 
 abbrev pub lead_byte : List ℕ → ℕ
 lead_byte w = get_or w 0 0
-
-pub DecodesRun-one_byte : DecodesRun 1 1 (λ b. b < 0x80) (λ w. lead_byte w ∷ []) (map_run 1 lead_byte)
-DecodesRun-one_byte = grind (arith, encoding-from_ascii_byte, get_or_append_left, units_one)
 
 pub DecodesRun-two_bytes : DecodesRun 2 1 (λ b. b / 32 ≡ 6) (λ w. unit_of_two w ∷ []) (map_run 2 unit_of_two)
 DecodesRun-two_bytes = grind (arith, get_or_append_left, encoding_cases, units_one)
@@ -66,15 +63,6 @@ units_then_rest {P} n f run rows (suc k) w b r h e long each =
           ∙ (sym (append_assoc (f b) (run k (drop n b)) later) ∙ ap (λ u. u ++ later) (sym (rows.more k b))));
     }
 
--- a decoded block has the next units, if the lead bytes of its code points satisfy `P`
-pub begins_with_run : {P : ℕ → Type 0} {c : ℕ} (n k : ℕ) (f : List ℕ → List ℕ) (run : ℕ → List ℕ → List ℕ) → DecodesRun n c P f run
-    → (w firsts block : List ℕ) → n * k ≤ length w → firsts ≡ map_run n lead_byte k (take (n * k) w) → block ≡ run k (take (n * k) w)
-    → Each1 P firsts → BeginsWithUnits w block (n * k)
-begins_with_run {P} n k f run rows w firsts block long e g each h =
-    let after = units_then_rest n f run rows k w (take (n * k) w) (drop (n * k) w) h (sym (take-append-drop (n * k) w))
-    (omega (arith, long, length-take (n * k) w)) (subst (Each1 P) e each) in
-    (after.rest, after.whole ∙ ap (λ b. b ++ units after.rest.points) (sym g))
-
 leads_front : (P : ℕ → Type 0) (n j k : ℕ) (b : List ℕ) → j ≤ k → Each1 P (map_run n lead_byte k b) → Each1 P (map_run n lead_byte j b)
 leads_front P n zero k b few each = tt
 leads_front P n (suc j) zero b few each = absurd (omega arith)
@@ -89,24 +77,23 @@ run_front {n = n} c f run rows (suc j) (suc k) b few =
     ap (take (c * suc j)) (rows.more k b) ∙ (ap (λ m. take m (f b ++ run k (drop n b))) count ∙ (take-append-add (f b) (run k (drop n b)) (c * j)
     ∙ (ap (λ u. f b ++ u) (run_front c f run rows j k (drop n b) (omega arith)) ∙ sym (rows.more j b))))
 
--- so do the first code points of a block the block's first units
+-- if the lead bytes of a block's code points satisfy `P`, the string begins with its units, and its first code points have its first units
 pub begins_with_points : {P : ℕ → Type 0} (n c k : ℕ) (f : List ℕ → List ℕ) (run : ℕ → List ℕ → List ℕ) → DecodesRun n c P f run
     → (w firsts block : List ℕ) {m : ℕ} → length block ≡ m → ((j : ℕ) → n * j ≤ n * k → (j ≤ k) × (c * j ≤ length block)) → n * k ≤ length w
     → firsts ≡ map_run n lead_byte k (take (n * k) w) → block ≡ run k (take (n * k) w) → Each1 P firsts
     → (length block ≡ m) × BeginsWithUnits w block (n * k) × BeginsWithPoints w block (n * k) n c
-begins_with_points {P} n c k f run rows w firsts block count few long e g each = (
-  count,
-  begins_with_run n k f run rows w firsts block long e g each,
-  λ j within. (
-    length-take-le (c * j) block (few j within).1,
-    λ h.
-        let front = take (n * k) w in
-        let own : run j front ≡ take (c * j) block = sym (ap (take (c * j)) g ∙ run_front c f run rows j k front (few j within).0) in
-        let after = units_then_rest n f run rows j w front (drop (n * k) w) h (sym (take-append-drop (n * k) w))
-        (omega (arith, long, within, length-take (n * k) w)) (leads_front P n j k front (few j within).0 (subst (Each1 P) e each)) in
-        (after.rest, after.whole ∙ ap (λ b. b ++ units after.rest.points) own),
-  ),
-)
+begins_with_points {P} n c k f run rows w firsts block count few long e g each =
+    let front = take (n * k) w in
+    let points : BeginsWithPoints w block (n * k) n c = λ j within. (
+      length-take-le (c * j) block (few j within).1,
+      λ h.
+          let own : run j front ≡ take (c * j) block = sym (ap (take (c * j)) g ∙ run_front c f run rows j k front (few j within).0) in
+          let after = units_then_rest n f run rows j w front (drop (n * k) w) h (sym (take-append-drop (n * k) w))
+          (omega (arith, long, within, length-take (n * k) w)) (leads_front P n j k front (few j within).0 (subst (Each1 P) e each)) in
+          (after.rest, after.whole ∙ ap (λ b. b ++ units after.rest.points) own),
+    ) in
+    let all : take (c * k) block ≡ block = ap (take (c * k)) g ∙ (run_front c f run rows k k front (omega arith) ∙ sym g) in
+    (count, subst (λ u. BeginsWithUnits w u (n * k)) all (points k (omega arith)).1, points)
 
 -- the string after the first `d` bytes of a block, which are whole code points, has the units after the block's first ones
 pub after_points : (w v b : List ℕ) (most n c d : ℕ) → BeginsWithPoints w v most n c → d ≤ most → d % n ≡ 0 → b ≡ drop d w
@@ -131,18 +118,21 @@ written_again x a f q r u v at within written back again =
     let whole = ap (λ u. u ++ v) kept ∙ (ap (λ v. front ++ v) again ∙ (sym (append_assoc front q r) ∙ ap (λ u. u ++ r) (sym own))) in
     (omega (arith, count), whole, omega (arith, count, ap length again, length-append q r))
 
--- ASCII bytes are their own lead bytes and units
-one_byte_run : (w : List ℕ) → w ≡ map_run 1 lead_byte (length w) w
-one_byte_run [] = refl
-one_byte_run (b ∷ w) = ap (λ v. b ∷ v) (one_byte_run w)
+-- the units of the first code point are the next ones
+pub begins_with_first : (w v : List ℕ) (p n : ℕ) → 0 < length w → FirstPointIs w p n → units_of p ≡ v → BeginsWithUnits w v n
+begins_with_first w v p n some read own h =
+    let first = first_of h some in
+    let is = read first.0 in (
+      IsWellFormed-equal_bytes first.1.rest (ap (λ m. drop m w) is.1),
+      ap units first.1.joined ∙ ap (λ u. u ++ units first.1.rest.points) (ap units_of (sym is.0) ∙ own),
+    )
 
--- ASCII bytes at the front are the next units
+-- so are ASCII bytes at the front
 pub begins_with_ascii : (w v : List ℕ) (n : ℕ) → n ≤ length w → v ≡ take n w → AreAscii v → BeginsWithUnits w v n
-begins_with_ascii w v n within same ascii =
-    let one : 1 * n ≡ n = omega arith in
-    let front : v ≡ take (1 * n) w = same ∙ ap (λ m. take m w) (sym one) in
-    let long : length (take (1 * n) w) ≡ n = omega (arith, length-take (1 * n) w, within) in
-    let own : take (1 * n) w ≡ map_run 1 lead_byte n (take (1 * n) w) =
-    one_byte_run (take (1 * n) w) ∙ ap (λ m. map_run 1 lead_byte m (take (1 * n) w)) long in
-    subst (BeginsWithUnits w v) one (begins_with_run 1 n (λ w. lead_byte w ∷ []) (map_run 1 lead_byte) DecodesRun-one_byte w (take (1 * n) w) v
-    (omega (arith, one, within)) own (front ∙ own) (subst AreAscii front ascii))
+begins_with_ascii w v zero within same ascii h = (h, ap (λ v. v ++ units h.points) (sym same))
+begins_with_ascii [] v (suc n) within same ascii h = absurd (omega (arith, within))
+begins_with_ascii (a ∷ w) v (suc n) within same ascii h =
+    let low = subst AreAscii same ascii in
+    let first = begins_with_first (a ∷ w) (a ∷ []) a 1 (omega arith) (λ b. let one = b.by_lead.one low.0 in (sym one.0, sym one.1)) (units_one a (omega (arith, low.0))) h in
+    let more = begins_with_ascii w (take n w) n (omega (arith, within)) refl low.1 first.0 in
+    (more.0, first.1 ∙ (ap (λ u. a ∷ u) more.1 ∙ ap (λ v. v ++ units more.0.points) (sym same)))

@@ -7,7 +7,7 @@ use Rattle.std.specs.List.{range_with_len}
 use lib.Lanes.{pick_l, digits_l, number_l}
 use Rattle.wtf8.specs.private.EncodedBytes.{map_run, lead_of_four, trail_of_four, pairs_of_fours}
 use Rattle.wtf8.specs.private.UnitEnds.{words}
-use Rattle.wtf8.proofs.lemmas.lanes.AsciiFronts.{Each1-map_all}
+use Rattle.wtf8.proofs.lemmas.lanes.AsciiFronts.{Each1-drop, Each1-map_all}
 use Rattle.wtf8.proofs.lemmas.units.PackedWords.{digits_l-words, lane_below}
 use Rattle.wtf8.proofs.lemmas.units.UnitLanes.{of_32}
 
@@ -146,11 +146,6 @@ firsts-run (suc k) v = let here : first_word v ≡ 257 * get_or v 0 0 = omega ar
 picked_below : (u v js : List ℕ) → Each1 (Fits w8) u → Each1 (Fits w8) v → Each1 (λ b. b < 256) (pick_l 0 (u ++ v) js)
 picked_below u v js e f = Each1-map_all (λ b. b < 256) (λ j. get_or (u ++ v) j 0) (get_or_below u v e f) js
 
-Each1-drop : (n : ℕ) (v : List ℕ) → Each1 (Fits w8) v → Each1 (Fits w8) (drop n v)
-Each1-drop zero v e = e
-Each1-drop (suc n) [] e = tt
-Each1-drop (suc n) (x ∷ v) e = Each1-drop n v e.1
-
 pub words-threes : (u v : List ℕ) → length u ≡ 16 → length v ≡ 16 → Each1 (Fits w8) u → Each1 (Fits w8) v
     → let firsts = digits_l 65536 8 (number_l 256 (firsts_picked u v)) in
     let others = digits_l 65536 8 (number_l 256 (others_picked u v)) in
@@ -161,7 +156,7 @@ words-threes u v l m e f =
     let others = digits_l-words 8 (others_picked u v) refl (picked_below u v other_lanes e f) ∙ words-others u v l m in (
       firsts ∙ firsts-run 8 (u ++ drop 8 v),
       (λ i. units_of_threes 8 (firsts i) (others i))
-          ∙ units_of_threes-run 8 (u ++ drop 8 v) (get_or_below u (drop 8 v) e (Each1-drop 8 v f)),
+          ∙ units_of_threes-run 8 (u ++ drop 8 v) (get_or_below u (drop 8 v) e (Each1-drop (Fits w8) 8 v f)),
     )
 
 -- lead bytes that are doubled

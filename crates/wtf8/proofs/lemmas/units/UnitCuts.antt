@@ -1,11 +1,10 @@
 -- Strings cut at a number of units, also inside a surrogate pair, and the iterator's state inside a pair.
-use Rattle.wtf8.proofs.Common.{BeginsWithPoint, ◌≡◌, ℕ, zero, suc, ◌+◌, ◌≤◌, List, [], ◌∷◌, ◌++◌, length, take, drop, None, Some, refl, sym}
-use Rattle.wtf8.proofs.Common.{ap, ◌∙◌, subst, arith, length-append, append_assoc, take_at, drop_at, slice_get, IsCodePoint, units, IsClean}
-use Rattle.wtf8.proofs.Common.{bytes, encoding, IsWellFormed, ◌<◌, ◌↔◌, inl, inr, Option, get_or, same_from_push}
-use Rattle.wtf8.proofs.Common.{take-append-drop, length-drop, Reads, true, false, ◌/◌, ◌%◌, lt-ltb, le-ltb, drop-drop, append-nil, IsLead}
-use Rattle.wtf8.proofs.Common.{units_of, trail_from_bytes, held_trail, after_held_trail, length-take-le, take-append-add}
-use Rattle.wtf8.proofs.Common.{drop-append-add, option_to_list, IsSome, StepsUnit, DividesPair, is_continuation}
-use Rattle.wtf8.proofs.Common.{cases_lt, FirstPointIs, IsCursorOfUnit, UnitCursor, take_all, sum_utf16_len}
+use Rattle.wtf8.proofs.Common.{BeginsWithPoint, ◌≡◌, ℕ, zero, suc, ◌+◌, ◌≤◌, List, [], ◌∷◌, ◌++◌, length, take, drop, None, Some, refl, sym, ap, ◌∙◌, subst, arith}
+use Rattle.wtf8.proofs.Common.{length-append, append_assoc, take_at, drop_at, slice_get, IsCodePoint, units, IsClean, bytes, encoding, IsWellFormed, ◌<◌, ◌↔◌, inl}
+use Rattle.wtf8.proofs.Common.{inr, Option, get_or, same_from_push, take-append-drop, length-drop, Reads, true, false, ◌/◌, ◌%◌, lt-ltb, le-ltb, drop-drop}
+use Rattle.wtf8.proofs.Common.{append-nil, IsLead, units_of, trail_from_bytes, held_trail, after_held_trail, length-take-le, take-append-add, drop-append-add}
+use Rattle.wtf8.proofs.Common.{option_to_list, IsSome, StepsUnit, DividesPair, is_continuation, cases_lt, FirstPointIs, IsCursorOfUnit, UnitCursor, take_all}
+use Rattle.wtf8.proofs.Common.{sum_utf16_len}
 use Rattle.wtf8.proofs.lemmas.codec.Encoding.{encoding_four, bytes-append, bytes-pushed, Begins}
 use Rattle.wtf8.proofs.lemmas.codec.Encoding.{first-encoding, begins_with, BeginsWithPoint-equal_bytes}
 use Rattle.wtf8.proofs.lemmas.codec.Readings.{clean-first, clean-front, clean-back, clean-append, clean-unpaired, unpaired-before_no_trail}

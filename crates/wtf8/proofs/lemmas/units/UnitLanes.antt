@@ -6,9 +6,8 @@ use Rattle.wtf8.proofs.Common.{tops_compared, eqb, eqb-true, IsTrue}
 use Rattle.std.proofs.lemmas.Simd.{zip2_splat_left}
 use lib.Lanes.{pick_l}
 use Rattle.std.specs.List.{range_with_len}
-use Rattle.wtf8.specs.private.UnitEnds.{by_position, bytes_one_before, bytes_two_before, low_byte, high_of_two}
-use Rattle.wtf8.specs.private.UnitEnds.{high_byte, low_of_any, high_of_any}
-use Rattle.wtf8.specs.private.UnitEnds.{ends_in_block, set_lanes, words, joined_words}
+use Rattle.wtf8.specs.private.UnitEnds.{by_position, bytes_one_before, bytes_two_before, low_byte, high_of_two, high_byte, low_of_any, high_of_any, ends_in_block}
+use Rattle.wtf8.specs.private.UnitEnds.{set_lanes, words, joined_words}
 
 -- The bytes before each byte.
 

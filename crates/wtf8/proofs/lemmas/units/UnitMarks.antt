@@ -1,14 +1,11 @@
 -- Marks: byte positions with the number of units before them.
-use Rattle.wtf8.proofs.Common.{◌≡◌, ◌+◌, ◌<◌, ◌≤◌, ℕ, List, [], ◌∷◌, ◌++◌, length, take, refl, sym, ap, ◌∙◌, subst, arith, well_formed_of}
-use Rattle.wtf8.proofs.Common.{length-append, append_assoc, take-append-drop, bytes-injective, units, bytes}
-use Rattle.wtf8.proofs.Common.{◌*◌, append-nil, encoding, form_of, Splits, IsWellFormed, IsForm, UnitCursor, glue, ◌-◌, drop}
-use Rattle.wtf8.proofs.Common.{length-take-le, AreAscii}
-use Rattle.wtf8.proofs.Common.{take_all, length-drop, get_or, IsLead, IsTrail, IsBoundary, IsMiddle, IsFront, inl, inr, cases_lt, take_at}
-use Rattle.wtf8.proofs.Common.{drop_at, drop-append-le, All, IsUnit, MeetsAsPair, get_or-append_seam, DividesPair}
+use Rattle.wtf8.proofs.Common.{◌≡◌, ◌+◌, ◌<◌, ◌≤◌, ℕ, List, [], ◌∷◌, ◌++◌, length, take, refl, sym, ap, ◌∙◌, subst, arith, well_formed_of, length-append}
+use Rattle.wtf8.proofs.Common.{append_assoc, take-append-drop, bytes-injective, units, bytes, ◌*◌, append-nil, encoding, form_of, Splits, IsWellFormed, IsForm}
+use Rattle.wtf8.proofs.Common.{UnitCursor, glue, ◌-◌, drop, length-take-le, AreAscii, take_all, length-drop, get_or, IsLead, IsTrail, IsBoundary, IsMiddle, IsFront}
+use Rattle.wtf8.proofs.Common.{inl, inr, cases_lt, take_at, drop_at, drop-append-le, All, IsUnit, MeetsAsPair, get_or-append_seam, DividesPair}
 use Rattle.std.proofs.lemmas.List.{take-append-le}
 use Rattle.wtf8.specs.PositionLaws.{EqualBoundariesHaveEqualFronts, BoundariesAreInOneOrder, BoundariesDivideNoPair}
-use Rattle.wtf8.specs.UnitMark.{IsMark, RoundsDownTo, EqualCountsAreMarks, MarksStay, MarksDivideNoPair, EqualMarksHaveEqualUnits}
-use Rattle.wtf8.specs.UnitMark.{MarksAreInOneOrder}
+use Rattle.wtf8.specs.UnitMark.{IsMark, RoundsDownTo, EqualCountsAreMarks, MarksStay, MarksDivideNoPair, EqualMarksHaveEqualUnits, MarksAreInOneOrder}
 use Rattle.wtf8.specs.UnitMark.{MarksAreFoundAgain, BoundariesAreMarks, MarksStayInFront}
 use Rattle.wtf8.proofs.lemmas.codec.Encoding.{bytes-append, bytes-pushed, encoding_cases}
 use Rattle.wtf8.proofs.lemmas.codec.Readings.{units-append, units-pushed, lists_have_lengths, units_one, units_two, same_form}

@@ -1,7 +1,6 @@
-use Rattle.wtf8.proofs.Common.{◌≡◌, ◌≤◌, ◌++◌, false≢true, ◌∙◌, [], append-nil, ap, arith, iter_rest, iter_steps, copied_steps, sym}
-use Rattle.wtf8.proofs.Common.{subst, refl}
-use Rattle.wtf8.proofs.Common.{decode_steps, IsCodePoint, IsSurrogate, MatchResult, AreScalar, map-append, ◌∷◌, map, point_of_item, length}
-use Rattle.wtf8.proofs.Common.{encoding, bytes, HasRoomFrom, vec_capacity, ℕ}
+use Rattle.wtf8.proofs.Common.{◌≡◌, ◌≤◌, ◌++◌, false≢true, ◌∙◌, [], append-nil, ap, arith, iter_rest, iter_steps, copied_steps, sym, subst, refl, decode_steps}
+use Rattle.wtf8.proofs.Common.{IsCodePoint, IsSurrogate, MatchResult, AreScalar, map-append, ◌∷◌, map, point_of_item, length, encoding, bytes, HasRoomFrom}
+use Rattle.wtf8.proofs.Common.{vec_capacity, ℕ}
 use Rattle.std.specs.Iterator.{Yields}
 use Rattle.std.specs.Iterator.Adapters.{copied_source}
 use Rattle.wtf8.proofs.lemmas.codec.Scalars.{scalar-append}

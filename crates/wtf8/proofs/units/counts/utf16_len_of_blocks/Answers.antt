@@ -1,6 +1,5 @@
-use Rattle.wtf8.proofs.Common.{◌≡◌, ℕ, ◌+◌, ◌*◌, ◌≤◌, List, map, length, Fits, w8, w16, ap, sym, ◌∙◌, subst, arith, length-map, map-id}
-use Rattle.wtf8.proofs.Common.{Each1-weaker, length-chunk, length-zip2, fold-sum, sum_utf16_len, utf16_len, chunk, zip2, Each1, Each2}
-use Rattle.wtf8.proofs.Common.{fold_l, sum_l}
+use Rattle.wtf8.proofs.Common.{◌≡◌, ℕ, ◌+◌, ◌*◌, ◌≤◌, List, map, length, Fits, w8, w16, ap, sym, ◌∙◌, subst, arith, length-map, map-id, Each1-weaker, length-chunk}
+use Rattle.wtf8.proofs.Common.{length-zip2, fold-sum, sum_utf16_len, utf16_len, chunk, zip2, Each1, Each2, fold_l, sum_l}
 use lib.Lanes.{Steps}
 use Rattle.wtf8.proofs.lemmas.lanes.UnitCounts.{lanes_fit_more, lanes_grow, sums_grow, sum_fits_two_bytes}
 use Rattle.wtf8.proofs.lemmas.strings.Positions.{sum_utf16_len-chunk_add}

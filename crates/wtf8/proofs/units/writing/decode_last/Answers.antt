@@ -1,15 +1,10 @@
-use Rattle.wtf8.proofs.Common.{◌≡◌, ℕ, zero, suc, List, [], ◌∷◌, ◌-◌, ◌∙◌, ◌≤◌, ap, arith, length, length-drop, replicate, subst, sym, take, take_all, take_at}
-use Rattle.wtf8.proofs.Common.{AreAscii}
+use Rattle.wtf8.proofs.Common.{◌≡◌, ◌<◌, ◌-◌, ◌∙◌, ◌≤◌, ap, arith, length, length-drop, replicate, subst, sym, take, take_all, take_at, AreAscii}
 use Rattle.std.proofs.lemmas.List.{nil_from_length}
+use Rattle.wtf8.proofs.lemmas.lanes.AsciiFronts.{Each1-take}
 use Rattle.wtf8.proofs.lemmas.codec.Readings.{lists_have_lengths}
 use Rattle.wtf8.proofs.lemmas.units.Blocks.{begins_with_ascii}
 use Rattle.wtf8.proofs.lemmas.units.UnitEnds.{IsBlock-padded}
 use Rattle.wtf8.proofs.units.writing.decode_last.Goals as goal
-
-ascii_take : (n : ℕ) (u : List ℕ) → AreAscii u → AreAscii (take n u)
-ascii_take zero u h = tt
-ascii_take (suc n) [] h = tt
-ascii_take (suc n) (b ∷ u) h = (h.0, ascii_take n u h.1)
 
 pub write_front-requires : goal.write_front-requires
 write_front-requires c =
@@ -19,7 +14,7 @@ write_front-requires c =
     let block = c.widen.ensures ∙ c.padded-block.ensures in
     let front : take n c.widen.result ≡ take n w =
     ap (take n) block ∙ (take_at w (replicate (32 - length w) 0) n (sym count) ∙ sym (take_all n w (omega (arith, count)))) in
-    let ascii = ascii_take n c.widen.result (subst AreAscii (sym c.widen.ensures) (c.is_ascii_block.ensures c.if-is_ascii_block.true)) in
+    let ascii = Each1-take (λ b. b < 0x80) n c.widen.result (subst AreAscii (sym c.widen.ensures) (c.is_ascii_block.ensures c.if-is_ascii_block.true)) in
     let begins = begins_with_ascii w (take n c.widen.result) n (omega (arith, count)) front ascii in
     let few : n ≤ 32 = omega (arith, count, c.requires.few) in
     (omega arith, (omega arith, (omega (arith, c.requires.room), ((few, omega (arith, count)), begins))))

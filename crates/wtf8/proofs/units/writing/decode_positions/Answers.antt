@@ -46,16 +46,14 @@ overflow_sub-at c =
 
 pub overflow_sub-width-2 : goal.overflow_sub-width-2
 overflow_sub-width-2 c =
-    let view = c.args.left.view in
     let known = knows_width c.args.bytes _ c.fits-bytes.0 c.unit_ends-block.ensures.ends in
-    let own = holds_units view.bytes.now c.args.bytes c.args.padding c.requires.block view.well_formed in
+    let own = holds_units c.args.left.view.bytes.now c.args.bytes c.args.padding c.requires.block c.args.left.view.well_formed in
     omega (arith, known.same, own.width)
 
 pub skip_bytes-requires-clause-within : goal.skip_bytes-requires-clause-within
 skip_bytes-requires-clause-within c =
-    let view = c.args.left.view in
     let known = knows_width c.args.bytes _ c.fits-bytes.0 c.unit_ends-block.ensures.ends in
-    let own = holds_units view.bytes.now c.args.bytes c.args.padding c.requires.block view.well_formed in
+    let own = holds_units c.args.left.view.bytes.now c.args.bytes c.args.padding c.requires.block c.args.left.view.well_formed in
     omega (arith, known.same, own.within)
 
 pub skip_bytes-requires-clause-well_formed : goal.skip_bytes-requires-clause-well_formed

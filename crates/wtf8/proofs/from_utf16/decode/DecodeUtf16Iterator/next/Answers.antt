@@ -1,5 +1,4 @@
-use Rattle.wtf8.proofs.Common.{◌<◌, rules, refl, inl, inr, sym, subst, arith, Some, peekable_steps, peekable_peeked, IsLead}
-use Rattle.wtf8.proofs.Common.{IsTrail, true≢false}
+use Rattle.wtf8.proofs.Common.{◌<◌, rules, refl, inl, inr, sym, subst, arith, Some, peekable_steps, peekable_peeked, IsLead, IsTrail, true≢false}
 use Rattle.wtf8.proofs.lemmas.codec.Readings.{units_one, units_pair}
 use Rattle.wtf8.proofs.lemmas.from_utf16.Decoding.{item_of_unit, peeked_no_trail}
 use Rattle.wtf8.proofs.from_utf16.decode.DecodeUtf16Iterator.next.Goals as goal
