@@ -36,11 +36,13 @@ REASONS = {
     "eq": "vectors",
     "cmp": "vectors",
     "as_str": "a surrogate at the front",
+    "to_string_lossy": "a surrogate at the front",
     "clone": "allocation",
     "sort": "sorts and maps",
     "BTreeMap": "sorts and maps",
     "write_units": "short copies",
     "IndexedBuf": "short copies",
+    "unit_at": "short copies",
 }
 
 
