@@ -164,10 +164,19 @@ class Item:
     def __repr__(self):
         return f"{self.path}:{self.head + 1} {self.owner or ''} {self.name}"
 
+    def has_in_body(self, at, was, line):
+        """Whether a line of it is of its body, or becomes so by what a new line adds after the brace that opens that."""
+        return self.body is not None and self.body <= at or at == self.head and was.endswith("{") and line.startswith(was)
+
 
 FUNCTION = re.compile(r"( *)(?:pub(?:\([^)]*\))? )?(?:const )?(?:unsafe )?(?:extern \"C\" )?fn (\w+)")
 CONSTANT = re.compile(r"( *)(?:pub(?:\([^)]*\))? )?(?:const|static) (\w+):")
 IMPL = re.compile(r"(?:unsafe )?impl\b(.*)")
+
+
+def item_at(items, at):
+    """Returns the function or the constant of a source that a line is of, or None."""
+    return next((item for item in reversed(items) if item.head <= at <= item.end), None)
 
 
 def without_generics(text):
