@@ -43,8 +43,8 @@ extern "C" {
 #endif
 
 /* The version of this header, also as 10,000, 100 and 1 times its numbers, for #if. wtf8_version() is that of the library. */
-#define WTF8_VERSION "0.2.0"
-#define WTF8_VERSION_NUMBER 200
+#define WTF8_VERSION "0.3.0"
+#define WTF8_VERSION_NUMBER 300
 
 /* A compiler that knows the attribute warns of a call whose code is not used. */
 #ifdef __GNUC__
