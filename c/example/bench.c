@@ -112,8 +112,8 @@ int main(void) {
         printf("\n%-9s", TEXTS[t].name);
         for (int c = 0; c < CALL_COUNT; c++) {
             if (CALLS[c].call == take_utf8 && !wtf8_is_utf8(&string)) printf("%12s", "no UTF-8");
-            else printf(CALLS[c].plain ? "%7.2f" : "%12.2f", time_of(CALLS[c].call) / CALLS[c].n);
-            if (CALLS[c].plain) printf("%5.2f", time_of(CALLS[c].plain) / CALLS[c].n);
+            else printf(CALLS[c].plain ? " %6.2f" : " %11.2f", time_of(CALLS[c].call) / CALLS[c].n);
+            if (CALLS[c].plain) printf(" %4.2f", time_of(CALLS[c].plain) / CALLS[c].n);
         }
     }
     printf("\n");
