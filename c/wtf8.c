@@ -383,17 +383,10 @@ wtf8_result wtf8_push_slice(wtf8_string *string, const wtf8_string *other, size_
 }
 
 wtf8_result wtf8_insert(wtf8_string *string, size_t index, const wtf8_string *other) {
-    wtf8_string second;
-    handle changed = opened(string);
-    if (string != other) {
-        handle copy = asked(other, &second);
-        return PROVED(insert)(&changed, index, &copy);
-    }
-    handle made = {&second};
-    wtf8_result code = copy_to(&made, &changed);
-    if (code == WTF8_OK) code = PROVED(insert)(&changed, index, &made);
-    PROVED(free)(&made);
-    return code;
+    wtf8_string empty;
+    if (string == other) return wtf8_replace(string, index, index, other);
+    handle changed = opened(string), copy = asked(other, &empty);
+    return PROVED(insert)(&changed, index, &copy);
 }
 
 wtf8_result wtf8_replace(wtf8_string *string, size_t begin, size_t end, const wtf8_string *other) {
@@ -403,6 +396,7 @@ wtf8_result wtf8_replace(wtf8_string *string, size_t begin, size_t end, const wt
         handle copy = asked(other, &second);
         return PROVED(replace)(&changed, begin, end, &copy);
     }
+    if (end < begin || PROVED(unit_len)(&changed) < end) return WTF8_BAD_POSITION;
     handle made = {&second};
     wtf8_result code = copy_to(&made, &changed);
     if (code == WTF8_OK) code = PROVED(replace)(&changed, begin, end, &made);
@@ -616,19 +610,14 @@ bool wtf8_divides_pair(const wtf8_string *string, size_t index) {
 }
 
 wtf8_result wtf8_slice_units(wtf8_string *into, const wtf8_string *string, size_t begin, size_t end) {
-    wtf8_string part;
+    wtf8_string empty;
     handle changed = opened(into);
     if (string != into) {
-        handle copy = asked(string, &part);
+        handle copy = asked(string, &empty);
         return PROVED(slice_units)(&changed, &copy, begin, end);
     }
-    init(&part);
-    handle made = {&part};
-    wtf8_result code = PROVED(slice_units)(&made, &changed, begin, end);
-    if (code != WTF8_OK) return code;
-    PROVED(free)(&changed);
-    *into = part;
-    return code;
+    if (end < begin || PROVED(truncate_units)(&changed, end) != WTF8_OK) return WTF8_BAD_POSITION;
+    return PROVED(remove_units)(&changed, 0, begin);
 }
 
 wtf8_result wtf8_copy_units(const wtf8_string *string, uint16_t *out, size_t size, size_t *len) {

@@ -2230,12 +2230,89 @@ static void parts_of_itself(void) {
                  : way == 1 ? wtf8_push_slice(&string, &string, BEGIN, END)
                             : wtf8_slice_units(&string, &string, BEGIN, END);
             refuse_after = -1;
-            must(code == WTF8_NO_MEMORY || (code == WTF8_OK && granted_first == (way < 2 ? 2 : 1)), "the requests for its own units");
+            must(code == WTF8_NO_MEMORY || (code == WTF8_OK && granted_first == (way < 2 ? 2 : 0)), "the requests for its own units");
             size_t n = code != WTF8_OK ? LONG : way == 0 ? 2 * LONG : way == 1 ? LONG + END - BEGIN : END - BEGIN;
             must(wtf8_equal_utf8(&string, letters, n) && blocks == before, "a string with its own units");
             wtf8_free(&string);
         }
     }
+}
+
+/* A string that a call is given twice. */
+static struct pair own;
+
+/* Sets the string to `n` units of its pair, with room for as many bytes again, without spare capacity, or full and marked. */
+static void make_own(size_t n, uint32_t kind) {
+    own.n = n;
+    must(wtf8_set_units(&own.string, own.units, n) == WTF8_OK, "a string that is given twice");
+    if (kind > 0) wtf8_shrink(&own.string);
+    else must(wtf8_reserve_bytes(&own.string, wtf8_byte_len(&own.string)) == WTF8_OK, "room for its bytes");
+    if (kind > 1) wtf8_mark(&own.string);
+}
+
+/* What a call that changes a string by itself returns, while requests are refused, and what is left: the units from `begin`
+ * to before `end` replaced by its own from `from` to before `to`, unless an index is bad or a request was refused. */
+static void must_change(wtf8_result code, bool is_good, long refused, size_t begin, size_t end, size_t from, size_t to) {
+    static struct pair changed;
+    refuse_after = -1;
+    must(is_good || code == WTF8_BAD_POSITION, "a bad index of a string that is given twice");
+    must(!is_good || code == WTF8_OK || (code == WTF8_NO_MEMORY && refused < refusals), "a string that is given twice");
+    memcpy(changed.units, own.units, 2 * own.n);
+    changed.n = own.n;
+    if (code == WTF8_OK) splice(&changed, begin, end, own.units + from, to - from);
+    must_have(&own.string, changed.units, changed.n, "the units of a string that was given twice");
+}
+
+/* Each call that takes two strings is given one twice, with each index, also after the end, and with requests granted and
+ * refused: a bad index is named before memory is requested, and what asks or cuts requests none. */
+static void one_string_twice(void) {
+    static const uint16_t kinds[] = {'a', 0xDCA9, 0xE9, 0x4E2D, 0xD83D, 0xDCA9, 0xD83D};
+    static const size_t lengths[] = {0, 1, 2, 7, 150};
+    enum { WAYS = 5, INDEXES = 7, LENGTHS = sizeof lengths / sizeof lengths[0] };
+    for (size_t k = 0; k < LENGTHS * 3 * INDEXES * INDEXES * 4; k++) {
+        size_t n = lengths[k % LENGTHS], indexes[] = {0, 1, n / 2, n - 1, n, n + 1, SIZE_MAX};
+        uint32_t kind = (uint32_t)(k / LENGTHS % 3);
+        size_t begin = indexes[k / LENGTHS / 3 % INDEXES], end = indexes[k / LENGTHS / 3 / INDEXES % INDEXES];
+        long granted_first = (long)(k / LENGTHS / 3 / INDEXES / INDEXES) - 1;
+        bool is_part = begin <= end && end <= n;
+        wtf8_string *s = &own.string;
+        for (size_t i = 0; i < n; i++) own.units[i] = kinds[i % (sizeof kinds / sizeof kinds[0])];
+        for (int way = 0; way < WAYS; way++) {
+            make_own(n, kind);
+            long requested = requests, refused = refusals, held = blocks;
+            size_t capacity = wtf8_capacity(s);
+            refuse_after = granted_first;
+            switch (way) {
+                case 0: must_change(wtf8_push_string(s, s), true, refused, n, n, 0, n); break;
+                case 1: must_change(wtf8_push_slice(s, s, begin, end), is_part, refused, n, n, begin, end); break;
+                case 2: must_change(wtf8_insert(s, begin, s), begin <= n, refused, begin, begin, 0, n); break;
+                case 3: must_change(wtf8_replace(s, begin, end, s), is_part, refused, begin, end, 0, n); break;
+                default: must_change(wtf8_slice_units(s, s, begin, end), is_part, refused, 0, n, begin, end); break;
+            }
+            bool is_bad = way == 2 ? n < begin : way != 0 && !is_part;
+            must(!is_bad || requests == requested, "a bad index that is looked at after memory is requested");
+            must(way < 4 || wtf8_capacity(s) == capacity, "the capacity of a slice of itself");
+            must(way < 4 || kind > 1 || requests == requested, "a slice of itself that requests memory");
+            must(kind > 1 || blocks == held, "the copy of a string that was given twice is freed");
+            must(n > 0 || requests == requested, "no units that request memory");
+        }
+        make_own(n, kind);
+        long requested = requests;
+        refuse_after = granted_first;
+        must(wtf8_set_string(s, s) == WTF8_OK, "a string that is set to itself");
+        wtf8_move(s, s);
+        must(wtf8_equal(s, s) && wtf8_compare_units(s, s) == 0 && wtf8_compare_code_points(s, s) == 0, "a string and itself");
+        must(wtf8_starts_with(s, begin, s) == (begin == 0 || n == 0), "a string that begins with itself");
+        for (int is_last = 0; is_last <= 1; is_last++) {
+            size_t index = 77;
+            wtf8_result code = is_last ? wtf8_rfind(s, begin, s, &index) : wtf8_find(s, begin, s, &index);
+            must(is_found(&own, begin, own.units, n, is_last, code, index), "a string that is found in itself");
+        }
+        refuse_after = -1;
+        must(requests == requested, "a question of a string and itself that requests memory");
+        must_have(s, own.units, n, "a string that was asked twice");
+    }
+    wtf8_free(&own.string);
 }
 
 /* A trail and units after it are pushed to a string that ends with its lead, and do not fit, however much room there is: the
@@ -2411,6 +2488,7 @@ int main(void) {
     latin1_requests();
     marks_of_others();
     parts_of_itself();
+    one_string_twice();
     refused_after_leads();
     far_lens();
     memory_with_context();

@@ -415,7 +415,7 @@ static void step(enum call call, struct pair *p, struct pair *q) {
             size_t before = byte_len(p), after = byte_len(&asked);
             needs_none = p != q && in_range && refuse_if_fits(p, before < after ? after - before : 0);
             code = a == b && below(2) ? wtf8_insert(&p->string, a, &q->string) : wtf8_replace(&p->string, a, b, &q->string);
-            must(code == WTF8_NO_MEMORY || (code == WTF8_BAD_POSITION) == !in_range, "insert, replace");
+            must((code == WTF8_BAD_POSITION) == !in_range, "insert, replace");
             if (code == WTF8_OK) replace(p, asked.units, asked.n);
             break;
         }
@@ -460,8 +460,12 @@ static void step(enum call call, struct pair *p, struct pair *q) {
         }
         case SLICE: {
             size_t a = below((uint32_t)p->n + 2), b = an_index(p->n);
+            int in_range = a <= b && b <= p->n;
+            needs_none = p == q && in_range;
+            if (p == q && below(2)) refuse_after = 0;
             code = wtf8_slice_units(&q->string, &p->string, a, b);
-            must((code == WTF8_BAD_POSITION) == !(a <= b && b <= p->n), "slice_units");
+            must((code == WTF8_BAD_POSITION) == !in_range, "slice_units");
+            must(p != q || wtf8_capacity(&p->string) == capacity, "the capacity of a string that is cut to a slice of itself");
             if (code == WTF8_OK) replace(q, p->units + a, b - a);
             break;
         }
