@@ -151,13 +151,42 @@ typedef struct {
     void (*release)(void *);
 } plain_memory;
 
-/* What wtf8_use_memory was given, what wtf8_use_memory_with was given, and what requests call: one of them. */
-static plain_memory plain = {malloc, realloc, free};
-static wtf8_memory with_context;
+/* The sets of functions that wtf8_use_memory was given, each once, after those of the start. No set is overwritten, so that
+ * the functions that call it go on doing so. */
+enum { SETS = 8 };
+static plain_memory sets[SETS] = {{malloc, realloc, free}};
+
+/* Defines the functions that call a set, and take no heed of a context. */
+#define DEFINE_CALLS(set)                                                                          \
+    static void *allocate_##set(void *context, size_t n) {                                         \
+        (void)context;                                                                             \
+        return sets[set].allocate(n);                                                              \
+    }                                                                                              \
+    static void *reallocate_##set(void *context, void *block, size_t n) {                          \
+        (void)context;                                                                             \
+        return sets[set].reallocate(block, n);                                                     \
+    }                                                                                              \
+    static void release_##set(void *context, void *block) {                                        \
+        (void)context;                                                                             \
+        sets[set].release(block);                                                                  \
+    }
+#define CALLS(set) {allocate_##set, reallocate_##set, release_##set, NULL}
+DEFINE_CALLS(0)
+DEFINE_CALLS(1)
+DEFINE_CALLS(2)
+DEFINE_CALLS(3)
+DEFINE_CALLS(4)
+DEFINE_CALLS(5)
+DEFINE_CALLS(6)
+DEFINE_CALLS(7)
+static const wtf8_memory calls[SETS] = {CALLS(0), CALLS(1), CALLS(2), CALLS(3), CALLS(4), CALLS(5), CALLS(6), CALLS(7)};
+
+/* What wtf8_memory_in_use returns, and what requests call. */
+static wtf8_memory in_use = CALLS(0);
 static plain_memory memory = {malloc, realloc, free};
 
 static void *allocate_with_context(size_t n) {
-    return with_context.allocate(with_context.context, n);
+    return in_use.allocate(in_use.context, n);
 }
 
 static void *reallocate_with_context(void *block, size_t n) {
@@ -165,37 +194,30 @@ static void *reallocate_with_context(void *block, size_t n) {
 }
 
 static void release_with_context(void *block) {
-    with_context.release(with_context.context, block);
+    in_use.release(in_use.context, block);
 }
 
-static void *allocate_plainly(void *context, size_t n) {
-    (void)context;
-    return plain.allocate(n);
-}
-
-static void *reallocate_plainly(void *context, void *block, size_t n) {
-    (void)context;
-    return plain.reallocate(block, n);
-}
-
-static void release_plainly(void *context, void *block) {
-    (void)context;
-    plain.release(block);
+static bool is_set(plain_memory set, plain_memory given) {
+    return set.allocate == given.allocate && set.reallocate == given.reallocate && set.release == given.release;
 }
 
 void wtf8_use_memory(void *(*allocate)(size_t), void *(*reallocate)(void *, size_t), void (*release)(void *)) {
-    plain = (plain_memory){allocate, reallocate, release};
-    memory = plain;
+    size_t i = 0;
+    memory = (plain_memory){allocate, reallocate, release};
+    in_use = (wtf8_memory){NULL, NULL, NULL, NULL};
+    while (i < SETS && sets[i].allocate && !is_set(sets[i], memory)) i++;
+    if (i == SETS) return;
+    sets[i] = memory;
+    in_use = calls[i];
 }
 
 void wtf8_use_memory_with(wtf8_memory given) {
-    with_context = given;
+    in_use = given;
     memory = (plain_memory){allocate_with_context, reallocate_with_context, release_with_context};
 }
 
 wtf8_memory wtf8_memory_in_use(void) {
-    if (memory.allocate == allocate_with_context) return with_context;
-    return (wtf8_memory){allocate_plainly, reallocate_plainly, release_plainly, NULL};
+    return in_use;
 }
 
 /* What the proved code calls as malloc, realloc and free: c/build gives them these names. */

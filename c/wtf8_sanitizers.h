@@ -147,6 +147,13 @@ WTF8_INLINE void wtf8_walked(wtf8_result code, const size_t *position, const uin
         return code;                                                 \
     }
 
+/* The library. */
+WTF8_INLINE wtf8_memory wtf8_told_memory_in_use(void) {
+    wtf8_memory memory = wtf8_memory_in_use();
+    wtf8_wrote(&memory, sizeof memory);
+    return memory;
+}
+
 /* Making a string. */
 WTF8_TELLS(size_t, encoded_len, (const uint16_t *units, size_t n), (units, n), wtf8_reads(units, n * 2))
 WTF8_TELLS_AFTER(utf8_unit_len, (const uint8_t *text, size_t n, size_t *len, size_t *valid), (text, n, len, valid),
@@ -332,6 +339,7 @@ WTF8_TELLS_AFTER(copy_latin1, (const wtf8_string *string, uint8_t *out, size_t s
 }
 #endif
 
+#define wtf8_memory_in_use wtf8_told_memory_in_use
 #define wtf8_encoded_len wtf8_told_encoded_len
 #define wtf8_utf8_unit_len wtf8_told_utf8_unit_len
 #define wtf8_set_units wtf8_told_set_units

@@ -2372,22 +2372,34 @@ struct counted {
     long allocated, reallocated, released;
 };
 
+static int depth; /* of functions that call each other */
+
+static struct counted *entered(void *context) {
+    must(depth++ < 4, "a function that calls itself");
+    return context;
+}
+
 static void *count_allocate(void *context, size_t n) {
-    struct counted *counted = context;
+    struct counted *counted = entered(context);
+    void *block = counted->used.allocate(counted->used.context, n);
     counted->allocated++;
-    return counted->used.allocate(counted->used.context, n);
+    depth--;
+    return block;
 }
 
 static void *count_reallocate(void *context, void *block, size_t n) {
-    struct counted *counted = context;
+    struct counted *counted = entered(context);
+    block = counted->used.reallocate(counted->used.context, block, n);
     counted->reallocated++;
-    return counted->used.reallocate(counted->used.context, block, n);
+    depth--;
+    return block;
 }
 
 static void count_release(void *context, void *block) {
-    struct counted *counted = context;
-    counted->released++;
+    struct counted *counted = entered(context);
     counted->used.release(counted->used.context, block);
+    counted->released++;
+    depth--;
 }
 
 /* Makes a string of more units than fit it at first. */
@@ -2397,8 +2409,110 @@ static wtf8_result grow(wtf8_string *string) {
     return code;
 }
 
-/* Functions with a context are called with it, over those that were used before, which can be used again. Run last: the
- * library calls those through the others then. */
+/* The functions of two wrappers without a context. */
+static struct counted plainly[2];
+
+#define DEFINE_PLAIN(i)                                                                                          \
+    static void *allocate_plain_##i(size_t n) { return count_allocate(&plainly[i], n); }                         \
+    static void *reallocate_plain_##i(void *block, size_t n) { return count_reallocate(&plainly[i], block, n); } \
+    static void release_plain_##i(void *block) { count_release(&plainly[i], block); }
+DEFINE_PLAIN(0)
+DEFINE_PLAIN(1)
+
+/* Has the library call the wrapper `i` over what it calls now, with a context or without. */
+static struct counted *wrap(int i, bool has_context) {
+    static struct counted counted[2];
+    struct counted *wrapper = has_context ? &counted[i] : &plainly[i];
+    *wrapper = (struct counted){wtf8_memory_in_use(), 0, 0, 0};
+    if (has_context) wtf8_use_memory_with((wtf8_memory){count_allocate, count_reallocate, count_release, wrapper});
+    else if (i == 0) wtf8_use_memory(allocate_plain_0, reallocate_plain_0, release_plain_0);
+    else wtf8_use_memory(allocate_plain_1, reallocate_plain_1, release_plain_1);
+    return wrapper;
+}
+
+/* A string that is made and freed calls each function of the wrappers that are in use, and those of no other one. */
+static void must_call(const struct counted *inner, bool is_inner, const struct counted *outer, bool is_outer) {
+    struct counted before[] = {*inner, *outer};
+    long requested = requests;
+    wtf8_string string = WTF8_EMPTY;
+    must(grow(&string) == WTF8_OK && requested < requests, "a string by wrapped functions");
+    wtf8_free(&string);
+    for (int i = 0; i < 2; i++) {
+        const struct counted *now = i == 0 ? inner : outer;
+        bool is_used = i == 0 ? is_inner : is_outer;
+        must(now->allocated - before[i].allocated == is_used && now->released - before[i].released == is_used, "the calls of a wrapper");
+        must((now->reallocated > before[i].reallocated) == is_used, "the calls of a wrapper as a string grows");
+    }
+    must(blocks == 0, "the block of a string by wrapped functions");
+}
+
+/* What wtf8_memory_in_use returned is wrapped, used and used again in each order, by both calls, and stays what it is. */
+static void wrapped_memory(void) {
+    wtf8_memory first = wtf8_memory_in_use();
+    for (int way = 0; way < 4; way++) {
+        struct counted *inner = wrap(0, way % 2 == 1);
+        wtf8_memory second = wtf8_memory_in_use();
+        must_call(inner, true, &plainly[1], false);
+        struct counted *outer = wrap(1, way / 2 == 1);
+        wtf8_memory third = wtf8_memory_in_use();
+        must_call(inner, true, outer, true);
+        wtf8_use_memory_with(second);
+        must_call(inner, true, outer, false);
+        wtf8_use_memory_with(first);
+        must_call(inner, false, outer, false);
+        wtf8_use_memory_with(third);
+        must_call(inner, true, outer, true);
+        wtf8_use_memory(__wrap_malloc, __wrap_realloc, __wrap_free);
+        must_call(inner, false, outer, false);
+        long allocated = inner->allocated, released = outer->released;
+        third.release(third.context, second.allocate(second.context, 8));
+        must(inner->allocated == allocated + 1 && outer->released == released + 1 && blocks == 0, "functions that are not in use");
+        wtf8_use_memory_with(first);
+        must_call(inner, false, outer, false);
+    }
+}
+
+/* Eight sets of functions stay what they are, malloc's among them. Of more the library calls those that it was given, and has
+ * none to return. */
+static void many_sets(void) {
+#ifdef USE_MEMORY
+    enum { KEPT = 7 };
+#else
+    enum { KEPT = 8 };
+#endif
+    enum { WAYS = 27 };
+    static void *(*const allocate[])(size_t) = {__wrap_malloc, allocate_plain_0, allocate_plain_1};
+    static void *(*const reallocate[])(void *, size_t) = {__wrap_realloc, reallocate_plain_0, reallocate_plain_1};
+    static void (*const release[])(void *) = {__wrap_free, release_plain_0, release_plain_1};
+    wtf8_memory first = wtf8_memory_in_use(), kept[WAYS];
+    size_t n = 0;
+    plainly[0] = plainly[1] = (struct counted){first, 0, 0, 0};
+    for (int turn = 0; turn < 3; turn++)
+        for (size_t i = 0; i < WAYS; i++) {
+            struct counted before[] = {plainly[0], plainly[1]};
+            wtf8_string string = WTF8_EMPTY;
+            if (turn < 2) wtf8_use_memory(allocate[i % 3], reallocate[i / 3 % 3], release[i / 9]);
+            else if (kept[i].allocate != NULL) wtf8_use_memory_with(kept[i]);
+            else continue;
+            must(grow(&string) == WTF8_OK, "a string by one of many sets");
+            wtf8_free(&string);
+            for (size_t k = 0; k < 2; k++) {
+                must(plainly[k].allocated - before[k].allocated == (i % 3 == k + 1), "the first function of many");
+                must((plainly[k].reallocated > before[k].reallocated) == (i / 3 % 3 == k + 1), "the second function of many");
+                must(plainly[k].released - before[k].released == (i / 9 == k + 1) && blocks == 0, "the third function of many");
+            }
+            wtf8_memory now = wtf8_memory_in_use();
+            bool is_kept = now.allocate != NULL;
+            must((now.reallocate != NULL) == is_kept && (now.release != NULL) == is_kept && now.context == NULL, "all functions or none");
+            must(turn == 0 || (now.allocate == kept[i].allocate && now.release == kept[i].release), "a set that is used again");
+            n += turn == 0 && is_kept;
+            kept[i] = now;
+        }
+    must(n == KEPT, "the number of sets that stay");
+    wtf8_use_memory_with(first);
+}
+
+/* Functions with a context are called with it, over those that were used before, which can be used again. */
 static void memory_with_context(void) {
     wtf8_string string = WTF8_EMPTY;
     struct counted counted = {wtf8_memory_in_use(), 0, 0, 0};
@@ -2492,6 +2606,8 @@ int main(void) {
     refused_after_leads();
     far_lens();
     memory_with_context();
+    wrapped_memory();
+    many_sets();
     printf("edges: %ld requests, no difference\n", requests);
     return 0;
 }
