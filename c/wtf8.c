@@ -190,7 +190,7 @@ static void *allocate_with_context(size_t n) {
 }
 
 static void *reallocate_with_context(void *block, size_t n) {
-    return with_context.reallocate(with_context.context, block, n);
+    return in_use.reallocate(in_use.context, block, n);
 }
 
 static void release_with_context(void *block) {
@@ -424,6 +424,13 @@ wtf8_result wtf8_replace(wtf8_string *string, size_t begin, size_t end, const wt
     if (code == WTF8_OK) code = PROVED(replace)(&changed, begin, end, &made);
     PROVED(free)(&made);
     return code;
+}
+
+/* What wtf8_sanitizers.h declares, so that no program knows in which word the block's address is. */
+const void *wtf8_block(const wtf8_string *string);
+
+const void *wtf8_block(const wtf8_string *string) {
+    return wtf8_capacity(string) ? (const void *)(uintptr_t)string->words[0] : NULL;
 }
 
 size_t wtf8_unit_len(const wtf8_string *string) {

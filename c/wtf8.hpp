@@ -134,9 +134,7 @@ public:
         return *this;
     }
     void swap(string &other) noexcept { std::swap(string_, other.string_); }
-    ~string() {
-        if (string_.words[0]) wtf8_free(&string_);
-    }
+    ~string() { wtf8_free(&string_); }
     /* For calls of wtf8.h. A struct that is adopted is freed by the string, one that is released by wtf8_free. */
     WTF8_NODISCARD wtf8_string *get() noexcept { return &string_; }
     WTF8_NODISCARD const wtf8_string *get() const noexcept { return &string_; }

@@ -83,12 +83,16 @@ WTF8_INLINE void wtf8_wrote(const void *at, size_t n) {
     WTF8_INITIALIZES(at, n);
 }
 
-/* The struct of a string is initialized, and its block, to which the first word points, is there. */
+/* The block of a string, NULL if it has none. For this file alone: what a block holds is no interface. Since 0.3.0. */
+const void *wtf8_block(const wtf8_string *string);
+
+/* The struct of a string is initialized, and its block is there. */
 WTF8_INLINE void wtf8_is_made(const wtf8_string *string) {
     (void)string;
     WTF8_INITIALIZED(string, sizeof *string);
 #ifdef WTF8_WITH_ADDRESS
-    if (wtf8_capacity(string) != 0) wtf8_can_read((const void *)(uintptr_t)string->words[0], 1);
+    const void *block = wtf8_block(string);
+    if (block) wtf8_can_read(block, 1);
 #endif
 }
 
