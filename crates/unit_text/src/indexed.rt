@@ -477,6 +477,9 @@ impl<A: Allocator> IndexedBuf<A> {
         ensures room { HasRoomFor self.old (units (lossy_chars text.now)) → IsOk result }
         ensures empty { text.now ≡ [] → IsOk result }
         ensures capacity { self.old.capacity ≤ self.new.capacity }
+
+        // What is appended begins at a boundary.
+        ensures front { OnOk result (IsFront self.new.units (length self.old.bytes) self.old.units) }
     {
         let begin = self.text.len();
         self.text.push_utf8_lossy(text)?;
@@ -498,6 +501,9 @@ impl<A: Allocator> IndexedBuf<A> {
         ensures room { (used : ℕ) → LeavesUnfinished text.now used → HasRoomFor self.old (units (lossy_chars (take used text.now))) → IsOk result }
         ensures empty { text.now ≡ [] → IsOk result }
         ensures capacity { self.old.capacity ≤ self.new.capacity }
+
+        // What is appended begins at a boundary.
+        ensures front { OnOk result (IsFront self.new.units (length self.old.bytes) self.old.units) }
     {
         let begin = self.text.len();
         let used = self.text.push_utf8_lossy_part(text)?;
