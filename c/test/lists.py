@@ -1,11 +1,13 @@
 """Random lists of units, pushed in pieces to a string of the module's class, against Python's own strings; what the class
-has of them, on texts of CPython's tests of surrogatepass too; what it does with other types, refused memory and blocks; and
-the types of the calls' results against the header.
+has of them, on texts of CPython's tests of surrogatepass and in parts of random strings too; how many units a search in a part
+reads; what it does with other types, refused memory and blocks; that all has types; and those of the calls' results against
+the header.
 Arguments: a seed, and the number of lists."""
 import copy
 import ctypes
 import gc
 import importlib.util
+import inspect
 import operator
 import pathlib
 import pickle
@@ -67,14 +69,21 @@ def wrong_pairs():
             same = (
                 (one == two) is (units == others)
                 and (one != two) is (units != others)
-                and (one < two) is (code_points < of_other)
-                and (one >= two) is (code_points >= of_other)
+                and (one == other) is (other == one) is (units == others)
+                and (one != other) is (other != one) is (units != others)
+                and (one < two) is (one < other) is (other > one) is (code_points < of_other)
+                and (one <= other) is (other >= one) is (code_points <= of_other)
+                and (one > other) is (other < one) is (code_points > of_other)
+                and (one >= two) is (one >= other) is (other <= one) is (code_points >= of_other)
                 and (two in one) is holds is (other in one)
                 and (one + two).units() == (one + other).units() == (text + two).units() == joined
-                and [unit.units() for unit in one] == [[unit] for unit in units]
+                and [unit.units() for unit in one] == [[unit] for unit in units] == [one[i].units() for i in range(len(one))]
                 and one[at:].units() == units[at:]
                 and one[-2:9:1].units() == units[-2:9]
                 and one[::-2].units() == units[::-2]
+                and [String(part).units() for part in code_points.split()] == [part.units() for part in one.split()]
+                and one.to_utf16le() == struct.pack(f"<{len(units)}H", *units)
+                and String.from_utf16le(one.to_utf16le()) == String.from_units(iter(units)) == one
                 and String.from_units(units) == copy.copy(one) == copy.deepcopy(one) == pickle.loads(pickle.dumps(one)) == one
                 and eval(repr(one)) == one
                 and one.isascii() is text.isascii()
@@ -82,12 +91,10 @@ def wrong_pairs():
                 and one.lossy() == re.sub("[\ud800-\udfff]", "\ufffd", code_points)
             )
             plain, needle = (text_of_units(of) for of in (units, others))
-            ranges = [(), (1,), (-2,), (0, 2), (1, -1), (9,), (2, 1)]
-            same = same and all(
-                one.find(part, *of) == plain.find(needle, *of) and one.rfind(part, *of) == plain.rfind(needle, *of)
-                for of in ranges
-                for part in (two, other)
-            )
+            ranges = [(), (1,), (-2,), (0, 2), (1, -1), (9,), (2, 1), (None,), (None, 2), (1, None)]
+            same = same and all(in_part(one, part, *of) == in_part(plain, needle, *of) for of in ranges for part in (two, other))
+            same = same and all(parts_of(one, part) == parts_of(plain, needle) for part in (two, other))
+            same = same and two.join([one, text, other]).units() == units + others + units + others + others
             edited, begin = copy.copy(one), len(units) // 3
             edited.replace(begin, at, other)
             same = same and edited.units() == units[:begin] + others + units[at:]
@@ -102,6 +109,87 @@ def wrong_pairs():
     return wrong
 
 
+def in_part(string, text, *of):
+    """What the calls that search a part of a string return of a text, alone and in a tuple."""
+    found = [call(text, *of) for call in (string.find, string.rfind, string.count, string.startswith, string.endswith)]
+    return [*found, string.startswith(("x", text), *of), string.endswith((text, "x"), *of), string.startswith((), *of)]
+
+
+def units_in(string):
+    """The units of a string of the class, or of a text with a character for each."""
+    return string.units() if isinstance(string, String) else list(map(ord, string))
+
+
+def parts_of(string, text):
+    """The units of the parts into which a text divides a string, everywhere and at few places, or the type of what is raised."""
+    try:
+        return [list(map(units_in, string.split(sep=text, maxsplit=most))) for most in (-1, 0, 1, 3)]
+    except ValueError as error:
+        return type(error)
+
+
+def wrong_parts(draw, count):
+    """The random strings, of few letters so that some occur often and some far apart, in parts of which another text is found
+    than Python finds in a string with a character for each unit."""
+    wrong = []
+    for _ in range(count):
+        letters = draw.choice(["ab", "a\u4e2d", "\u00e9\ud83d\udca9", "\udca9\ud83d", "\u4e2d\ud83da"])
+        weights = [draw.choice([1, 1000]), *[1] * (len(letters) - 1)]
+        plain = "".join(draw.choices(letters, weights, k=draw.choice([3, 40, 2000, 9000])))
+        string, n = String.from_units(map(ord, plain)), len(plain)
+        if draw.randrange(2):
+            string.mark()
+        begin = draw.randrange(n)
+        for text in (plain[begin : begin + draw.choice([0, 1, 2, 1500])], "".join(draw.choices(letters, k=draw.choice([1, 3])))):
+            of = [draw.choice([None, draw.randrange(-n - 2, n + 3)]) for _ in range(2)]
+            same = all(in_part(string, part, *of) == in_part(plain, text, *of) for part in (text, String(text)))
+            if not same or parts_of(string, text) != parts_of(plain, text) or string.units() != units_in(plain):
+                wrong.append((plain[:9], text, *of))
+    return wrong
+
+
+def wrong_costs():
+    """The searches of parts of a long string for which the library is passed more units than four times those up to what is
+    found, or than the part or the first piece has, or more than eight pieces."""
+    string, size, passed, calls = String("a" * 100000), 1024, [], wtf8.lib
+    string.replace(70000, 70000, "b")
+
+    class Noting:
+        """The library, whose searches note how many units they are passed."""
+
+        def __getattr__(self, name):
+            call = getattr(calls, name)
+            if name not in ("wtf8_find", "wtf8_rfind"):
+                return call
+            return lambda of, *rest: (passed.append(len(of)), call(of, *rest))[1]
+
+    wrong, wtf8.lib = [], Noting()
+    for find, of, at, most in [
+        (string.find, (0, 10), -1, 10), (string.rfind, (99990, 100000), -1, 10), (string.find, (70000, 99999), 70000, size),
+        (string.rfind, (1, 70001), 70000, size), (string.find, (60000, 99999), 70000, 4 * 10000), (string.rfind, (1, 80000), 70000, 4 * 10000),
+        (string.find, (0, 99999), 70000, 100000), (string.rfind, (1, 100000), 70000, 100000),
+    ]:
+        passed.clear()
+        if find("b", *of) != at or most < sum(passed) or not 0 < len(passed) < 9:
+            wrong.append((find.__name__, *of, *passed))
+    wtf8.lib = calls
+    return wrong
+
+
+def untyped():
+    """The functions of the module and the class that lack the type of a parameter or of the result."""
+    functions = {f"{of.__name__}.{name}": call for of in (wtf8, String) for name, call in vars(of).items()}
+    named = {name: getattr(call, "__wrapped__", getattr(call, "__func__", call)) for name, call in functions.items()}
+    found = {name: inspect.signature(call) for name, call in named.items() if inspect.isfunction(call) and call.__module__ == "wtf8"}
+    lacking = inspect.Signature.empty
+    return [
+        name
+        for name, of in found.items()
+        if of.return_annotation is lacking
+        or any(each.annotation is lacking for each in of.parameters.values() if each.name not in ("self", "cls"))
+    ] + ["functions"] * (len(found) < 40)
+
+
 def wrong_ranges():
     """The ranges of a text, in order or not and past its ends, in which what is found, cut out or replaced differs."""
     text, wrong = "abcabcabab", []
@@ -109,15 +197,14 @@ def wrong_ranges():
     for begin in bounds:
         for end in bounds:
             same = str(string[begin:end]) == text[begin:end]
-            of = (begin or 0, end)
             for part in ("ab", "abc", "cab", "b", ""):
-                same = same and string.find(part, *of) == text.find(part, *of) and string.rfind(part, *of) == text.rfind(part, *of)
+                same = same and in_part(string, part, begin, end) == in_part(text, part, begin, end)
             if begin is not None and end is not None and 0 <= begin and 0 <= end:
                 edited, is_range = String(text), begin <= end <= len(text)
                 try:
                     edited.replace(begin, end, "xyz")
                     same = same and is_range and str(edited) == text[:begin] + "xyz" + text[end:]
-                except ValueError:
+                except IndexError:
                     same = same and not is_range and str(edited) == text
             if not same:
                 wrong.append((begin, end))
@@ -147,24 +234,56 @@ def wrong_kinds():
     library beside the module."""
     name, huge = Name("ab"), ctypes.c_size_t(1 << 62)
     made = {
-        "slice": name[1:], "slice by step": name[::-1], "+": name + "c", "+ of a text": "c" + name, "copy": copy.copy(name),
+        "split": name.split("a")[1], "split by none": name.split()[0], "join": name.join(["c"]), "from_utf16le": Name.from_utf16le(b"ab"),
+        "iteration": next(iter(name)), "slice": name[1:], "slice by step": name[::-1], "+": name + "c", "+ of a text": "c" + name, "copy": copy.copy(name),
         "pickle": pickle.loads(pickle.dumps(name)), "from_units": Name.from_units([1]),
     }
     wrong = [call for call, string in made.items() if type(string) is not Name]
     wrong += ["repr"] * (repr(name) != "Name('ab')")
-    wrong += ["=="] * (name == "ab" or not name != "ab" or name == 1 or name == None)  # noqa: E711
+    wrong += ["=="] * (name == "a" or name != "ab" or name == 1 or name == None or "ab" not in [name])  # noqa: E711
+    wrong += ["a text with a pair"] * (String("\ud83d\udca9") != "\ud83d\udca9" or String("\ud83d\udca9") != "\U0001f4a9")
     others = {
         "+ of a number": lambda: name + 1, "number +": lambda: 1 + name, "+= of a number": lambda: operator.iadd(name, 1),
-        "< of a text": lambda: name < "b", ">= of a text": lambda: name >= "b", "hash": lambda: hash(name), "index": lambda: name["a"],
+        "< of a number": lambda: name < 1, ">= of a number": lambda: name >= 1, "hash": lambda: hash(name), "index": lambda: name["a"],
+        "a number": lambda: String(3), "bytes": lambda: String(b"ab"), "None": lambda: String(None), "push": lambda: name.push(3),
+        "find": lambda: name.find(3), "find in bytes": lambda: name.find("a", "b"), "in": lambda: 3 in name, "count": lambda: name.count(3),
+        "startswith": lambda: name.startswith(["a"]), "endswith": lambda: name.endswith(("a", 3, "b")), "split": lambda: name.split(3),
+        "join": lambda: name.join(["a", 3]), "join of none": lambda: name.join(None), "insert": lambda: name.insert("a", "b"),
+        "replace of texts": lambda: name.replace("a", "b"), "replace by a number": lambda: name.replace(0, 1, 3),
+        "units of bytes": lambda: Name.from_units(b"ab"), "units of an array of bytes": lambda: Name.from_units(bytearray(b"ab")),
+        "units of a text": lambda: Name.from_units("ab"), "UTF-16 of a text": lambda: Name.from_utf16le("ab"),
     }
     wrong += [call for call, of in others.items() if raised(of) is not TypeError]
+    after = [2, -3, 1 << 64, -(1 << 64)]
+    wrong += [f"index {i}" for i in after if raised(lambda: name[i]) is not IndexError]
+    wrong += [f"insert {i}" for i in (*after[1:], 3, -1) if raised(lambda: name.insert(i, "c")) is not IndexError]
+    wrong += ["half a unit"] * (raised(lambda: Name.from_utf16le(b"abc")) is not ValueError)
+    wrong += ["split by nothing"] * (raised(lambda: name.split("")) is not ValueError or str(name) != "ab")
     wrong += ["refused memory"] * (raised(lambda: wtf8.check(lib.wtf8_reserve_bytes(name, huge))) is not MemoryError)
     wrong += ["an error"] * ("not a boundary" not in str(error_of(lambda: name.replace(1, 9, ""))))
     same = name
     same += "c"
     wrong += ["+="] * (same is not name)
     wrong += ["units that are none"] * (raised(lambda: Name.from_units([65536])) is not OverflowError)
+    wrong += ["__del__"] * bool(complaints_of_half_a_string())
     return wrong + ["blocks"] * (blocks_left() != 0) + ["the library beside the module"] * (not is_beside_read())
+
+
+def complaints_of_half_a_string():
+    """What is said when a string is let go whose subclass raises before it is made."""
+
+    class Half(String):
+        def __init__(self):
+            raise KeyError
+
+    said, before = [], sys.unraisablehook
+    sys.unraisablehook = said.append
+    try:
+        wrong = [] if raised(Half) is KeyError else ["no error"]
+        gc.collect()
+    finally:
+        sys.unraisablehook = before
+    return said + wrong
 
 
 def blocks_left():
@@ -254,7 +373,7 @@ def main(seed, count):
         wrong += (last.key() > string.key()) - (last.key() < string.key()) != order
         last, last_units = string, units
         lone += any(0xD800 <= ord(point) < 0xE000 for point in text)
-    for found in (wrong_results(), wrong_pairs(), wrong_ranges(), wrong_kinds()):
+    for found in (wrong_results(), wrong_pairs(), wrong_ranges(), wrong_parts(draw, count // 20), wrong_costs(), wrong_kinds(), untyped()):
         wrong += len(found)
         print(*map(ascii, found), sep="\n", end="\n" * bool(found))
     print(f"lists.py: {wrong} differences in {count} lists, of which {lone} have a lone surrogate")
