@@ -1,8 +1,9 @@
 """Divides the object of the whole library into those of the archive, so that a program has only what it calls, without
---gc-sections too: the sections that the same public calls reach are one object. What they have in common is hidden, so that
-no program or shared library exports what it took from the archive: the public calls, and under names of their own what one
-object has from another. No byte of code changes. Debug information, which spans the objects, is left out. Arguments: the
-object, an ELF file of 64 bits with a section for each function, and the folder to write to. Prints the names of the files."""
+--gc-sections too: the sections that the same public calls reach are one object. (Objects of `ld -r --gc-sections` would each
+have a copy of what calls share.) The public calls are hidden, so that no program or shared library exports what it took from
+the archive, and so is what one object has from another, under names of their own. No byte of code changes. Debug information,
+which spans the objects, is left out. Arguments: the object, an ELF file of 64 bits with a section for each function, and the
+folder to write to. Prints the names of the files."""
 import pathlib
 import struct
 import sys

@@ -2,6 +2,8 @@
 give the same bytes. Needs no network; the packages of Debian's need dpkg-deb. Arguments: what was laid out, the folder to
 write to, the version, the time of its commit, and --deb."""
 import base64
+import email.utils
+import gzip
 import hashlib
 import os
 import pathlib
@@ -10,10 +12,15 @@ import shutil
 import subprocess
 import sys
 import tempfile
+import textwrap
 import time
 import zipfile
 
 SUMMARY = "Proved strings of any 16-bit code units"
+DESCRIPTION = """\
+Strings of any UTF-16 code units, lone surrogates among them, as file names of Windows, JavaScript, Java and Python have
+them. They are kept as WTF-8, a superset of UTF-8. Units, UTF-8 and Latin-1 go in and out, and strings are indexed by units,
+searched, compared, hashed and edited. Each call's contract was proved."""
 TRIPLET = "x86_64-linux-gnu"
 # The newest version of glibc whose symbols the tag of the wheel allows.
 MANYLINUX = "manylinux2014", (2, 17)
@@ -67,8 +74,18 @@ def symbols(root):
     return "libwtf8.so.0 libwtf8-0 #MINVER#\n" + "".join(f" {line}\n" for line in sorted(lines))
 
 
-def package(name, version, folder, packed, depends, files, control=()):
-    """Writes a package of Debian's with files, by their places, and further files of its control."""
+def changes(version):
+    """What is new in a version, as lines of CHANGELOG.md without links."""
+    text = pathlib.Path(__file__).resolve().parent.parent.joinpath("CHANGELOG.md").read_text(encoding="utf-8")
+    found = re.search(rf"^## {re.escape(version)},.*?\n(.*?)(?=^## |\Z)", text, re.M | re.S)
+    lines = re.findall(r"^- (.*)$", re.sub(r"\[([^]]*)\]\([^)]*\)", r"\1", found[1] if found else ""), re.M)
+    return lines or sys.exit(f"c/dist: CHANGELOG.md has no line of {version}")
+
+
+def package(name, section, version, folder, packed, depends, about, files, control=(), architecture="amd64"):
+    """Writes a package of Debian's with files, by their places, and further files of its control. `about` says what it has.
+    $DEBFULLNAME and $DEBEMAIL maintain it."""
+    maintainer = f"{os.environ.get('DEBFULLNAME', 'nobody')} <{os.environ.get('DEBEMAIL', 'nobody@localhost')}>"
     with tempfile.TemporaryDirectory() as work:
         tree = pathlib.Path(work) / "tree"
         for place, file in files.items():
@@ -78,11 +95,14 @@ def package(name, version, folder, packed, depends, files, control=()):
                 to.symlink_to(file)
             else:
                 shutil.copyfile(file, to)
+        lines = [textwrap.fill(line, 78, initial_indent="  * ", subsequent_indent="    ") for line in changes(version)]
+        lines = [f"wtf8 ({version}) unstable; urgency=medium", "", *lines, "", f" -- {maintainer}  {email.utils.formatdate(packed)}", ""]
+        (tree / f"usr/share/doc/{name}/changelog.gz").write_bytes(gzip.compress("\n".join(lines).encode(), mtime=0))
         (tree / "DEBIAN").mkdir()
         fields = [
-            f"Package: {name}", f"Version: {version}", "Architecture: amd64", "Section: libs", "Priority: optional",
-            f"Maintainer: {os.environ.get('DEBFULLNAME', 'nobody')} <{os.environ.get('DEBEMAIL', 'nobody@localhost')}>",
-            f"Depends: {depends}", f"Description: {SUMMARY}", "",
+            f"Package: {name}", "Source: wtf8", f"Version: {version}", f"Architecture: {architecture}", f"Section: {section}",
+            "Priority: optional", f"Maintainer: {maintainer}", f"Depends: {depends}", f"Description: {SUMMARY}",
+            *textwrap.wrap(DESCRIPTION, 78, initial_indent=" ", subsequent_indent=" "), " .", f" {about}", "",
         ]
         (tree / "DEBIAN/control").write_text("\n".join(fields))
         for file, text in dict(control).items():
@@ -90,26 +110,28 @@ def package(name, version, folder, packed, depends, files, control=()):
         for path in [tree, *tree.rglob("*")]:
             if not path.is_symlink():
                 path.chmod(0o755 if path.is_dir() else 0o644)
-        to = folder / f"{name}_{version}_amd64.deb"
+        to = folder / f"{name}_{version}_{architecture}.deb"
         environment = {**os.environ, "SOURCE_DATE_EPOCH": str(packed)}
         subprocess.run(["dpkg-deb", "--root-owner-group", "-Zgzip", "--build", tree, to], check=True, stdout=subprocess.DEVNULL, env=environment)
         print(to)
 
 
 def debs(root, version, folder, packed):
-    """Writes the packages of the library and of what a program is built with."""
+    """Writes the packages of the library, of what a program is built with, and of the module for Python."""
     lib, doc = f"usr/lib/{TRIPLET}", "usr/share/doc"
     with tempfile.TemporaryDirectory() as work:
-        pc, cmake = pathlib.Path(work) / "wtf8.pc", pathlib.Path(work) / "wtf8-config.cmake"
+        pc, cmake, stripped = (pathlib.Path(work) / name for name in ("wtf8.pc", "wtf8-config.cmake", "libwtf8.so.0"))
         text = (root / "lib/pkgconfig/wtf8.pc").read_text()
         pc.write_text(re.sub(r"^libdir=.*", f"libdir=${{prefix}}/lib/{TRIPLET}", re.sub(r"^prefix=.*", "prefix=/usr", text, flags=re.M), flags=re.M))
         text = (root / "lib/cmake/wtf8/wtf8-config.cmake").read_text()
         cmake.write_text(text.replace("${wtf8_libdir}/../include", "${wtf8_libdir}/../../include"))
-        package("libwtf8-0", version, folder, packed, "libc6 (>= 2.17)", {
-            f"{lib}/libwtf8.so.0": root / "lib/libwtf8.so.0",
+        subprocess.run(["strip", "--strip-unneeded", "-o", stripped, root / "lib/libwtf8.so.0"], check=True)
+        package("libwtf8-0", "libs", version, folder, packed, "libc6 (>= 2.17)", "This package has the shared library.", {
+            f"{lib}/libwtf8.so.0": stripped,
             f"{doc}/libwtf8-0/copyright": root / "LICENSE",
-        }, {"symbols": symbols(root), "triggers": "activate-noawait ldconfig\n"})
-        package("libwtf8-dev", version, folder, packed, f"libwtf8-0 (= {version})", {
+        }, {"symbols": symbols(root), "shlibs": f"libwtf8 0 libwtf8-0 (>= {version})\n", "triggers": "activate-noawait ldconfig\n"})
+        package("libwtf8-dev", "libdevel", version, folder, packed, f"libwtf8-0 (= {version})",
+                "This package has the headers for C and C++, the static library and examples.", {
             f"{lib}/libwtf8.so": "libwtf8.so.0",
             f"{lib}/libwtf8.a": root / "lib/libwtf8.a",
             f"{lib}/pkgconfig/wtf8.pc": pc,
@@ -118,8 +140,14 @@ def debs(root, version, folder, packed):
             f"{doc}/libwtf8-dev/copyright": root / "LICENSE",
             f"{doc}/libwtf8-dev/README.md": root / "README.md",
             **{f"usr/include/{file.name}": file for file in (root / "include").iterdir()},
-            **{f"{doc}/libwtf8-dev/examples/{file.name}": file for file in (root / "examples").iterdir()},
+            **{f"{doc}/libwtf8-dev/examples/{file.name}": file for file in (root / "examples").iterdir() if file.suffix != ".py"},
         })
+        package("python3-wtf8", "python", version, folder, packed, f"python3 (>= 3.7), libwtf8-0 (>= {version})",
+                "This package has the module for Python 3.", {
+            "usr/lib/python3/dist-packages/wtf8.py": root / "lib/wtf8.py",
+            f"{doc}/python3-wtf8/copyright": root / "LICENSE",
+            f"{doc}/python3-wtf8/examples/join.py": root / "examples/join.py",
+        }, architecture="all")
 
 
 def main(root, folder, version, packed, is_deb=""):
