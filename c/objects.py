@@ -10,10 +10,10 @@ import sys
 
 # The header of a file and of a section, a symbol, a relocation.
 HEAD, SECTION, SYMBOL, RELOCATION = (struct.Struct(f"<{fields}") for fields in ("16sHHIQQQIHHHHHH", "IIQQQQIIQQ", "IBBHQQ", "QQq"))
-# Types and flags of sections, types, binding and visibility of symbols.
+# Types and flags of sections; types, binding and visibility of symbols; a machine.
 SYMTAB, STRTAB, RELA, NOBITS, INIT_ARRAY, GROUP = 2, 3, 4, 8, 14, 17
 ALLOC, MERGE, STRINGS, INFO_LINK = 2, 0x10, 0x20, 0x40
-OF_SECTION, OF_FILE, GLOBAL, HIDDEN = 3, 4, 1, 2
+OF_SECTION, OF_FILE, GLOBAL, HIDDEN, AARCH64 = 3, 4, 1, 2, 183
 
 
 class Section:
@@ -133,29 +133,35 @@ def frames(table, sections):
     return [part] if part.size else []
 
 
-def constants(sections):
-    """Returns copies of the constants that sections read, as sections, and for the symbol of each that of its copy."""
-    found, symbols = {}, {}
+def constants(sections, machine):
+    """Returns copies of the constants that sections read, as sections, and for the symbol and the addend of each relocation
+    that reads one those that read its copy."""
+    found, read_as = {}, {}
     for section in sections:
-        for _, symbol, _, _ in section.relocations:
+        for _, symbol, _, addend in section.relocations:
             of = symbol.section
-            if of and of.has_constants() and symbol not in symbols:
-                if symbol.kind == OF_SECTION:
+            if not of or not of.has_constants() or (symbol, addend) in read_as:
+                continue
+            at, rest = symbol.value, addend
+            if symbol.kind == OF_SECTION:
+                # An addend of x86-64 counts from the end of the instruction, so it does not tell which.
+                if machine != AARCH64:
                     stop(f"{section.name} reads a constant without a symbol")
-                copy = found.setdefault(of, of.like())
-                begin = symbol.value // of.entry * of.entry
-                symbols[symbol] = Symbol(symbol.name, symbol.kind, copy, copy.size + symbol.value - begin, symbol.size)
-                copy.append(of.data[begin : begin + of.entry])
-    return list(found.values()), symbols
+                at, rest = at + addend, 0
+            copy = found.setdefault(of, of.like())
+            begin = at // of.entry * of.entry
+            read_as[symbol, addend] = Symbol(symbol.name, symbol.kind % OF_SECTION, copy, copy.size + at - begin, symbol.size), rest
+            copy.append(of.data[begin : begin + of.entry])
+    return list(found.values()), read_as
 
 
 def object_of(head, sections, symbols, shared):
     """Returns the bytes of an object of some sections. `shared` has the name of each symbol that is not its own."""
-    copies, read_as = constants(sections)
+    copies, read_as = constants(sections, head[2])
     sections = [*sections, *copies]
     index = {section: i for i, section in enumerate(sections, 1)}
-    used = {read_as.get(symbol, symbol) for section in sections for _, symbol, _, _ in section.relocations}
-    own = [symbol for symbol in symbols if symbol.section in index and symbol not in shared] + list(read_as.values())
+    used = {symbol for section in sections for _, symbol, _, _ in section.relocations}
+    own = [symbol for symbol in symbols if symbol.section in index and symbol not in shared] + [symbol for symbol, _ in read_as.values()]
     others = [symbol for symbol in symbols if symbol in shared and (symbol in used or symbol.section in index)]
     number = {symbol: i for i, symbol in enumerate(own + others, 1)}
     names, titles, table, headers, body = Names(), Names(), bytes(SYMBOL.size), [(0,) * 10], b""
@@ -177,8 +183,8 @@ def object_of(head, sections, symbols, shared):
     for section in sections:
         add(section.name, section.kind, section.flags, section.data, section.size, section.align, section.entry)
     for section in related:
-        lines = b"".join(RELOCATION.pack(offset, number[read_as.get(symbol, symbol)] << 32 | kind, addend)
-                         for offset, symbol, kind, addend in section.relocations)
+        read = [(offset, kind, *read_as.get((symbol, addend), (symbol, addend))) for offset, symbol, kind, addend in section.relocations]
+        lines = b"".join(RELOCATION.pack(offset, number[symbol] << 32 | kind, addend) for offset, kind, symbol, addend in read)
         add(f".rela{section.name}", RELA, INFO_LINK, lines, len(lines), 8, RELOCATION.size, at_table, index[section])
     add(".symtab", SYMTAB, 0, table, len(table), 8, SYMBOL.size, at_table + 1, 1 + len(own))
     add(".strtab", STRTAB, 0, names.data, len(names.data), 1, 0)
