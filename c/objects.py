@@ -73,7 +73,7 @@ def read(data):
     symbols = [Symbol(name_at(contents[headers[table][6]], name), info, sections[at] if 0 < at < len(sections) else None, value, size)
                for name, info, _, at, value, size in SYMBOL.iter_unpack(contents[table])]
     for header, section in zip(headers, sections):
-        if section.kind == GROUP:
+        if section.kind == GROUP and any(sections[at].flags & ALLOC for at, in list(struct.iter_unpack("<I", section.data))[1:]):
             stop("it has groups of sections")
         if section.kind == RELA:
             sections[header[7]].relocations = [(offset, symbols[info >> 32], info & 0xFFFFFFFF, addend)
