@@ -46,27 +46,39 @@ extern "C" {
 #define WTF8_VERSION "0.3.0"
 #define WTF8_VERSION_NUMBER 300
 
-/* A compiler that knows the attribute warns of a call whose code is not used. */
-#ifdef __GNUC__
+/* A compiler that knows the attribute warns of a call whose code, or whether something holds, is not used; from C23 and C++17 on
+ * unless it is cast to void. */
+#if (defined(__cplusplus) && 201703L <= __cplusplus) || (defined(__STDC_VERSION__) && 201710L < __STDC_VERSION__)
+#define WTF8_CODE [[nodiscard]]
+#elif defined(__GNUC__)
 #define WTF8_CODE __attribute__((warn_unused_result))
 #else
 #define WTF8_CODE
 #endif
 
-/* A compiler that knows the attribute warns of a string or an array that is not initialized, and of an array or a number
- * that is shorter than the call takes it for. The numbers are of parameters: the pointer, and how many elements it has. */
+/* A compiler that knows the attributes warns of a string or an array that is not initialized, of an array or a number that is
+ * shorter than the call takes it for, and of a pointer that is NULL where none may be. The numbers are of parameters: a
+ * string that is asked, a string or a number that is changed, a number that is written, one that may be NULL, and arrays with
+ * how many elements they have. */
 #ifdef __has_attribute
 #if __has_attribute(access)
-#define WTF8_READS(...) __attribute__((access(read_only, __VA_ARGS__)))
-#define WTF8_WRITES(...) __attribute__((access(write_only, __VA_ARGS__)))
-#define WTF8_CHANGES(at) __attribute__((access(read_write, at)))
+#define WTF8_ACCESS(...) __attribute__((access(__VA_ARGS__)))
 #endif
 #endif
-#ifndef WTF8_CHANGES
-#define WTF8_READS(...)
-#define WTF8_WRITES(...)
-#define WTF8_CHANGES(at)
+#ifndef WTF8_ACCESS
+#define WTF8_ACCESS(...)
 #endif
+#ifdef __GNUC__
+#define WTF8_NONNULL(...) __attribute__((nonnull(__VA_ARGS__)))
+#else
+#define WTF8_NONNULL(...)
+#endif
+#define WTF8_ASKS(at) WTF8_NONNULL(at) WTF8_ACCESS(read_only, at)
+#define WTF8_CHANGES(at) WTF8_NONNULL(at) WTF8_ACCESS(read_write, at)
+#define WTF8_WRITES(at) WTF8_NONNULL(at) WTF8_ACCESS(write_only, at)
+#define WTF8_MAY_WRITE(at) WTF8_ACCESS(write_only, at)
+#define WTF8_READS(at, n) WTF8_ACCESS(read_only, at, n)
+#define WTF8_FILLS(at, n) WTF8_ACCESS(write_only, at, n)
 
 /* The number of words in the struct of a string. */
 #define WTF8_WORDS 7
@@ -107,6 +119,7 @@ const char *wtf8_version(void);
 /* Has the library call these in place of malloc, realloc and free, which each does the work of. This is called while no
  * string has a buffer, and no other thread uses the library. They may be called in any thread that changes strings, return
  * to their caller (no exception, no longjmp), and call nothing of this library. */
+WTF8_NONNULL(1, 2, 3)
 void wtf8_use_memory(void *(*allocate)(size_t), void *(*reallocate)(void *, size_t), void (*release)(void *));
 
 /* Functions that are also given `context`. */
@@ -139,7 +152,7 @@ size_t wtf8_encoded_len(const uint16_t *units, size_t n);
 /* Writes the number of units of a text of `n` bytes in UTF-8 to `*len`; a string of it has `n` bytes. With NOT_UTF8 only the
  * position of the first byte that is not UTF-8 is written, to `*valid`, unless that is NULL. Codes: OK, NOT_UTF8. Since
  * 0.2.0. */
-WTF8_CODE WTF8_READS(1, 2) WTF8_WRITES(3) WTF8_WRITES(4)
+WTF8_CODE WTF8_READS(1, 2) WTF8_WRITES(3) WTF8_MAY_WRITE(4)
 wtf8_result wtf8_utf8_unit_len(const uint8_t *text, size_t n, size_t *len, size_t *valid);
 
 /* Replaces the string by `n` units. Never refused if 3 bytes for each fit, or, of more than 1,024 units, if their bytes do
@@ -151,7 +164,7 @@ wtf8_result wtf8_set_units(wtf8_string *string, const uint16_t *units, size_t n)
 
 /* Replaces the string by a text of `n` bytes. With NOT_UTF8 the position of the first byte that is not UTF-8 is written
  * to `*valid`, unless that is NULL. Never refused if the text fits. Codes: OK, NO_MEMORY, NOT_UTF8. */
-WTF8_CODE WTF8_CHANGES(1) WTF8_READS(2, 3) WTF8_WRITES(4)
+WTF8_CODE WTF8_CHANGES(1) WTF8_READS(2, 3) WTF8_MAY_WRITE(4)
 wtf8_result wtf8_set_utf8(wtf8_string *string, const uint8_t *text, size_t n, size_t *valid);
 
 /* Replaces the string by a text of `n` bytes in Latin-1, each of which is the code point of its value: one byte below 80, two
@@ -160,7 +173,7 @@ WTF8_CODE WTF8_CHANGES(1) WTF8_READS(2, 3)
 wtf8_result wtf8_set_latin1(wtf8_string *string, const uint8_t *text, size_t n);
 
 /* Replaces the string by a copy of `other`. Never refused if it fits. Codes: OK, NO_MEMORY. */
-WTF8_CODE WTF8_CHANGES(1)
+WTF8_CODE WTF8_CHANGES(1) WTF8_ASKS(2)
 wtf8_result wtf8_set_string(wtf8_string *string, const wtf8_string *other);
 
 /* Frees what `string` owns and gives it all that `other` owns, its capacity and its marks too: `other` is the empty string
@@ -228,7 +241,7 @@ WTF8_CODE WTF8_CHANGES(1) WTF8_READS(2, 3)
 wtf8_result wtf8_push_latin1(wtf8_string *string, const uint8_t *text, size_t n);
 
 /* A text of `n` bytes. `valid` is as in wtf8_set_utf8. Never refused if it fits. Codes: OK, NO_MEMORY, NOT_UTF8. */
-WTF8_CODE WTF8_CHANGES(1) WTF8_READS(2, 3) WTF8_WRITES(4)
+WTF8_CODE WTF8_CHANGES(1) WTF8_READS(2, 3) WTF8_MAY_WRITE(4)
 wtf8_result wtf8_push_utf8(wtf8_string *string, const uint8_t *text, size_t n, size_t *valid);
 
 /* The longest front of `n` bytes that is UTF-8. Its length is written to `*used`, and to `*bad` how many bytes after it are
@@ -250,12 +263,12 @@ WTF8_CODE WTF8_CHANGES(1) WTF8_READS(2, 3) WTF8_WRITES(4)
 wtf8_result wtf8_push_utf8_lossy_part(wtf8_string *string, const uint8_t *text, size_t n, size_t *used);
 
 /* Another string. Never refused if it fits, unless both are one string. Codes: OK, NO_MEMORY. */
-WTF8_CODE WTF8_CHANGES(1)
+WTF8_CODE WTF8_CHANGES(1) WTF8_ASKS(2)
 wtf8_result wtf8_push_string(wtf8_string *string, const wtf8_string *other);
 
 /* The units of `other` from `begin`, found by the marks, to before `end`. Never refused if they fit, unless both are one
  * string. Codes: OK, NO_MEMORY, BAD_POSITION (`begin` is greater than `end`, or `end` than the length). */
-WTF8_CODE WTF8_CHANGES(1)
+WTF8_CODE WTF8_CHANGES(1) WTF8_ASKS(2)
 wtf8_result wtf8_push_slice(wtf8_string *string, const wtf8_string *other, size_t begin, size_t end);
 
 /* ---- Asking ---- */
@@ -263,136 +276,150 @@ wtf8_result wtf8_push_slice(wtf8_string *string, const wtf8_string *other, size_
 /* These only read their strings. */
 
 /* The number of units. Constant. */
+WTF8_ASKS(1)
 size_t wtf8_unit_len(const wtf8_string *string);
 
 /* The length in bytes. Constant. */
+WTF8_ASKS(1)
 size_t wtf8_byte_len(const wtf8_string *string);
 
 /* The number of bytes that the string can have before memory is requested. Constant. */
+WTF8_ASKS(1)
 size_t wtf8_capacity(const wtf8_string *string);
 
 /* Writes the position in bytes of the boundary before the unit at `index`, found by the marks, to `*position`: of the end
  * if `index` is the length, of the pair if `index` divides one. Codes: OK, BAD_POSITION (`index` is greater than the
  * length). */
-WTF8_CODE WTF8_WRITES(3)
+WTF8_CODE WTF8_ASKS(1) WTF8_WRITES(3)
 wtf8_result wtf8_position_at(const wtf8_string *string, size_t index, size_t *position);
 
 /* The number of units before the last boundary at or before `position` in bytes; the length if `position` is after the
  * end. Constant in ASCII; else it counts units as wtf8_truncate_bytes does. */
+WTF8_ASKS(1)
 size_t wtf8_unit_before(const wtf8_string *string, size_t position);
 
 /* Writes the unit at `index`, found by the marks, to `*unit`. Codes: OK, BAD_POSITION (`index` is the length or
  * greater). */
-WTF8_CODE WTF8_WRITES(3)
+WTF8_CODE WTF8_ASKS(1) WTF8_WRITES(3)
 wtf8_result wtf8_unit_at(const wtf8_string *string, size_t index, uint16_t *unit);
 
 /* Whether a position in bytes is a code point boundary: 0 and the length are, a position after the end is not. Constant. */
+WTF8_CODE WTF8_ASKS(1)
 bool wtf8_is_boundary(const wtf8_string *string, size_t position);
 
 /* Writes the code point after the boundary `*position` to `*code_point`, a lone surrogate too, and moves `*position` past
  * it, from 0 at the start to the length in bytes at the end. Any code but OK leaves both numbers as they are. Constant.
  * Codes: OK, BAD_POSITION (`*position` is not a boundary), END (it is the length in bytes). */
-WTF8_CODE WTF8_CHANGES(2) WTF8_WRITES(3)
+WTF8_CODE WTF8_ASKS(1) WTF8_CHANGES(2) WTF8_WRITES(3)
 wtf8_result wtf8_next_code_point(const wtf8_string *string, size_t *position, uint32_t *code_point);
 
 /* The same of the code point before `*position`, which moves back to its start. Constant. Codes: OK, BAD_POSITION
  * (`*position` is not a boundary), END (it is 0). */
-WTF8_CODE WTF8_CHANGES(2) WTF8_WRITES(3)
+WTF8_CODE WTF8_ASKS(1) WTF8_CHANGES(2) WTF8_WRITES(3)
 wtf8_result wtf8_previous_code_point(const wtf8_string *string, size_t *position, uint32_t *code_point);
 
 /* Writes the code point before the unit at `index`, found by the marks, to `*code_point`, a lone surrogate too: the lead of a
  * pair that `index` divides. It has two units if it is 10000 or greater, else one. Codes: OK, BAD_POSITION (`index` is greater
  * than the length), END (it is 0). Since 0.2.0. */
-WTF8_CODE WTF8_WRITES(3)
+WTF8_CODE WTF8_ASKS(1) WTF8_WRITES(3)
 wtf8_result wtf8_code_point_before(const wtf8_string *string, size_t index, uint32_t *code_point);
 
 /* Writes the first surrogate after the boundary `*position` to `*unit`, and moves `*position` past its 3 bytes: what was
  * between is text. Any code but OK leaves both numbers as they are. Linear in the bytes that it moves over, constant in
  * an ASCII string. Codes: OK, BAD_POSITION (`*position` is not a boundary), END (no surrogate is after it). */
-WTF8_CODE WTF8_CHANGES(2) WTF8_WRITES(3)
+WTF8_CODE WTF8_ASKS(1) WTF8_CHANGES(2) WTF8_WRITES(3)
 wtf8_result wtf8_next_surrogate(const wtf8_string *string, size_t *position, uint16_t *unit);
 
 /* Writes the code points after the boundary `*position` to the front of `out` until its `size` elements are full or the
  * string ends, and their number to `*len`, and moves `*position` past them: OK if `size` is 0, too. Any code but OK writes
  * nothing. Linear in what it writes. Codes: OK, BAD_POSITION (`*position` is not a boundary), END (it is the length in
  * bytes). */
-WTF8_CODE WTF8_CHANGES(2) WTF8_WRITES(3, 4) WTF8_WRITES(5)
+WTF8_CODE WTF8_ASKS(1) WTF8_CHANGES(2) WTF8_FILLS(3, 4) WTF8_WRITES(5)
 wtf8_result wtf8_copy_code_points(const wtf8_string *string, size_t *position, uint32_t *out, size_t size, size_t *len);
 
 /* Whether the string holds no surrogate, so that wtf8_copy_utf8 gives its text. Constant if it is ASCII, else linear. */
+WTF8_CODE WTF8_ASKS(1)
 bool wtf8_is_utf8(const wtf8_string *string);
 
 /* Whether each unit is ASCII, below 80. Constant: such a string has one byte for each unit. Since 0.2.0. */
+WTF8_CODE WTF8_ASKS(1)
 bool wtf8_is_ascii(const wtf8_string *string);
 
 /* Whether each unit is at most FF, so that wtf8_copy_latin1 gives its text. Constant in ASCII, else linear in the length up to
  * the first that is not. Since 0.2.0. */
+WTF8_CODE WTF8_ASKS(1)
 bool wtf8_is_latin1(const wtf8_string *string);
 
 /* Whether two strings have the same units. Linear in the shorter length, constant if the lengths in bytes differ. */
+WTF8_CODE WTF8_ASKS(1) WTF8_ASKS(2)
 bool wtf8_equal(const wtf8_string *string, const wtf8_string *other);
 
 /* Compare two strings, by their units as JavaScript does, or by their code points as their bytes in UTF-8 would: -1 if
  * the first comes before the second, 0 if they are equal, 1 if it comes after. Linear in what the two begin with alike. */
+WTF8_ASKS(1) WTF8_ASKS(2)
 int32_t wtf8_compare_units(const wtf8_string *string, const wtf8_string *other);
+WTF8_ASKS(1) WTF8_ASKS(2)
 int32_t wtf8_compare_code_points(const wtf8_string *string, const wtf8_string *other);
 
 /* The same of the string and `n` units, without a string of them: whether they are its units, and the order by units. */
-WTF8_READS(2, 3)
+WTF8_CODE WTF8_ASKS(1) WTF8_READS(2, 3)
 bool wtf8_equal_units(const wtf8_string *string, const uint16_t *units, size_t n);
-WTF8_READS(2, 3)
+WTF8_ASKS(1) WTF8_READS(2, 3)
 int32_t wtf8_compare_with_units(const wtf8_string *string, const uint16_t *units, size_t n);
 
 /* Whether `n` bytes are UTF-8, and the text is that of the string, without a string of it. Constant if `n` is another length
  * than the string's in bytes, else linear in what the two begin with alike. */
-WTF8_READS(2, 3)
+WTF8_CODE WTF8_ASKS(1) WTF8_READS(2, 3)
 bool wtf8_equal_utf8(const wtf8_string *string, const uint8_t *text, size_t n);
 
 /* Compares a string with a text of `n` bytes by their units, as wtf8_compare_with_units does, without a string of it. If the
  * bytes are not UTF-8, -1: they come after each string. Linear in `n`. Since 0.2.0. */
-WTF8_READS(2, 3)
+WTF8_ASKS(1) WTF8_READS(2, 3)
 int32_t wtf8_compare_with_utf8(const wtf8_string *string, const uint8_t *text, size_t n);
 
 /* Whether `n` bytes are UTF-8, and the string begins with the units of the text. An end within a code point is not UTF-8, so
  * no string begins with it. Linear in what the two begin with alike. Since 0.2.0. */
-WTF8_READS(2, 3)
+WTF8_CODE WTF8_ASKS(1) WTF8_READS(2, 3)
 bool wtf8_starts_with_utf8(const wtf8_string *string, const uint8_t *text, size_t n);
 
 /* Whether the units of `string` from `index` on, found by the marks, begin with those of `other`. If that has none, they do
  * at each index, also after the end. Linear in the length of `other`. */
+WTF8_CODE WTF8_ASKS(1) WTF8_ASKS(3)
 bool wtf8_starts_with(const wtf8_string *string, size_t index, const wtf8_string *other);
 
 /* The same of `n` units, without a string of them. */
-WTF8_READS(3, 4)
+WTF8_CODE WTF8_ASKS(1) WTF8_READS(3, 4)
 bool wtf8_starts_with_units(const wtf8_string *string, size_t index, const uint16_t *units, size_t n);
 
 /* Writes the first index at or after `from`, found by the marks, at which the units of `other` occur, also within a pair, to
  * `*index`. If `other` has no units they do at `from`, unless that is after the end. END leaves `*index`. Linear in the
  * distance to the index and the length of `other`; where the first 2,048 bytes of a longer `other` occur, what follows them
  * is compared, until it differs. Codes: OK, END (they occur at no such index). Since 0.2.0. */
-WTF8_CODE WTF8_WRITES(4)
+WTF8_CODE WTF8_ASKS(1) WTF8_ASKS(3) WTF8_WRITES(4)
 wtf8_result wtf8_find(const wtf8_string *string, size_t from, const wtf8_string *other, size_t *index);
 
 /* The same of `n` units, without a string of them; the first 2,048 units count as the bytes do there. Since 0.2.0. */
-WTF8_CODE WTF8_READS(3, 4) WTF8_WRITES(5)
+WTF8_CODE WTF8_ASKS(1) WTF8_READS(3, 4) WTF8_WRITES(5)
 wtf8_result wtf8_find_units(const wtf8_string *string, size_t from, const uint16_t *units, size_t n, size_t *index);
 
 /* The last index at or before `from` at which the units of `other` occur; if `other` has none, `from` or the end, whichever
  * comes first. All else is as in wtf8_find, the distance being that from `from` or the end to the index. Since 0.2.0. */
-WTF8_CODE WTF8_WRITES(4)
+WTF8_CODE WTF8_ASKS(1) WTF8_ASKS(3) WTF8_WRITES(4)
 wtf8_result wtf8_rfind(const wtf8_string *string, size_t from, const wtf8_string *other, size_t *index);
 
 /* The same of `n` units, without a string of them, as by wtf8_find_units. Since 0.2.0. */
-WTF8_CODE WTF8_READS(3, 4) WTF8_WRITES(5)
+WTF8_CODE WTF8_ASKS(1) WTF8_READS(3, 4) WTF8_WRITES(5)
 wtf8_result wtf8_rfind_units(const wtf8_string *string, size_t from, const uint16_t *units, size_t n, size_t *index);
 
 /* Whether a cut at `index`, found by the marks, divides a surrogate pair: false at the end and after it. Since 0.2.0. */
+WTF8_CODE WTF8_ASKS(1)
 bool wtf8_divides_pair(const wtf8_string *string, size_t index);
 
 /* A hash for tables: SipHash-1-3 under the key 0 of the 16 bytes of the seed, the lowest byte of `seed_0` first, the bytes of
  * the string, and one byte FE. A seed that nobody knows, made at the start of the program, keeps a table from strings that
  * were chosen to collide. Equal strings have equal hashes under one seed; values may differ in another version of the
  * library. Linear in the length. */
+WTF8_ASKS(1)
 uint64_t wtf8_hash(const wtf8_string *string, uint64_t seed_0, uint64_t seed_1);
 
 /* The hash of the string with these `n` units, without a string of them, to look them up in a table of strings. */
@@ -425,7 +452,7 @@ wtf8_result wtf8_pop(wtf8_string *string, uint32_t *code_point);
 /* Replaces `into` by the units of `string` from `begin`, found by the marks, to before `end`. Uses the capacity of `into` as
  * a wtf8_set_ call does, but makes a new buffer if that is `string` itself. Codes: OK, NO_MEMORY, BAD_POSITION (`begin` is
  * greater than `end`, or `end` than the length). */
-WTF8_CODE WTF8_CHANGES(1)
+WTF8_CODE WTF8_CHANGES(1) WTF8_ASKS(2)
 wtf8_result wtf8_slice_units(wtf8_string *into, const wtf8_string *string, size_t begin, size_t end);
 
 /* ---- Editing ----
@@ -452,11 +479,11 @@ wtf8_result wtf8_replace_units(wtf8_string *string, size_t begin, size_t end, co
 
 /* Inserts another string before the unit at `index`: its bytes are copied, not encoded. Codes: as of wtf8_insert_units.
  * Since 0.2.0. */
-WTF8_CODE WTF8_CHANGES(1)
+WTF8_CODE WTF8_CHANGES(1) WTF8_ASKS(3)
 wtf8_result wtf8_insert(wtf8_string *string, size_t index, const wtf8_string *other);
 
 /* Replaces the units from `begin` to before `end` by another string. Codes: as of wtf8_replace_units. Since 0.2.0. */
-WTF8_CODE WTF8_CHANGES(1)
+WTF8_CODE WTF8_CHANGES(1) WTF8_ASKS(4)
 wtf8_result wtf8_replace(wtf8_string *string, size_t begin, size_t end, const wtf8_string *other);
 
 /* ---- Copying out ----
@@ -467,25 +494,25 @@ wtf8_result wtf8_replace(wtf8_string *string, size_t begin, size_t end, const wt
 
 /* Writes all units at the front of `out`, which has room for `size`, and their number to `*len`. If the array is too
  * short, only the number is written. Codes: OK, ARRAY_TOO_SHORT. */
-WTF8_CODE WTF8_WRITES(2, 3) WTF8_WRITES(4)
+WTF8_CODE WTF8_ASKS(1) WTF8_FILLS(2, 3) WTF8_WRITES(4)
 wtf8_result wtf8_copy_units(const wtf8_string *string, uint16_t *out, size_t size, size_t *len);
 
 /* The same of the units from `begin`, found by the marks, to before `end`. Codes: OK, BAD_POSITION, ARRAY_TOO_SHORT. */
-WTF8_CODE WTF8_WRITES(4, 5) WTF8_WRITES(6)
+WTF8_CODE WTF8_ASKS(1) WTF8_FILLS(4, 5) WTF8_WRITES(6)
 wtf8_result wtf8_copy_slice(const wtf8_string *string, size_t begin, size_t end, uint16_t *out, size_t size, size_t *len);
 
 /* The same of the text in UTF-8, `*len` in bytes, if there is no surrogate. Codes: OK, HAS_SURROGATE, ARRAY_TOO_SHORT. */
-WTF8_CODE WTF8_WRITES(2, 3) WTF8_WRITES(4)
+WTF8_CODE WTF8_ASKS(1) WTF8_FILLS(2, 3) WTF8_WRITES(4)
 wtf8_result wtf8_copy_utf8(const wtf8_string *string, uint8_t *out, size_t size, size_t *len);
 
 /* The same of the text with U+FFFD in place of each surrogate. Codes: OK, ARRAY_TOO_SHORT. */
-WTF8_CODE WTF8_WRITES(2, 3) WTF8_WRITES(4)
+WTF8_CODE WTF8_ASKS(1) WTF8_FILLS(2, 3) WTF8_WRITES(4)
 wtf8_result wtf8_copy_lossy(const wtf8_string *string, uint8_t *out, size_t size, size_t *len);
 
 /* The same of the units, each as one byte, if none is greater than FF: a text in Latin-1, or in ASCII if the string is. With
  * NOT_LATIN1 only the index of the first unit that is greater is written, to `*valid`, unless that is NULL. The string is read
  * before anything is written. Codes: OK, NOT_LATIN1, ARRAY_TOO_SHORT. Since 0.2.0. */
-WTF8_CODE WTF8_WRITES(2, 3) WTF8_WRITES(4) WTF8_WRITES(5)
+WTF8_CODE WTF8_ASKS(1) WTF8_FILLS(2, 3) WTF8_WRITES(4) WTF8_MAY_WRITE(5)
 wtf8_result wtf8_copy_latin1(const wtf8_string *string, uint8_t *out, size_t size, size_t *len, size_t *valid);
 
 #ifdef __cplusplus

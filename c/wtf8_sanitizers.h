@@ -16,9 +16,18 @@ extern "C" {
 
 #ifdef __cplusplus
 #define WTF8_INLINE inline __attribute__((always_inline))
+#define WTF8_VARIABLE(at) const_cast<void *>(at)
+#define WTF8_SIGNED(n) static_cast<intptr_t>(n)
 #else
 #define WTF8_INLINE static inline __attribute__((always_inline))
+#define WTF8_VARIABLE(at) (void *)(intptr_t)(at)
+#define WTF8_SIGNED(n) (intptr_t)(n)
 #endif
+
+/* An address as the sanitizers take it. */
+WTF8_INLINE void *wtf8_at(const void *at) {
+    return WTF8_VARIABLE(at);
+}
 
 #ifdef WTF8_WITH_ADDRESS
 void *__asan_region_is_poisoned(void *at, size_t n);
@@ -27,12 +36,12 @@ void __asan_store1_noabort(void *at);
 
 /* A byte that is read or written at a given address is what the sanitizer names exactly. */
 WTF8_INLINE void wtf8_can_read(const void *at, size_t n) {
-    void *bad = __asan_region_is_poisoned((void *)(intptr_t)at, n);
+    void *bad = __asan_region_is_poisoned(wtf8_at(at), n);
     if (bad) __asan_load1_noabort(bad);
 }
 
 WTF8_INLINE void wtf8_can_write(const void *at, size_t n) {
-    void *bad = __asan_region_is_poisoned((void *)(intptr_t)at, n);
+    void *bad = __asan_region_is_poisoned(wtf8_at(at), n);
     if (bad) __asan_store1_noabort(bad);
 }
 
@@ -46,8 +55,8 @@ WTF8_INLINE void wtf8_can_write(const void *at, size_t n) {
 #ifdef WTF8_WITH_THREAD
 void __tsan_read_range(void *at, intptr_t n);
 void __tsan_write_range(void *at, intptr_t n);
-#define WTF8_READ(at, n) __tsan_read_range((void *)(intptr_t)(at), (intptr_t)(n))
-#define WTF8_WRITTEN(at, n) __tsan_write_range((void *)(intptr_t)(at), (intptr_t)(n))
+#define WTF8_READ(at, n) __tsan_read_range(wtf8_at(at), WTF8_SIGNED(n))
+#define WTF8_WRITTEN(at, n) __tsan_write_range(wtf8_at(at), WTF8_SIGNED(n))
 #else
 #define WTF8_READ(at, n) (void)(n)
 #define WTF8_WRITTEN(at, n) (void)(n)
@@ -138,6 +147,8 @@ WTF8_INLINE void wtf8_walked(wtf8_result code, const size_t *position, const uin
     }
 #define WTF8_TELLS_CODE(name, parameters, arguments, before)      \
     WTF8_CODE WTF8_TELLS(wtf8_result, name, parameters, arguments, before)
+#define WTF8_TELLS_BOOL(name, parameters, arguments, before)      \
+    WTF8_CODE WTF8_TELLS(bool, name, parameters, arguments, before)
 #define WTF8_TELLS_VOID(name, parameters, arguments, before)      \
     WTF8_INLINE void wtf8_told_##name parameters {                \
         before;                                                   \
@@ -219,7 +230,7 @@ WTF8_TELLS(size_t, unit_before, (const wtf8_string *string, size_t position), (s
 WTF8_TELLS_AFTER(unit_at, (const wtf8_string *string, size_t index, uint16_t *unit), (string, index, unit),
                  wtf8_asks(string); wtf8_may_write(unit, sizeof *unit),
                  if (code == WTF8_OK) wtf8_wrote(unit, sizeof *unit))
-WTF8_TELLS(bool, is_boundary, (const wtf8_string *string, size_t position), (string, position), wtf8_asks(string))
+WTF8_TELLS_BOOL(is_boundary, (const wtf8_string *string, size_t position), (string, position), wtf8_asks(string))
 WTF8_TELLS_AFTER(next_code_point, (const wtf8_string *string, size_t *position, uint32_t *code_point),
                  (string, position, code_point),
                  wtf8_asks(string); wtf8_reads(position, sizeof *position);
@@ -240,28 +251,28 @@ WTF8_TELLS_AFTER(next_surrogate, (const wtf8_string *string, size_t *position, u
                      wtf8_wrote(position, sizeof *position);
                      wtf8_wrote(unit, sizeof *unit);
                  })
-WTF8_TELLS(bool, is_utf8, (const wtf8_string *string), (string), wtf8_asks(string))
-WTF8_TELLS(bool, is_ascii, (const wtf8_string *string), (string), wtf8_asks(string))
-WTF8_TELLS(bool, is_latin1, (const wtf8_string *string), (string), wtf8_asks(string))
-WTF8_TELLS(bool, equal, (const wtf8_string *string, const wtf8_string *other), (string, other),
+WTF8_TELLS_BOOL(is_utf8, (const wtf8_string *string), (string), wtf8_asks(string))
+WTF8_TELLS_BOOL(is_ascii, (const wtf8_string *string), (string), wtf8_asks(string))
+WTF8_TELLS_BOOL(is_latin1, (const wtf8_string *string), (string), wtf8_asks(string))
+WTF8_TELLS_BOOL(equal, (const wtf8_string *string, const wtf8_string *other), (string, other),
            wtf8_asks(string); wtf8_asks(other))
 WTF8_TELLS(int32_t, compare_units, (const wtf8_string *string, const wtf8_string *other), (string, other),
            wtf8_asks(string); wtf8_asks(other))
 WTF8_TELLS(int32_t, compare_code_points, (const wtf8_string *string, const wtf8_string *other), (string, other),
            wtf8_asks(string); wtf8_asks(other))
-WTF8_TELLS(bool, equal_units, (const wtf8_string *string, const uint16_t *units, size_t n), (string, units, n),
+WTF8_TELLS_BOOL(equal_units, (const wtf8_string *string, const uint16_t *units, size_t n), (string, units, n),
            wtf8_asks(string); wtf8_reads(units, n * 2))
 WTF8_TELLS(int32_t, compare_with_units, (const wtf8_string *string, const uint16_t *units, size_t n), (string, units, n),
            wtf8_asks(string); wtf8_reads(units, n * 2))
-WTF8_TELLS(bool, equal_utf8, (const wtf8_string *string, const uint8_t *text, size_t n), (string, text, n),
+WTF8_TELLS_BOOL(equal_utf8, (const wtf8_string *string, const uint8_t *text, size_t n), (string, text, n),
            wtf8_asks(string); wtf8_reads(text, n))
 WTF8_TELLS(int32_t, compare_with_utf8, (const wtf8_string *string, const uint8_t *text, size_t n), (string, text, n),
            wtf8_asks(string); wtf8_reads(text, n))
-WTF8_TELLS(bool, starts_with_utf8, (const wtf8_string *string, const uint8_t *text, size_t n), (string, text, n),
+WTF8_TELLS_BOOL(starts_with_utf8, (const wtf8_string *string, const uint8_t *text, size_t n), (string, text, n),
            wtf8_asks(string); wtf8_reads(text, n))
-WTF8_TELLS(bool, starts_with, (const wtf8_string *string, size_t index, const wtf8_string *other), (string, index, other),
+WTF8_TELLS_BOOL(starts_with, (const wtf8_string *string, size_t index, const wtf8_string *other), (string, index, other),
            wtf8_asks(string); wtf8_asks(other))
-WTF8_TELLS(bool, starts_with_units, (const wtf8_string *string, size_t index, const uint16_t *units, size_t n),
+WTF8_TELLS_BOOL(starts_with_units, (const wtf8_string *string, size_t index, const uint16_t *units, size_t n),
            (string, index, units, n), wtf8_asks(string); wtf8_reads(units, n * 2))
 WTF8_TELLS_AFTER(find, (const wtf8_string *string, size_t from, const wtf8_string *other, size_t *index),
                  (string, from, other, index),
@@ -279,7 +290,7 @@ WTF8_TELLS_AFTER(rfind_units, (const wtf8_string *string, size_t from, const uin
                  (string, from, units, n, index),
                  wtf8_asks(string); wtf8_reads(units, n * 2); wtf8_may_write(index, sizeof *index),
                  if (code == WTF8_OK) wtf8_wrote(index, sizeof *index))
-WTF8_TELLS(bool, divides_pair, (const wtf8_string *string, size_t index), (string, index), wtf8_asks(string))
+WTF8_TELLS_BOOL(divides_pair, (const wtf8_string *string, size_t index), (string, index), wtf8_asks(string))
 WTF8_TELLS(uint64_t, hash, (const wtf8_string *string, uint64_t seed_0, uint64_t seed_1), (string, seed_0, seed_1),
            wtf8_asks(string))
 WTF8_TELLS(uint64_t, hash_units, (const uint16_t *units, size_t n, uint64_t seed_0, uint64_t seed_1),

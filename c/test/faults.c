@@ -36,6 +36,7 @@ static void none(void) {
     must(wtf8_push_utf8(&t, (const uint8_t *)"ab\xFF", 3, NULL) == WTF8_NOT_UTF8, "not UTF-8 again");
     must(wtf8_slice_units(&t, &s, 1, 3) == WTF8_OK && wtf8_equal_units(&t, units, 2), "equal units");
     must(wtf8_copy_utf8(&t, text, 4, &n) == WTF8_OK && n == 2 && text[1] == 'a', "the text");
+    must(wtf8_memory_in_use().context == NULL, "the functions in use");
     wtf8_free(&t);
     wtf8_free(&s);
     free(lossy);
@@ -142,6 +143,17 @@ static void not_made_asked(void) { not_made(ask); }
 static void not_made_pushed(void) { not_made(push); }
 static void not_made_freed(void) { not_made(wtf8_free); }
 
+/* No string is asked, and no number is written. */
+static void null_string(void) {
+    wtf8_string *volatile string = NULL;
+    ask(string);
+}
+
+static void null_number(void) {
+    size_t *volatile number = NULL;
+    must(wtf8_position_at(&shared, 0, number) == WTF8_OK, "a position");
+}
+
 /* The units of an array are read before they are written. */
 static void unwritten(void) {
     uint16_t *volatile array = malloc(20);
@@ -168,6 +180,8 @@ static const struct {
               {"not_made_asked", not_made_asked},
               {"not_made_pushed", not_made_pushed},
               {"not_made_freed", not_made_freed},
+              {"null_string", null_string},
+              {"null_number", null_number},
               {"unwritten", unwritten}};
 
 int main(int count, char **words) {

@@ -1,4 +1,5 @@
-/* Misuses of calls, one for each number, that a compiler warns of if it knows the attribute of wtf8.h. Number 0 is right. */
+/* Misuses of calls, one for each number, that a compiler warns of if it knows the attributes of wtf8.h: from 10 on gcc and clang
+ * do. Number 0 is right. */
 #include "../wtf8.h"
 
 #include <stdlib.h>
@@ -13,6 +14,10 @@ static int misuse(void) {
     uint16_t units[UNITS] = {'a', 'b', 'c', 'd'};
     size_t n;
     wtf8_mark(&string);
+#if 201703L <= __cplusplus || 201710L < __STDC_VERSION__
+    (void)wtf8_push_unit(&string, 'a');
+    (void)wtf8_is_utf8(&string);
+#endif
     if (wtf8_push_units(&string, units, UNITS) != WTF8_OK || wtf8_push_units(&string, NULL, 0) != WTF8_OK) return 0;
     if (wtf8_set_utf8(&string, (const uint8_t *)"abcd", UNITS, NULL) != WTF8_OK) return 0;
     return wtf8_copy_units(&string, NULL, 0, &n) != WTF8_OK && wtf8_copy_units(&string, units, UNITS, &n) == WTF8_OK;
@@ -48,6 +53,26 @@ static int misuse(void) {
     size_t position;
     uint32_t code_point;
     return wtf8_next_code_point(&string, &position, &code_point) == WTF8_OK;
+#elif MISUSE == 10 /* no string is changed */
+    return wtf8_push_unit(NULL, 'a') == WTF8_OK;
+#elif MISUSE == 11 /* no string is asked */
+    return wtf8_unit_len(NULL) == 0;
+#elif MISUSE == 12 /* no other string is appended */
+    return wtf8_push_string(&string, NULL) == WTF8_OK;
+#elif MISUSE == 13 /* no number is written */
+    return wtf8_copy_units(&string, NULL, 0, NULL) == WTF8_OK;
+#elif MISUSE == 14 /* a walk begins at no position */
+    uint32_t code_point;
+    return wtf8_next_code_point(&string, NULL, &code_point) == WTF8_OK;
+#elif MISUSE == 15 /* no function is used */
+    wtf8_use_memory(malloc, realloc, NULL);
+    return 0;
+#elif MISUSE == 16 /* a code is not looked at */
+    wtf8_push_unit(&string, 'a');
+    return 0;
+#elif MISUSE == 17 /* an answer is not looked at */
+    wtf8_is_utf8(&string);
+    return 0;
 #endif
 }
 
