@@ -20,8 +20,9 @@
  * - malloc, realloc and free of the program, or what wtf8_use_memory is given, come from one allocator, which aligns a
  *   block to each power of two up to 16 that divides its size.
  *
- * One string may be passed twice to one call, as to append it to itself. U+0000 is a unit like others, and no 0 is written
- * after what is copied out.
+ * One string may be passed twice to one call, as to append it to itself: wtf8_push_string, wtf8_push_slice, wtf8_insert and
+ * wtf8_replace then request memory for a copy, also if the bytes fit. U+0000 is a unit like others, and no 0 is written after
+ * what is copied out.
  *
  * In each call the string that is changed, or else the one that is asked, comes first. If several codes apply, a call
  * returns the first of them in this order: BAD_CODE_POINT, NOT_UTF8, BAD_POSITION, HAS_SURROGATE, NOT_LATIN1,
@@ -29,7 +30,10 @@
  *
  * Costs: a call takes time linear in the units or bytes that it is given or hands out, if its text says no other. An
  * append to a string without room for it moves the string to a block of at least twice the capacity, so that n appends of
- * a unit take time linear in n. A string takes one block, and none while nothing was written to it.
+ * a unit take time linear in n. A string takes one block, and none while nothing was written to it. Before its work a call
+ * takes 15 to 220 instructions; hashes, slices, searches, edits, and a new string with its free take up to 600, a search of a
+ * long string 1,000. A call takes at most 3 kB of stack, a search (wtf8_find, wtf8_rfind and so on) 32 kB, beside what the
+ * functions for memory take.
  */
 #ifndef WTF8_H
 #define WTF8_H
@@ -133,8 +137,9 @@ typedef struct wtf8_memory {
 /* The same with a context. Since 0.2.0. */
 void wtf8_use_memory_with(wtf8_memory memory);
 
-/* The functions that the library calls. Those of wtf8_use_memory, and malloc, realloc and free, take no heed of a context.
- * Since 0.2.0. */
+/* The functions that the library calls. They stay what they are, so that wtf8_use_memory_with may be given them later, and each
+ * of both calls functions that call them. Those of wtf8_use_memory, and malloc, realloc and free, take no heed of a context. All
+ * are NULL for the eighth set of functions beside malloc's that wtf8_use_memory was given, and later ones. Since 0.2.0. */
 wtf8_memory wtf8_memory_in_use(void);
 
 /* ---- Making a string ----
@@ -202,7 +207,8 @@ void wtf8_shrink(wtf8_string *string);
  *
  * Calls that find a unit by its index take constant time in a string of ASCII. Else they count units: at most 129 of them
  * from a mark if the string has marks; without marks those from the start, or from the end to one of the last 128. For a
- * position in bytes the marks are searched, by halves.
+ * position in bytes the marks are searched, by halves. So wtf8_mark comes before a loop of searches, or of other calls by
+ * index: without marks such a loop takes quadratic time.
  */
 
 /* Makes a mark for each 128 units of the string, if it is not ASCII. Appends and truncations keep the string marked, and so
@@ -450,8 +456,8 @@ WTF8_CODE WTF8_CHANGES(1) WTF8_WRITES(2)
 wtf8_result wtf8_pop(wtf8_string *string, uint32_t *code_point);
 
 /* Replaces `into` by the units of `string` from `begin`, found by the marks, to before `end`. Uses the capacity of `into` as
- * a wtf8_set_ call does, but makes a new buffer if that is `string` itself. Codes: OK, NO_MEMORY, BAD_POSITION (`begin` is
- * greater than `end`, or `end` than the length). */
+ * a wtf8_set_ call does; never refused if that is `string` itself, which is cut. Codes: OK, NO_MEMORY, BAD_POSITION (`begin`
+ * is greater than `end`, or `end` than the length). */
 WTF8_CODE WTF8_CHANGES(1) WTF8_ASKS(2)
 wtf8_result wtf8_slice_units(wtf8_string *into, const wtf8_string *string, size_t begin, size_t end);
 

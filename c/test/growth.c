@@ -1,5 +1,6 @@
-/* Makes each call over strings of one length and kind, and has callgrind write a dump of what it took, by the call's name.
- * Arguments: the number of units, at least 1,000, and the kind: `ascii`, or `cjk` with marks. c/test_growth compares lengths. */
+/* Makes each call over strings of one length and kind, and has callgrind write a dump of what it took, by the call's name. None
+ * takes more stack than wtf8.h says. Arguments: the number of units, at least 1,000, and the kind: `ascii`, or `cjk` with marks.
+ * c/test_growth compares lengths. */
 #include "../wtf8.h"
 #include "must.h"
 
@@ -14,12 +15,27 @@ static uint32_t points[FEW];
 static volatile size_t answer; /* what a call returned, so that it is made */
 static int is_marked;
 
+enum { STACK = 1 << 16, MOST_STACK = 3 << 10, MOST_OF_SEARCH = 32 << 10, FILLED = 0x5A };
+
+/* Fills what is below the stack, or returns how many bytes of it were written since, up to the deepest one. */
+static __attribute__((noinline)) size_t stack(int is_filled) {
+    uint8_t below[STACK];
+    size_t i = 0;
+    if (is_filled) memset(below, FILLED, STACK);
+    __asm__ volatile("" : "+m"(below)); /* what is there is filled, or read as it was left */
+    while (i < STACK && below[i] == FILLED) i++;
+    return STACK - i;
+}
+
 /* Counts a call alone: the string is made before, and the results are looked at after it. */
-#define COUNT(name, call)                                   \
-    do {                                                    \
-        CALLGRIND_ZERO_STATS;                               \
-        answer = (size_t)(call);                            \
-        CALLGRIND_DUMP_STATS_AT(#name);                     \
+#define COUNT(name, call)                                                                  \
+    do {                                                                                   \
+        stack(1);                                                                          \
+        CALLGRIND_ZERO_STATS;                                                              \
+        answer = (size_t)(call);                                                           \
+        CALLGRIND_DUMP_STATS_AT(#name);                                                    \
+        size_t used = stack(0);                                                            \
+        must(used <= (strstr(#name, "find") ? MOST_OF_SEARCH : MOST_STACK), #name ": stack");\
     } while (0)
 #define COUNT_VOID(name, call) COUNT(name, ((call), WTF8_OK))
 #define COUNT_OK(name, call)                                \
