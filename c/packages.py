@@ -25,7 +25,7 @@ TRIPLET = "x86_64-linux-gnu"
 # The newest version of glibc whose symbols the tag of the wheel allows.
 MANYLINUX = "manylinux2014", (2, 17)
 # The release that each symbol version began with.
-RELEASES = {"WTF8_0": "0.1.0", "WTF8_0.2": "0.2.0"}
+RELEASES = {"WTF8_0": "0.1.0", "WTF8_0.2": "0.2.0", "WTF8_0.3": "0.3.0"}
 
 
 def wheel(root, version, folder, packed):
