@@ -1686,10 +1686,10 @@ static void kept_capacity(void) {
     }
 }
 
-/* A string that grows unit by unit asks for memory at most once for each doubling, beside its struct. */
+/* A string that grows unit by unit, by appends and by edits, asks for memory at most once for each doubling, beside its struct. */
 static void growth(void) {
     static uint16_t units[LETTERS];
-    for (int way = 0; way < 5; way++) {
+    for (int way = 0; way < 9; way++) {
         wtf8_string string = WTF8_EMPTY, one = WTF8_EMPTY;
         must(wtf8_push_unit(&one, 0x4E2D) == WTF8_OK, "a unit to push");
         long before = requests;
@@ -1700,8 +1700,12 @@ static void growth(void) {
                              : way == 1 ? wtf8_push_code_point(&string, unit)
                              : way == 2 ? wtf8_push_units(&string, &unit, 1)
                              : way == 3 ? wtf8_push_utf8(&string, (const uint8_t *)"\xE4\xB8\xAD", 3, NULL)
-                                        : wtf8_push_string(&string, &one);
-            must(code == WTF8_OK, "a push that grows");
+                             : way == 4 ? wtf8_push_string(&string, &one)
+                             : way == 5 ? wtf8_insert_units(&string, i - 1, &unit, 1)
+                             : way == 6 ? wtf8_replace_units(&string, i - 1, i - 1, &unit, 1)
+                             : way == 7 ? wtf8_insert(&string, i - 1, &one)
+                                        : wtf8_replace(&string, i - 1, i - 1, &one);
+            must(code == WTF8_OK, "a call that grows a string");
             size_t doublings = 0;
             for (size_t n = i; n > 0; n /= 2) doublings++;
             must(requests - before <= 2 + (long)doublings, "the requests of a string that grows");

@@ -12,8 +12,8 @@ use wtf8::Wtf8;
 impl<A: Allocator> IndexedBuf<A> {
     /// Inserts code units, paired or not, before the one at index `index`, which must be at most the length. Inside a
     /// surrogate pair, the pair is cut, and each half may form one with a new unit. If memory is refused, the string is
-    /// unchanged; no insertion is refused for a mark. Finds the index as `position_at` does, then linear in the number of
-    /// new units and of the bytes after them. Marks after `index` are made anew.
+    /// unchanged; no insertion is refused for a mark. Finds the index as `position_at` does, then amortized linear in the
+    /// number of new units and of the bytes after them. Marks after `index` are made anew.
     pub fn insert_units(&mut self, index: usize, units: &[u16]) -> Result<(), AllocError>
         requires { index ≤ length self.old.units }
         ensures ok { OnOk result (self.new.units ≡ spliced self.old.units index index units.now) }
@@ -43,7 +43,8 @@ impl<A: Allocator> IndexedBuf<A> {
     /// others, paired or not. A pair that an end splits is cut, and a lead and a trail that then meet become one code
     /// point. If memory is refused, the string is unchanged; it is requested at most once, and not if the new string fits
     /// the capacity, and no call is refused for a mark. Finds `begin` as `position_at` does, and `end` from there or from a
-    /// nearer mark, then linear in the number of new units and of the bytes after `begin`. Marks after `begin` are made anew.
+    /// nearer mark, then amortized linear in the number of new units and of the bytes after `begin`. Marks after `begin` are
+    /// made anew.
     pub fn replace_units(
         &mut self,
         begin: usize,

@@ -500,7 +500,7 @@ impl<A: Allocator> Wtf8Buf<A> {
     /// cut, and a lead and a trail that meet become one code point, so any part can be inserted, removed or put back.
     /// `from` and `to` must be the marks that `mark_at` or `mark_back` finds for `begin` and `end`. If memory is
     /// refused, the string is unchanged; it is requested at most once, and not if the new string fits the capacity.
-    /// Linear in the number of new units and of the bytes after `begin`.
+    /// Amortized linear in the number of new units and of the bytes after `begin`.
     pub fn replace_units_at(
         &mut self,
         from: UnitMark,
