@@ -54,8 +54,8 @@ namespace wtf8 {
 
 #if defined(__cpp_exceptions) || defined(__EXCEPTIONS)
 
-/* BAD_CODE_POINT, HAS_SURROGATE, NOT_UTF8 with the position of the first byte that is not UTF-8, or NOT_LATIN1 with the index
- * of the first unit that is greater than FF. */
+/* BAD_CODE_POINT, HAS_SURROGATE, NOT_UTF8 with the position of the first byte that is not UTF-8, NOT_LATIN1 with the index
+ * of the first unit that is greater than FF, or ARRAY_TOO_SHORT with the length that the array must have. */
 struct error : std::invalid_argument {
     explicit error(wtf8_result code_, size_t position_ = 0)
         : std::invalid_argument(wtf8_result_text(code_)), code(code_), position(position_) {}
@@ -73,7 +73,7 @@ struct error : std::invalid_argument {
 #else
 
 /* What a failure calls: `position` is that of the first byte that is not UTF-8 with NOT_UTF8, the index of the first unit that
- * is greater than FF with NOT_LATIN1, else 0. */
+ * is greater than FF with NOT_LATIN1, the length that the array must have with ARRAY_TOO_SHORT, else 0. */
 using failure_handler = void (*)(wtf8_result code, size_t position);
 
 inline failure_handler &the_failure_handler() noexcept {
@@ -101,10 +101,17 @@ inline void check(wtf8_result code, size_t position = 0) {
     if (code != WTF8_OK) fail(code, position);
 }
 
+/* What has a name of std::u16string does the same, and the use of a unit that is not there, also of [] at the end, is
+ * std::out_of_range. A char and a text are in UTF-8. What differs:
+ * - The units are not in memory as such: there is no data, c_str or view of them, and [], at, front and back return a unit, not
+ *   a reference. begin and rbegin walk over code points, which cannot be written, and no call takes an iterator.
+ * - append and assign of a part of a string take two indexes, not an index and a number. capacity is in bytes.
+ * - Nothing is copied or converted to a string unasked, and no constructor takes a number of equal units, but assign does. */
 class string {
 public:
     /* What push_back takes, so that std::back_inserter appends units. */
     using value_type = char16_t;
+    using size_type = size_t;
     /* What find and rfind return if there is no index. */
     enum : size_t { npos = static_cast<size_t>(-1) };
 
@@ -152,6 +159,16 @@ public:
     /* Replacing. */
     string &assign(const char16_t *units, size_t n) { return done(wtf8_set_units(get(), raw(units), n)); }
     string &assign(units_in units) { return assign(units.data(), units.size()); }
+    string &assign(size_t n, char16_t unit) { return *this = times(n, unit); }
+    /* Units, or a text. Templates, so that braces are a string as before. */
+    template <class Units>
+    typename std::enable_if<std::is_convertible<const Units &, units_in>::value, string &>::type operator=(const Units &units) {
+        return assign(units);
+    }
+    template <class Text>
+    typename std::enable_if<std::is_convertible<const Text &, text_in>::value, string &>::type operator=(const Text &text) {
+        return assign_utf8(text);
+    }
     string &assign_utf8(text_in text) {
         size_t valid = 0;
         wtf8_result code = wtf8_set_utf8(get(), raw(text.data()), text.size(), &valid);
@@ -163,6 +180,16 @@ public:
     WTF8_NODISCARD bool equals_utf8(text8_in text) const noexcept { return equals_utf8(plain(text)); }
     WTF8_NODISCARD int compare_utf8(text8_in text) const noexcept { return compare_utf8(plain(text)); }
     WTF8_NODISCARD bool starts_with_utf8(text8_in text) const noexcept { return starts_with_utf8(plain(text)); }
+    template <class Text>
+    typename std::enable_if<std::is_convertible<const Text &, text8_in>::value, string &>::type operator=(const Text &text) {
+        return assign_utf8(text8_in(text));
+    }
+    string &operator+=(char8_t unit) { return append_utf8(text8_in(&unit, 1)); }
+    string &operator+=(text8_in text) { return append_utf8(text); }
+    WTF8_NODISCARD size_t find(text8_in text, size_t from = 0) const { return find(plain(text), from); }
+    WTF8_NODISCARD size_t rfind(text8_in text, size_t from = npos) const { return rfind(plain(text), from); }
+    WTF8_NODISCARD bool starts_with(text8_in text) const noexcept { return starts_with_utf8(text); }
+    WTF8_NODISCARD bool ends_with(text8_in text) const { return ends_with(plain(text)); }
 #endif
     string &assign_latin1(text_in text) { return done(wtf8_set_latin1(get(), raw(text.data()), text.size())); }
     string &assign(const string &other) { return done(wtf8_set_string(get(), other.get())); }
@@ -179,6 +206,15 @@ public:
     }
     string &append(const char16_t *units, size_t n) { return done(wtf8_push_units(get(), raw(units), n)); }
     string &append(units_in units) { return append(units.data(), units.size()); }
+    /* A unit `n` times. */
+    string &append(size_t n, char16_t unit) {
+        enum : size_t { PART = 128 };
+        char16_t units[PART];
+        reserve_bytes(product(n, wtf8_encoded_len(raw(&unit), 1)));
+        for (size_t i = 0; i < PART && i < n; i++) units[i] = unit;
+        for (; PART < n; n -= PART) append(units, PART);
+        return append(units, n);
+    }
     string &append_latin1(text_in text) { return done(wtf8_push_latin1(get(), raw(text.data()), text.size())); }
     string &append_utf8(text_in text) {
         size_t valid = 0;
@@ -204,7 +240,11 @@ public:
     }
     string &operator+=(char16_t unit) { return append_unit(unit); }
     string &operator+=(char32_t value) { return append_code_point(value); }
+    /* A number is a code point, as that of a unit is too. */
+    string &operator+=(int value) { return append_code_point(static_cast<char32_t>(value)); }
+    string &operator+=(char unit) { return append_utf8(std::string(1, unit)); }
     string &operator+=(units_in units) { return append(units); }
+    string &operator+=(text_in text) { return append_utf8(text); }
     string &operator+=(const string &other) { return append(other); }
 
     /* Memory, and cutting. */
@@ -219,12 +259,22 @@ public:
         return n;
     }
     void reserve_bytes(size_t additional) { check(wtf8_reserve_bytes(get(), additional)); }
+    /* Room for any `n` units in all, of three bytes each. */
+    void reserve(size_t n) {
+        if (unit_len() < n) reserve_bytes(product(n - unit_len(), 3));
+    }
     WTF8_NODISCARD size_t capacity() const noexcept { return wtf8_capacity(get()); }
     void shrink() noexcept { wtf8_shrink(get()); }
+    void shrink_to_fit() noexcept { shrink(); }
     void mark() { check(wtf8_mark(get())); }
     void clear() noexcept { wtf8_clear(get()); }
     void truncate_units(size_t n) { check(wtf8_truncate_units(get(), n)); }
     void truncate_bytes(size_t position) { check(wtf8_truncate_bytes(get(), position)); }
+    void pop_back() { truncate_units(unit_len() - 1); }
+    void resize(size_t n, char16_t unit = 0) {
+        if (n <= unit_len()) truncate_units(n);
+        else append(n - unit_len(), unit);
+    }
 
     /* Units in the middle, also inside a pair, as of std::u16string: `n` of them from `index` on, or as many as there are. */
     string &insert(size_t index, units_in units) {
@@ -234,6 +284,8 @@ public:
     string &replace(size_t index, size_t n, units_in units) {
         return done(wtf8_replace_units(get(), index, end_of(index, n), raw(units.data()), units.size()));
     }
+    string &insert(size_t index, size_t n, char16_t unit) { return insert(index, times(n, unit)); }
+    string &replace(size_t index, size_t n, size_t new_n, char16_t unit) { return replace(index, n, times(new_n, unit)); }
     string &insert(size_t index, const string &other) { return done(wtf8_insert(get(), index, other.get())); }
     string &replace(size_t index, size_t n, const string &other) {
         return done(wtf8_replace(get(), index, end_of(index, n), other.get()));
@@ -321,17 +373,36 @@ public:
         char32_t part_[PART];
     };
     using const_iterator = iterator;
+    using reverse_iterator = std::reverse_iterator<iterator>;
+    using const_reverse_iterator = reverse_iterator;
     WTF8_NODISCARD iterator begin() const noexcept {
         iterator first(get(), 0);
         first.decode();
         return first;
     }
     WTF8_NODISCARD iterator end() const noexcept { return iterator(get(), byte_len()); }
+    WTF8_NODISCARD iterator cbegin() const noexcept { return begin(); }
+    WTF8_NODISCARD iterator cend() const noexcept { return end(); }
+    WTF8_NODISCARD reverse_iterator rbegin() const noexcept { return reverse_iterator(end()); }
+    WTF8_NODISCARD reverse_iterator rend() const noexcept { return reverse_iterator(begin()); }
+    WTF8_NODISCARD reverse_iterator crbegin() const noexcept { return rbegin(); }
+    WTF8_NODISCARD reverse_iterator crend() const noexcept { return rend(); }
+    /* The number of code points of the units from `begin` to before `end`, or of all. A half of a pair counts as one. */
+    WTF8_NODISCARD size_t code_point_len(size_t begin, size_t end) const {
+        check(end < begin ? WTF8_BAD_POSITION : WTF8_OK);
+        const size_t last = position_at(end);
+        size_t n = begin < end && divides_pair(end) ? 1 : 0;
+        iterator point(get(), position_at(begin));
+        for (point.decode(); point.position() < last; ++point) n++;
+        return n;
+    }
+    WTF8_NODISCARD size_t code_point_len() const { return code_point_len(0, unit_len()); }
 
     /* Asking. */
     WTF8_NODISCARD bool empty() const noexcept { return byte_len() == 0; }
     WTF8_NODISCARD size_t unit_len() const noexcept { return wtf8_unit_len(get()); }
     WTF8_NODISCARD size_t size() const noexcept { return unit_len(); }
+    WTF8_NODISCARD size_t length() const noexcept { return unit_len(); }
     WTF8_NODISCARD size_t byte_len() const noexcept { return wtf8_byte_len(get()); }
     WTF8_NODISCARD char16_t at(size_t index) const {
         char16_t unit = 0;
@@ -339,6 +410,8 @@ public:
         return unit;
     }
     WTF8_NODISCARD char16_t operator[](size_t index) const { return at(index); }
+    WTF8_NODISCARD char16_t front() const { return at(0); }
+    WTF8_NODISCARD char16_t back() const { return at(unit_len() - 1); }
     WTF8_NODISCARD size_t position_at(size_t index) const {
         size_t position = 0;
         check(wtf8_position_at(get(), index, &position));
@@ -354,25 +427,45 @@ public:
         size_t index = npos;
         return wtf8_find(get(), from, other.get(), &index) == WTF8_OK ? index : static_cast<size_t>(npos);
     }
-    WTF8_NODISCARD size_t find(units_in units, size_t from = 0) const noexcept {
+    WTF8_NODISCARD size_t find(const char16_t *units, size_t from, size_t n) const noexcept {
         size_t index = npos;
-        return wtf8_find_units(get(), from, raw(units.data()), units.size(), &index) == WTF8_OK ? index : static_cast<size_t>(npos);
+        return wtf8_find_units(get(), from, raw(units), n, &index) == WTF8_OK ? index : static_cast<size_t>(npos);
     }
+    WTF8_NODISCARD size_t find(units_in units, size_t from = 0) const noexcept { return find(units.data(), from, units.size()); }
+    WTF8_NODISCARD size_t find(char16_t unit, size_t from = 0) const noexcept { return find(&unit, from, 1); }
     WTF8_NODISCARD size_t rfind(const string &other, size_t from = npos) const noexcept {
         size_t index = npos;
         return wtf8_rfind(get(), from, other.get(), &index) == WTF8_OK ? index : static_cast<size_t>(npos);
     }
-    WTF8_NODISCARD size_t rfind(units_in units, size_t from = npos) const noexcept {
+    WTF8_NODISCARD size_t rfind(const char16_t *units, size_t from, size_t n) const noexcept {
         size_t index = npos;
-        return wtf8_rfind_units(get(), from, raw(units.data()), units.size(), &index) == WTF8_OK ? index : static_cast<size_t>(npos);
+        return wtf8_rfind_units(get(), from, raw(units), n, &index) == WTF8_OK ? index : static_cast<size_t>(npos);
     }
-    WTF8_NODISCARD size_t find(char16_t unit, size_t from = 0) const noexcept {
-        size_t index = npos;
-        return wtf8_find_units(get(), from, raw(&unit), 1, &index) == WTF8_OK ? index : static_cast<size_t>(npos);
+    WTF8_NODISCARD size_t rfind(units_in units, size_t from = npos) const noexcept { return rfind(units.data(), from, units.size()); }
+    WTF8_NODISCARD size_t rfind(char16_t unit, size_t from = npos) const noexcept { return rfind(&unit, from, 1); }
+    /* The same of a text, of which a string is made first: no string holds bytes that are not UTF-8. */
+    WTF8_NODISCARD size_t find(text_in text, size_t from = 0) const {
+        string other;
+        return other.set_utf8(text) ? find(other, from) : static_cast<size_t>(npos);
     }
-    WTF8_NODISCARD size_t rfind(char16_t unit, size_t from = npos) const noexcept {
-        size_t index = npos;
-        return wtf8_rfind_units(get(), from, raw(&unit), 1, &index) == WTF8_OK ? index : static_cast<size_t>(npos);
+    WTF8_NODISCARD size_t rfind(text_in text, size_t from = npos) const {
+        string other;
+        return other.set_utf8(text) ? rfind(other, from) : static_cast<size_t>(npos);
+    }
+    /* Whether units, one, those of a string or of a text occur. */
+    template <class Other> WTF8_NODISCARD bool contains(const Other &other) const { return find(other) != npos; }
+    /* The first index at or after `from` whose unit is one of these, or none of them, and the last one at or before it. */
+    WTF8_NODISCARD size_t find_first_of(units_in units, size_t from = 0) const {
+        return seek_first(from, [&](const std::u16string &part) { return part.find_first_of(units); });
+    }
+    WTF8_NODISCARD size_t find_first_not_of(units_in units, size_t from = 0) const {
+        return seek_first(from, [&](const std::u16string &part) { return part.find_first_not_of(units); });
+    }
+    WTF8_NODISCARD size_t find_last_of(units_in units, size_t from = npos) const {
+        return seek_last(from, [&](const std::u16string &part) { return part.find_last_of(units); });
+    }
+    WTF8_NODISCARD size_t find_last_not_of(units_in units, size_t from = npos) const {
+        return seek_last(from, [&](const std::u16string &part) { return part.find_last_not_of(units); });
     }
     WTF8_NODISCARD bool divides_pair(size_t index) const noexcept { return wtf8_divides_pair(get(), index); }
     /* Whether units begin at the index, or are the last. */
@@ -382,6 +475,10 @@ public:
     WTF8_NODISCARD bool starts_with(units_in units, size_t index = 0) const noexcept {
         return wtf8_starts_with_units(get(), index, raw(units.data()), units.size());
     }
+    WTF8_NODISCARD bool starts_with(char16_t unit, size_t index = 0) const noexcept {
+        return wtf8_starts_with_units(get(), index, raw(&unit), 1);
+    }
+    WTF8_NODISCARD bool starts_with(text_in text) const noexcept { return starts_with_utf8(text); }
     /* The units of a text in UTF-8, at the start. */
     WTF8_NODISCARD bool starts_with_utf8(text_in text) const noexcept {
         return wtf8_starts_with_utf8(get(), raw(text.data()), text.size());
@@ -391,6 +488,11 @@ public:
     }
     WTF8_NODISCARD bool ends_with(units_in units) const noexcept {
         return units.size() <= unit_len() && starts_with(units, unit_len() - units.size());
+    }
+    WTF8_NODISCARD bool ends_with(char16_t unit) const noexcept { return starts_with(unit, unit_len() - 1); }
+    WTF8_NODISCARD bool ends_with(text_in text) const {
+        string other;
+        return other.set_utf8(text) && ends_with(other);
     }
 
     /* Comparing. */
@@ -406,6 +508,8 @@ public:
     WTF8_NODISCARD int compare(units_in to) const noexcept {
         return wtf8_compare_with_units(get(), raw(to.data()), to.size());
     }
+    /* At most `n` units from an index on, of which a string is made first. */
+    WTF8_NODISCARD int compare(size_t index, size_t n, units_in to) const { return substr(index, n).compare(to); }
     /* Bytes that are not UTF-8 come after each string. */
     WTF8_NODISCARD int compare_utf8(text_in text) const noexcept {
         return wtf8_compare_with_utf8(get(), raw(text.data()), text.size());
@@ -432,26 +536,46 @@ public:
         check(wtf8_copy_slice(get(), begin, end, raw(out), part_len(begin, end), &n));
         return n;
     }
+    /* At most `n` units from an index on. Returns their number. */
+    size_t copy(char16_t *out, size_t n, size_t index = 0) const { return copy_units(index, end_of(index, n), out); }
+    /* Each writes the text to the front of an array of `size` bytes and returns the number of its bytes: one for each unit in
+     * Latin-1, in the lossy text byte_len(). If the array is too short, that number is the position of the error. */
+    size_t copy_latin1(char *out, size_t size) const {
+        size_t n = 0, valid = 0;
+        wtf8_result code = wtf8_copy_latin1(get(), raw(out), size, &n, &valid);
+        check(code, code == WTF8_NOT_LATIN1 ? valid : n);
+        return n;
+    }
+    size_t copy_utf8(char *out, size_t size) const {
+        size_t n = 0;
+        wtf8_result code = wtf8_copy_utf8(get(), raw(out), size, &n);
+        check(code, n);
+        return n;
+    }
+    size_t copy_lossy(char *out, size_t size) const {
+        size_t n = 0;
+        wtf8_result code = wtf8_copy_lossy(get(), raw(out), size, &n);
+        check(code, n);
+        return n;
+    }
     WTF8_NODISCARD std::string latin1() const {
         std::string out(unit_len(), 0);
-        size_t n = 0, valid = 0;
-        wtf8_result code = wtf8_copy_latin1(get(), raw(&out[0]), out.size(), &n, &valid);
-        check(code, valid);
+        copy_latin1(&out[0], out.size());
         return out;
     }
     /* Each has as many bytes as the string, since U+FFFD has three, as a surrogate. */
     WTF8_NODISCARD std::string utf8() const {
         std::string out(byte_len(), 0);
-        size_t n = 0;
-        check(wtf8_copy_utf8(get(), raw(&out[0]), out.size(), &n));
+        copy_utf8(&out[0], out.size());
         return out;
     }
     WTF8_NODISCARD std::string lossy() const {
         std::string out(byte_len(), 0);
-        size_t n = 0;
-        check(wtf8_copy_lossy(get(), raw(&out[0]), out.size(), &n));
+        copy_lossy(&out[0], out.size());
         return out;
     }
+    /* Of the units from `begin` to before `end`, by a string of them. A half of a pair is replaced. */
+    WTF8_NODISCARD std::string lossy(size_t begin, size_t end) const { return slice(begin, end).lossy(); }
 
 private:
     friend struct hasher;
@@ -468,6 +592,32 @@ private:
     size_t end_of(size_t index, size_t n) const noexcept {
         size_t left = index < unit_len() ? unit_len() - index : 0;
         return index + (n < left ? n : left);
+    }
+    /* The product, or the greatest number if that is less: more bytes than there are. */
+    static size_t product(size_t n, size_t width) noexcept { return n <= npos / width ? n * width : static_cast<size_t>(npos); }
+    static string times(size_t n, char16_t unit) { return std::move(string().append(n, unit)); }
+    /* Makes it the string of a text. Returns false if that is not UTF-8. */
+    bool set_utf8(text_in text) {
+        wtf8_result code = wtf8_set_utf8(get(), raw(text.data()), text.size(), nullptr);
+        if (code != WTF8_NOT_UTF8) check(code);
+        return code == WTF8_OK;
+    }
+    /* What `seek` finds in the units from an index on, of which it gets parts, each twice as long as the one before. */
+    template <class Seek> size_t seek_first(size_t from, Seek seek) const {
+        for (size_t n = 64; from < unit_len(); from += n, n *= 2) {
+            const size_t index = seek(units(from, end_of(from, n)));
+            if (index != std::u16string::npos) return from + index;
+        }
+        return npos;
+    }
+    /* The same of the units up to that of an index, from the last part on. */
+    template <class Seek> size_t seek_last(size_t from, Seek seek) const {
+        for (size_t n = 64, end = end_of(0, from) + (from < unit_len() ? 1 : 0); 0 < end; n *= 2) {
+            const size_t begin = n < end ? end - n : 0, index = seek(units(begin, end));
+            if (index != std::u16string::npos) return begin + index;
+            end = begin;
+        }
+        return npos;
     }
     /* The number of units of a part, or 0 if there is no such part. */
     size_t part_len(size_t begin, size_t end) const noexcept { return begin <= end && end <= unit_len() ? end - begin : 0; }
@@ -514,17 +664,29 @@ inline std::strong_ordering operator<=>(const string &a, text8_in b) noexcept { 
 #endif
 #endif
 
-/* A string of both sides' units, one of which may be units. A string that may be moved from is appended to. */
-template <class Other> string joined(const string &a, const Other &b, size_t n) {
+/* A string of both sides' units, one of which may be units, a text, or a unit or char. A string that may be moved from is
+ * appended to. */
+template <class A, class B> string joined(const A &a, const B &b, size_t n) {
     string out;
-    out.reserve_bytes(a.byte_len() + n);
-    return std::move(out.append(a).append(b));
+    out.reserve_bytes(n);
+    return std::move((out += a) += b);
 }
-WTF8_NODISCARD inline string operator+(const string &a, const string &b) { return joined(a, b, b.byte_len()); }
-WTF8_NODISCARD inline string operator+(const string &a, units_in b) { return joined(a, b, string::encoded_len(b)); }
-WTF8_NODISCARD inline string operator+(string &&a, const string &b) { return std::move(a.append(b)); }
-WTF8_NODISCARD inline string operator+(string &&a, units_in b) { return std::move(a.append(b)); }
-WTF8_NODISCARD inline string operator+(units_in a, const string &b) { return std::move(string(a).append(b)); }
+WTF8_NODISCARD inline string operator+(const string &a, const string &b) { return joined(a, b, a.byte_len() + b.byte_len()); }
+WTF8_NODISCARD inline string operator+(string &&a, const string &b) { return std::move(a += b); }
+#define WTF8_PLUS(type, n_of)                                                                                     \
+    WTF8_NODISCARD inline string operator+(const string &a, type b) { return joined(a, b, a.byte_len() + n_of(b)); } \
+    WTF8_NODISCARD inline string operator+(string &&a, type b) { return std::move(a += b); }                       \
+    WTF8_NODISCARD inline string operator+(type a, const string &b) { return joined(a, b, n_of(a) + b.byte_len()); }
+#define WTF8_SIZE(text) text.size()
+#define WTF8_ONE(unit) 3
+WTF8_PLUS(units_in, string::encoded_len) WTF8_PLUS(text_in, WTF8_SIZE)
+WTF8_PLUS(char16_t, WTF8_ONE) WTF8_PLUS(char, WTF8_ONE)
+#ifdef WTF8_WITH_CHAR8
+WTF8_PLUS(text8_in, WTF8_SIZE)
+#endif
+#undef WTF8_PLUS
+#undef WTF8_SIZE
+#undef WTF8_ONE
 
 /* Writes the text with U+FFFD in place of each surrogate, as that std::string is written. */
 template <class Char>

@@ -266,7 +266,173 @@ static void test_as_std() {
 #endif
 }
 
-/* Texts in UTF-8 beside strings, which literals with u8 are of another type for from C++20 on. */
+/* What lines return, as units. */
+static std::u16string shown(const std::u16string &units) { return units; }
+static std::u16string shown(const string &s) { return s.units(); }
+template <class T> static typename std::enable_if<std::is_arithmetic<T>::value, std::u16string>::type shown(T value) {
+    const std::string digits = std::to_string(value);
+    return std::u16string(digits.begin(), digits.end());
+}
+
+/* What the lines return that users of std::u16string write without looking them up, each followed by its string. `s` is
+ * another one for each line, and `t` is "bc". */
+template <class S> static std::vector<std::u16string> lines() {
+    std::vector<std::u16string> seen;
+    const std::u16string start = u"abc\xD83D\xDCA9 bc", units = u"xy";
+    const char16_t *const array = u"xyz";
+    char16_t out[4] = {};
+    std::map<S, int> sorted;
+    std::unordered_map<S, int> hashed;
+#define LINE(...)                                                                                             \
+    {                                                                                                         \
+        S s(start), t(u"bc");                                                                                 \
+        seen.push_back(shown(__VA_ARGS__));                                                                   \
+        seen.push_back(s.empty() ? u"" : shown(s));                                                           \
+    }
+    LINE(S().empty()) LINE(S(u"ab")) LINE(S(array, 2)) LINE(S(units)) LINE(S(std::move(s)).size())
+    LINE(s.size()) LINE(s.length()) LINE(s.empty()) LINE((s.clear(), s.empty()))
+    LINE(s[1]) LINE(s.at(3)) LINE(s.front()) LINE(s.back())
+    LINE(s = u"xy") LINE(s = units) LINE(s = std::move(t)) LINE(s = {})
+    LINE(s.assign(u"xy")) LINE(s.assign(array, 2)) LINE(s.assign(3, u'x')) LINE(s.assign(t)) LINE(s.assign(units))
+    LINE((s.push_back(u'x'), 0)) LINE((s.pop_back(), 0))
+    LINE(s.append(u"xy")) LINE(s.append(array, 2)) LINE(s.append(3, u'x')) LINE(s.append(t)) LINE(s.append(units))
+    LINE(s += u"xy") LINE(s += u'x') LINE(s += t) LINE(s += units) LINE(s += 'x') LINE(s += 0x41)
+    LINE(s.insert(1, u"xy")) LINE(s.insert(1, t)) LINE(s.insert(1, 2, u'x')) LINE(s.insert(0, units))
+    LINE(s.erase(1, 2)) LINE(s.erase(1)) LINE(s.erase())
+    LINE(s.replace(1, 2, u"xyz")) LINE(s.replace(1, 2, t)) LINE(s.replace(0, 1, 3, u'x'))
+    LINE((s.resize(2), 0)) LINE((s.resize(10), 0)) LINE((s.resize(12, u'x'), 0))
+    LINE((s.reserve(100), 100 <= s.capacity())) LINE((s.shrink_to_fit(), s.size() <= s.capacity()))
+    LINE(s.substr()) LINE(s.substr(2)) LINE(s.substr(2, 3)) LINE(s.copy(out, 2)) LINE((s.copy(out, 3, 1), out[2]))
+    LINE(s.find(u"bc")) LINE(s.find(u"bc", 2)) LINE(s.find(u'c')) LINE(s.find('c', 3)) LINE(s.find(t)) LINE(s.find(t, 1))
+    LINE(s.find(array, 0, 0)) LINE(s.find(u"cab", 1, 1)) LINE(s.find(u"none") == S::npos) LINE(s.find(u'x') == s.npos)
+    LINE(s.rfind(u"bc")) LINE(s.rfind(u"bc", 4)) LINE(s.rfind(u'b')) LINE(s.rfind(t)) LINE(s.rfind(u"bca", 9, 2)) LINE(s.rfind(t, 2))
+    LINE(s.find_first_of(u"cb")) LINE(s.find_first_of(u" x", 1)) LINE(s.find_first_not_of(u"ab")) LINE(s.find_last_of(u"ab"))
+    LINE(s.find_last_not_of(u"cb")) LINE(s.find_last_of(units) == S::npos)
+    LINE(s.compare(t) < 0) LINE(s.compare(u"abc") > 0) LINE(s.compare(0, 3, u"abc")) LINE(s.compare(S(start)))
+    LINE(s == t) LINE(s != u"abc") LINE(u"abc" < s) LINE(s <= t) LINE(s > units) LINE(s >= s)
+    LINE(s + t) LINE(s + u"xy") LINE(u"xy" + s) LINE(s + u'x') LINE(u'x' + s) LINE(S(u"x") + s + units) LINE(std::move(s) + t + u'x')
+    LINE((s.swap(t), 0)) LINE((swap(s, t), 0)) LINE((std::swap(s, t), 0))
+    LINE(*s.begin()) LINE(*s.rbegin()) LINE(*std::next(s.begin(), 2)) LINE(*std::next(s.rbegin(), 2)) LINE(*s.cbegin()) LINE(*s.crbegin())
+    LINE(typename S::size_type(std::distance(t.begin(), t.end()))) LINE(typename S::size_type(std::distance(t.rbegin(), t.rend())))
+    LINE(std::equal(t.cbegin(), t.cend(), u"bc")) LINE(std::equal(t.rbegin(), t.rend(), u"cb")) LINE(std::equal(t.crbegin(), t.crend(), u"cb"))
+    LINE(std::u16string(std::begin(t), std::end(t))) LINE(sizeof(typename S::value_type)) LINE(std::find(s.begin(), s.end(), u' ') != s.end())
+    LINE((sorted[std::move(s)] = 2, sorted.size())) LINE(sorted.count(S(start))) LINE((hashed[std::move(t)] = 2, hashed.at(S(u"bc"))))
+    LINE(std::hash<S>()(s) == std::hash<S>()(S(start)))
+#undef LINE
+    return seen;
+}
+
+/* Those that std::u16string has in later standards, or for units alone, beside what they mean. */
+static void test_lines() {
+    must(2 * 55 <= lines<string>().size() && lines<string>() == lines<std::u16string>(), "a line as of std::u16string");
+    const std::u16string units = u"ab\xE9" u"ab";
+    const string s(units);
+    string t;
+#define SAME(ours, expected) must(shown(ours) == shown(expected), #ours)
+    SAME(s.starts_with(u"ab"), true); SAME(s.starts_with(u'a'), true); SAME(s.starts_with(u'b'), false); SAME(s.starts_with("ab"), true);
+    SAME(s.starts_with("b"), false); SAME(s.starts_with(u8"ab\u00E9"), true); SAME(s.starts_with(std::string("ab\xC3")), false);
+    SAME(s.starts_with(u'b', 4), true); SAME(s.starts_with(u'b', 5), false); SAME(string().starts_with(u'a'), false);
+    SAME(s.ends_with(u"ab"), true); SAME(s.ends_with(u'b'), true); SAME(s.ends_with(u'a'), false); SAME(s.ends_with("ab"), true);
+    SAME(s.ends_with("a"), false); SAME(s.ends_with(u8"\u00E9ab"), true); SAME(s.ends_with("\xA9" "ab"), false); SAME(string().ends_with(u'b'), false);
+    SAME(s.contains(u"b\xE9"), true); SAME(s.contains(u'\xE9'), true); SAME(s.contains(u"ba"), false); SAME(s.contains("ab"), true);
+    SAME(s.contains(string(u"ab")), true); SAME(s.contains(u8"\u00E9"), true); SAME(s.contains("\xC3"), false); SAME(s.contains("c"), false);
+    SAME(s.find("ab"), units.find(u"ab")); SAME(s.find("ab", 1), units.find(u"ab", 1)); SAME(s.find(u8"\u00E9"), units.find(u'\xE9'));
+    SAME(s.find("\xC3"), huge); SAME(s.find(std::string("b\0", 2)), huge); SAME(s.find(""), units.find(u""));
+    SAME(s.rfind("ab"), units.rfind(u"ab")); SAME(s.rfind("ab", 2), units.rfind(u"ab", 2)); SAME(s.rfind(u8"\u00E9"), units.rfind(u'\xE9'));
+    SAME(s.rfind("\xA9"), huge); SAME(s.rfind(""), units.rfind(u""));
+    SAME(t = "ab", u"ab"); SAME(t = u8"\u00E9", u"\xE9"); SAME(t = std::string("c"), u"c"); SAME((t = {u"ab", 1}), u"a"); SAME(t = string(u"x"), u"x");
+    SAME(t += "yz", u"xyz"); SAME(t += u8"\u00E9", u"xyz\xE9"); SAME(t += std::string("b"), u"xyz\xE9" u"b"); SAME(t += 'c', u"xyz\xE9" u"bc");
+    SAME(t = u"", u""); SAME(t += 0x1F4A9, u"\xD83D\xDCA9"); SAME(t += 0xD83D, u"\xD83D\xDCA9\xD83D"); SAME(t += U'\xDCA9', u"\xD83D\xDCA9\xD83D\xDCA9");
+    SAME(t += uint16_t(0x41), u"\xD83D\xDCA9\xD83D\xDCA9" u"A");
+    SAME(s + "xy", units + u"xy"); SAME("xy" + s, u"xy" + units); SAME(s.clone() + u8"\u00E9", units + u"\xE9"); SAME(u8"\u00E9" + s, u"\xE9" + units);
+    SAME(s + 'x', units + u'x'); SAME('x' + s, u'x' + units); SAME(s.clone() + 'x', units + u'x'); SAME(s + std::string("x"), units + u"x");
+#undef SAME
+#if 201703L <= __cplusplus
+    const std::u16string_view view = u"ab";
+    must((t = view) == view && (t = std::string_view("c")) == u"c" && (t += std::string_view("d")) == u"cd", "views that are assigned");
+    must(t.find(std::string_view("d")) == 1 && t.find_first_of(std::u16string_view(u"d")) == 1 && !t.contains(view), "views that are found");
+    must((t += u8'e') == u"cde", "a char of UTF-8");
+#endif
+    must(fails([] { (void)(string(u"a") += '\xE9'); }, WTF8_NOT_UTF8), "a char that is no text");
+    must(fails([&] { t = "ab\xE9"; }, WTF8_NOT_UTF8, 2) && fails([] { (void)(string() += -1); }, WTF8_BAD_CODE_POINT), "a wrong text, a wrong number");
+}
+
+/* A unit some times, appended, put in and as a whole, cut and found in each of some strings. */
+static void test_times() {
+    const std::vector<std::u16string> wholes = {u"", u"a", mixed, u"\xD83D", u"\xDCA9", std::u16string(300, u'a') + mixed + std::u16string(300, u'b')};
+    const std::vector<std::u16string> sets = {u"", u"a", u"b\xDCA9", u"ab\xDC00", u"\xD83D\x4E2D"};
+    const size_t counts[] = {0, 1, 2, 127, 128, 129, 300};
+    for (const auto &whole : wholes) {
+        for (char16_t unit : {u'a', u'\xE9', u'\x4E2D', char16_t(0xD83D), char16_t(0xDCA9)}) {
+            for (size_t n : counts) {
+                const std::u16string units(n, unit);
+                must(string(whole).append(n, unit) == whole + units && string(whole).assign(n, unit) == units, "a unit some times");
+                for (size_t at = 0; at <= whole.size(); at += 1 + whole.size() / 7) {
+                    must(string(whole).insert(at, n, unit) == std::u16string(whole).insert(at, n, unit), "insert of a unit some times");
+                    must(string(whole).replace(at, 2, n, unit) == std::u16string(whole).replace(at, 2, n, unit), "replace by a unit");
+                }
+                string s(whole);
+                std::u16string expected(whole);
+                s.resize(n);
+                expected.resize(n);
+                must(s == expected, "resize");
+                s.resize(2 * n, unit);
+                expected.resize(2 * n, unit);
+                must(s == expected, "resize by a unit");
+            }
+        }
+        for (const auto &set : sets) {
+            const string s(whole);
+            must(s.find_first_of(set) == whole.find_first_of(set) && s.find_first_not_of(set) == whole.find_first_not_of(set), "first of");
+            must(s.find_last_of(set) == whole.find_last_of(set) && s.find_last_not_of(set) == whole.find_last_not_of(set), "last of");
+            for (size_t at = 0; at <= whole.size() + 1; at++) {
+                must(s.find_first_of(set, at) == whole.find_first_of(set, at), "find_first_of");
+                must(s.find_first_not_of(set, at) == whole.find_first_not_of(set, at), "find_first_not_of");
+                must(s.find_last_of(set, at) == whole.find_last_of(set, at), "find_last_of");
+                must(s.find_last_not_of(set, at) == whole.find_last_not_of(set, at), "find_last_not_of");
+            }
+        }
+        string s(whole);
+        for (size_t n = whole.size(); 0 < n; n--) {
+            must(s.back() == whole[n - 1] && s.front() == whole[0] && s.length() == n, "front, back");
+            s.pop_back();
+            must(s == whole.substr(0, n - 1), "pop_back");
+        }
+    }
+    string s(u"\x4E2D");
+    s.reserve(1000);
+    long before = requests;
+    must(s.append(999, u'\x4E2D').size() == 1000 && requests == before, "reserve");
+    s.reserve(1000);
+    s.reserve(0);
+    must(requests == before, "reserve of what is there");
+    for (int i = 0; i < 10000; i++) s.append(1, u'\x4E2D');
+    must(requests < before + 10, "appends one by one");
+}
+
+/* The number of code points and the lossy text of each part of a string, against a copy of the part. */
+static void test_parts_of_points() {
+    for (const auto &units : {mixed, std::u16string(u"\xDCA9\xD83D\xDCA9\xD83D\xDCA9\xD83D"), std::u16string(70, u'\xE9') + mixed + mixed}) {
+        const string s(units);
+        for (size_t begin = 0; begin <= units.size(); begin++) {
+            for (size_t end = begin; end <= units.size(); end++) {
+                size_t n = 0;
+                std::string lossy;
+                for (size_t i = begin; i < end; i++, n++) {
+                    const bool is_pair = i + 1 < end && units[i] >> 10 == 0xD800 >> 10 && units[i + 1] >> 10 == 0xDC00 >> 10;
+                    const bool is_lone = !is_pair && units[i] >> 11 == 0xD800 >> 11;
+                    lossy += is_lone ? "\xEF\xBF\xBD" : is_pair ? "\xF0\x9F\x92\xA9" : units[i] == u'a' ? "a" : "\xC3\xA9";
+                    if (is_pair) i++;
+                }
+                must(s.code_point_len(begin, end) == n && s.lossy(begin, end) == lossy, "code points and lossy text of a part");
+            }
+        }
+        must(s.code_point_len() == s.code_point_len(0, units.size()) && s.lossy() == s.lossy(0, units.size()), "those of all");
+    }
+    must(string().code_point_len() == 0 && string(mixed).code_point_len() == 3, "the number of code points");
+}
+
+/* Texts in UTF-8, which literals with u8 are of another type for from C++20 on. */
 static void test_texts() {
     const string s(u"z\xE9\x4E2D\xD83D\xDCA9");
     must(s == u8"z\u00E9\u4E2D\U0001F4A9" && u8"z\u00E9\u4E2D\U0001F4A9" == s, "a literal with u8");
@@ -303,6 +469,17 @@ static void test_arrays() {
     must(s.copy_units(4, 4, nullptr) == 0, "copy_units of none");
     must(is_out_of_range([&] { s.copy_units(3, 5, units); }) && is_out_of_range([&] { s.copy_units(2, 1, units); }), "copy_units");
     must(std::u16string(units, 5) == mixed + u"\x7", "copy_units that fails");
+    char text[9] = {7, 7, 7, 7, 7, 7, 7, 7, 7};
+    must(s.copy_lossy(text, 8) == 8 && std::string(text, 9) == "a\xF0\x9F\x92\xA9\xEF\xBF\xBD\x7", "copy_lossy");
+    must(fails([&] { s.copy_lossy(text, 7); }, WTF8_ARRAY_TOO_SHORT, 8), "copy_lossy to a short array");
+    must(fails([&] { s.copy_utf8(text, 9); }, WTF8_HAS_SURROGATE) && fails([&] { s.copy_latin1(text, 9); }, WTF8_NOT_LATIN1, 1), "no such text");
+    must(std::string(text, 9) == "a\xF0\x9F\x92\xA9\xEF\xBF\xBD\x7", "copies that fail");
+    const string latin(u"a\xE9");
+    must(latin.copy_utf8(text, 9) == 3 && std::string(text, 4) == "a\xC3\xA9\x92", "copy_utf8");
+    must(latin.copy_latin1(text, 2) == 2 && std::string(text, 3) == "a\xE9\xA9", "copy_latin1");
+    must(fails([&] { latin.copy_utf8(text, 2); }, WTF8_ARRAY_TOO_SHORT, 3) && fails([&] { latin.copy_latin1(text, 1); }, WTF8_ARRAY_TOO_SHORT, 2),
+         "short arrays");
+    must(string().copy_utf8(nullptr, 0) == 0 && string().copy_lossy(nullptr, 0) == 0 && string().copy_latin1(nullptr, 0) == 0, "no text");
     const char32_t points[] = {0x61, 0xD83D, 0xDCA9, 0x1F4A9, 0x110000};
     string pushed(u"\xD83D");
     must(pushed.append_code_points(points + 2, 2).units() == u"\xD83D\xDCA9\xD83D\xDCA9", "append_code_points");
@@ -462,7 +639,11 @@ static void test_failures() {
         [&] { s.append(s, 3, 2); },       [&] { s.assign(other, 2, 3); },  [&] { s.truncate_units(5); },
         [&] { s.truncate_bytes(2); },     [&] { s.truncate_bytes(9); },    [&] { (void)s.substr(5); },
         [&] { s.insert(5, u"a"); },       [&] { s.erase(5, 0); },          [&] { s.replace(5, 0, u"a"); },
-        [&] { s.insert(5, other); },      [&] { s.replace(5, 0, other); }};
+        [&] { s.insert(5, other); },      [&] { s.replace(5, 0, other); }, [&] { s.insert(5, 2, u'a'); },
+        [&] { s.replace(5, 0, 2, u'a'); }, [&] { (void)s.lossy(2, 5); },   [&] { (void)s.lossy(2, 1); },
+        [&] { (void)s.code_point_len(2, 5); }, [&] { (void)s.code_point_len(2, 1); }, [&] { (void)s.compare(5, 1, u""); },
+        [&] { char16_t out[2]; s.copy(out, 1, 5); }, [] { (void)string().front(); }, [] { (void)string().back(); },
+        [] { string().pop_back(); }};
     for (const auto &call : out_of_range) must(is_out_of_range(call) && s.units() == mixed, "out_of_range");
     must(fails([&] { s.append_code_point(0x110000); }, WTF8_BAD_CODE_POINT) && s.units() == mixed, "BAD_CODE_POINT");
     must(fails([&] { s.append_utf8("ab\xFF"); }, WTF8_NOT_UTF8, 2) && s.units() == mixed, "NOT_UTF8");
@@ -476,7 +657,11 @@ static void test_failures() {
     must(fails([&] { s.assign_utf8("\xC3\xA9\xED\xA0\x80"); }, WTF8_NOT_UTF8, 2) && s.units() == mixed, "NOT_UTF8");
     must(fails([] { (void)string::from_utf8("\xC3"); }, WTF8_NOT_UTF8, 0), "NOT_UTF8");
     must(fails([&] { (void)s.utf8(); }, WTF8_HAS_SURROGATE) && s.units() == mixed, "HAS_SURROGATE");
-    must(is_bad_alloc([&] { s.reserve_bytes(huge); }) && s.units() == mixed, "more bytes than a block can have");
+    const std::vector<std::function<void()>> too_long = {
+        [&] { s.reserve_bytes(huge); },  [&] { s.reserve(huge); },       [&] { s.reserve(huge / 3 + 9); }, [&] { s.resize(huge); },
+        [&] { s.append(huge, u'a'); },   [&] { s.append(huge / 3 + 2, u'\x4E2D'); }, [&] { s.assign(huge, u'a'); },
+        [&] { s.insert(1, huge, u'a'); }};
+    for (const auto &call : too_long) must(is_bad_alloc(call) && s.units() == mixed, "more bytes than a block can have");
 }
 
 /* Strings that the two orders and equality divide. */
@@ -625,6 +810,26 @@ static void test_refusals() {
         [&](string &s) { s.replace(0, 1, other); },
         [](string &s) { (void)(s + u"y"); },
         [](string &s) { (void)(u"y" + s); },
+        [](string &s) { (void)(s + "y"); },
+        [](string &s) { (void)('y' + s); },
+        [](string &s) { (void)(s.clone() + u'y'); },
+        [](string &s) { s = std::u16string(1000, u'y'); },
+        [](string &s) { s = std::string(1000, 'y'); },
+        [](string &s) { s += "y"; },
+        [](string &s) { s += 'y'; },
+        [](string &s) { s += 0x79; },
+        [](string &s) { s.append(1000, u'y'); },
+        [](string &s) { s.assign(1, u'y'); },
+        [](string &s) { s.insert(1, 200, u'y'); },
+        [](string &s) { s.replace(0, 1, 200, u'y'); },
+        [](string &s) { s.resize(1000); },
+        [](string &s) { s.reserve(1000); },
+        [](string &s) { (void)s.find("y"); },
+        [](string &s) { (void)s.rfind("y"); },
+        [](string &s) { (void)s.contains("y"); },
+        [](string &s) { (void)s.ends_with("y"); },
+        [](string &s) { (void)s.compare(0, 1, u"y"); },
+        [](string &s) { (void)s.lossy(0, 2); },
         [](string &s) { (void)s.substr(1); },
         [](string &s) { size_t bad; s.append_utf8_part("y\xFF", bad); },
         [](string &s) { s.append_lossy("y\xFF"); },
@@ -667,6 +872,9 @@ static void test_without_memory() {
     must(a.units() == mixed && a == mixed && a.lossy() == "a\xF0\x9F\x92\xA9\xEF\xBF\xBD", "the lossy text without memory");
     must(a.assign(u"b").units() == u"b", "calls without memory");
     must(a.starts_with(u"b") && a.ends_with(u"b") && *a.begin() == U'b', "questions without memory");
+    char text[3];
+    must(a.copy_utf8(text, 3) == 1 && a.copy_lossy(text, 3) == 1 && a.copy_latin1(text, 3) == 1 && *text == 'b', "texts without memory");
+    must(a.code_point_len() == 1 && a.starts_with("b") && a.ends_with(u'b') && a.find(u'b') == 0, "more questions without memory");
     refuse_after = -1;
 }
 
@@ -676,6 +884,9 @@ int main() {
     test_operators();
     test_as_std();
     test_texts();
+    test_lines();
+    test_times();
+    test_parts_of_points();
     test_arrays();
     test_starts_and_ends();
     test_iteration();
