@@ -1,5 +1,5 @@
 """Packs what c/dist laid out as other tools install it: a wheel for pip, and with --deb packages of Debian's. The same files
-give the same bytes. Needs no network; the packages of Debian's need dpkg-deb. Arguments: what was laid out, the folder to
+give the same bytes. Needs no network; the packages of Debian's need dpkg-deb and strip. Arguments: what was laid out, the folder to
 write to, the version, the time of its commit, and --deb."""
 import base64
 import email.utils
