@@ -276,8 +276,8 @@ template <class T> static typename std::enable_if<std::is_arithmetic<T>::value, 
 
 /* What the lines return that users of std::u16string write without looking them up, each followed by its string. `s` is
  * another one for each line, and `t` is "bc". */
-template <class S> static std::vector<std::u16string> lines() {
-    std::vector<std::u16string> seen;
+template <class S> static std::vector<std::pair<const char *, std::u16string>> lines() {
+    std::vector<std::pair<const char *, std::u16string>> seen;
     const std::u16string start = u"abc\xD83D\xDCA9 bc", units = u"xy";
     const char16_t *const array = u"xyz";
     char16_t out[4] = {};
@@ -286,8 +286,8 @@ template <class S> static std::vector<std::u16string> lines() {
 #define LINE(...)                                                                                             \
     {                                                                                                         \
         S s(start), t(u"bc");                                                                                 \
-        seen.push_back(shown(__VA_ARGS__));                                                                   \
-        seen.push_back(s.empty() ? u"" : shown(s));                                                           \
+        seen.emplace_back(#__VA_ARGS__, shown(__VA_ARGS__));                                                  \
+        seen.emplace_back("the string after " #__VA_ARGS__, s.empty() ? u"" : shown(s));                      \
     }
     LINE(S().empty()) LINE(S(u"ab")) LINE(S(array, 2)) LINE(S(units)) LINE(S(std::move(s)).size())
     LINE(s.size()) LINE(s.length()) LINE(s.empty()) LINE((s.clear(), s.empty()))
@@ -302,7 +302,7 @@ template <class S> static std::vector<std::u16string> lines() {
     LINE(s.replace(1, 2, u"xyz")) LINE(s.replace(1, 2, t)) LINE(s.replace(0, 1, 3, u'x'))
     LINE((s.resize(2), 0)) LINE((s.resize(10), 0)) LINE((s.resize(12, u'x'), 0))
     LINE((s.reserve(100), 100 <= s.capacity())) LINE((s.shrink_to_fit(), s.size() <= s.capacity()))
-    LINE(s.substr()) LINE(s.substr(2)) LINE(s.substr(2, 3)) LINE(s.copy(out, 2)) LINE((s.copy(out, 3, 1), out[2]))
+    LINE(s.substr()) LINE(s.substr(2)) LINE(s.substr(2, 3)) LINE(s.copy(out, 2)) LINE((s.copy(out, 3, 1), out[2])) LINE(t.copy(out, 9, 1))
     LINE(s.find(u"bc")) LINE(s.find(u"bc", 2)) LINE(s.find(u'c')) LINE(s.find('c', 3)) LINE(s.find(t)) LINE(s.find(t, 1))
     LINE(s.find(array, 0, 0)) LINE(s.find(u"cab", 1, 1)) LINE(s.find(u"none") == S::npos) LINE(s.find(u'x') == s.npos)
     LINE(s.rfind(u"bc")) LINE(s.rfind(u"bc", 4)) LINE(s.rfind(u'b')) LINE(s.rfind(t)) LINE(s.rfind(u"bca", 9, 2)) LINE(s.rfind(t, 2))
@@ -310,7 +310,7 @@ template <class S> static std::vector<std::u16string> lines() {
     LINE(s.find_last_not_of(u"cb")) LINE(s.find_last_of(units) == S::npos)
     LINE(s.compare(t) < 0) LINE(s.compare(u"abc") > 0) LINE(s.compare(0, 3, u"abc")) LINE(s.compare(S(start)))
     LINE(s == t) LINE(s != u"abc") LINE(u"abc" < s) LINE(s <= t) LINE(s > units) LINE(s >= s)
-    LINE(s + t) LINE(s + u"xy") LINE(u"xy" + s) LINE(s + u'x') LINE(u'x' + s) LINE(S(u"x") + s + units) LINE(std::move(s) + t + u'x')
+    LINE(s + t) LINE(s + u"xy") LINE(u"xy" + s) LINE(s + u'\x4E2D') LINE(u'\x4E2D' + s) LINE(S(u"x") + s + units) LINE(std::move(s) + t + u'x')
     LINE((s.swap(t), 0)) LINE((swap(s, t), 0)) LINE((std::swap(s, t), 0))
     LINE(*s.begin()) LINE(*s.rbegin()) LINE(*std::next(s.begin(), 2)) LINE(*std::next(s.rbegin(), 2)) LINE(*s.cbegin()) LINE(*s.crbegin())
     LINE(typename S::size_type(std::distance(t.begin(), t.end()))) LINE(typename S::size_type(std::distance(t.rbegin(), t.rend())))
@@ -324,7 +324,9 @@ template <class S> static std::vector<std::u16string> lines() {
 
 /* Those that std::u16string has in later standards, or for units alone, beside what they mean. */
 static void test_lines() {
-    must(2 * 55 <= lines<string>().size() && lines<string>() == lines<std::u16string>(), "a line as of std::u16string");
+    const auto ours = lines<string>(), expected = lines<std::u16string>();
+    must(2 * 55 <= ours.size() && ours.size() == expected.size(), "the number of lines");
+    for (size_t i = 0; i < ours.size(); i++) must(ours[i].second == expected[i].second, ours[i].first);
     const std::u16string units = u"ab\xE9" u"ab";
     const string s(units);
     string t;
