@@ -5,9 +5,10 @@
  * that are const only read it, so any number of threads may make them at once; calls that change it need a lock.
  *
  * Refused memory is std::bad_alloc. An index or a position after the end, or not at a boundary, is std::out_of_range. A
- * number that is not a code point, bytes that are not UTF-8, a surrogate in what is copied out as UTF-8, and a unit greater
- * than FF in what is copied out as Latin-1 are wtf8::error. A call that throws changes nothing. Without exceptions (-fno-exceptions, in all files of a program or in
- * none) such a call calls the function that wtf8::on_failure was given, and then std::abort.
+ * number that is not a code point, bytes that are not UTF-8, a surrogate in what is copied out as UTF-8, a unit greater than FF
+ * in what is copied out as Latin-1, and an array that is too short for a text are wtf8::error. A call that throws changes
+ * nothing. Without exceptions (-fno-exceptions, in all files of a program or in none) such a call calls the function that
+ * wtf8::on_failure was given, and then std::abort.
  */
 #ifndef WTF8_HPP
 #define WTF8_HPP
@@ -160,7 +161,9 @@ public:
     string &assign(const char16_t *units, size_t n) { return done(wtf8_set_units(get(), raw(units), n)); }
     string &assign(units_in units) { return assign(units.data(), units.size()); }
     string &assign(size_t n, char16_t unit) { return *this = times(n, unit); }
-    /* Units, or a text. Templates, so that braces are a string as before. */
+    /* A unit, units, or a text. Templates, so that braces are a string. */
+    template <class Unit>
+    typename std::enable_if<std::is_same<Unit, char16_t>::value, string &>::type operator=(Unit unit) { return assign(&unit, 1); }
     template <class Units>
     typename std::enable_if<std::is_convertible<const Units &, units_in>::value, string &>::type operator=(const Units &units) {
         return assign(units);

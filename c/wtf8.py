@@ -132,9 +132,9 @@ def occurrences(string: String, other: String) -> Iterator[int]:
 @functools.total_ordering
 class String:
     """A string of 16-bit units, paired or not. Its length, its indexes and its slices count units, as in wtf8.h, and `<`
-    goes by code points, as for Python's strings. A str stands for its units in UTF-16 everywhere: it equals the String of it,
-    and so does another str that only has a pair of surrogates in place of a character. `push` and `+=` change a String, so
-    it is no key of a dict: `str` of it is one, and `hash` is the library's hash."""
+    goes by code points, as for Python's strings. A str stands for its units in UTF-16, so it equals the String of it, and a str
+    with two surrogates that make a pair equals that of the character. `push` and `+=` change a String, so it is no key of a
+    dict: `str` of it is one, and `hash` is the library's hash."""
 
     __hash__ = None  # type: ignore[assignment]
 

@@ -292,7 +292,7 @@ template <class S> static std::vector<std::pair<const char *, std::u16string>> l
     LINE(S().empty()) LINE(S(u"ab")) LINE(S(array, 2)) LINE(S(units)) LINE(S(std::move(s)).size())
     LINE(s.size()) LINE(s.length()) LINE(s.empty()) LINE((s.clear(), s.empty()))
     LINE(s[1]) LINE(s.at(3)) LINE(s.front()) LINE(s.back())
-    LINE(s = u"xy") LINE(s = units) LINE(s = std::move(t)) LINE(s = {})
+    LINE(s = u"xy") LINE(s = u'x') LINE(s = units) LINE(s = std::move(t)) LINE(s = {})
     LINE(s.assign(u"xy")) LINE(s.assign(array, 2)) LINE(s.assign(3, u'x')) LINE(s.assign(t)) LINE(s.assign(units))
     LINE((s.push_back(u'x'), 0)) LINE((s.pop_back(), 0))
     LINE(s.append(u"xy")) LINE(s.append(array, 2)) LINE(s.append(3, u'x')) LINE(s.append(t)) LINE(s.append(units))
