@@ -31,9 +31,8 @@
  * Costs: a call takes time linear in the units or bytes that it is given or hands out, if its text says no other. A string
  * without room for what is appended or inserted moves to a block of at least twice the capacity, so that n appends of a unit
  * take time linear in n. A string takes one block, and none while nothing was written to it. Before its work a call
- * takes 15 to 220 instructions; hashes, slices, searches, edits, and a new string with its free take up to 600, a search of a
- * long string 1,000. A call takes at most 3 kB of stack, a search (wtf8_find, wtf8_rfind and so on) 32 kB, beside what the
- * functions for memory take.
+ * takes 15 to 250 instructions; hashes, slices, edits, and a new string with its free take up to 600, searches 2,000. A call
+ * takes at most 3 kB of stack, a search (wtf8_find, wtf8_rfind and so on) 32 kB, beside what the functions for memory take.
  */
 #ifndef WTF8_H
 #define WTF8_H
