@@ -121,7 +121,7 @@ const char *wtf8_version(void);
 
 /* Has the library call these in place of malloc, realloc and free, which each does the work of. This is called while no
  * string has a buffer, and no other thread uses the library. They may be called in any thread that changes strings, return
- * to their caller (no exception, no longjmp), and call nothing of this library. */
+ * to their caller (no exception, no longjmp), and call nothing of this library but what wtf8_memory_in_use returned. */
 WTF8_NONNULL(1, 2, 3)
 void wtf8_use_memory(void *(*allocate)(size_t), void *(*reallocate)(void *, size_t), void (*release)(void *));
 
