@@ -16,7 +16,7 @@ ENVIRONMENT = {**os.environ, "GLIBC_TUNABLES": TUNABLES}
 def build(folder, name, level):
     """Compiles a program of c/test with the build for a level of x86-64. $CC (cc) compiles."""
     program = pathlib.Path(folder) / name
-    parts = [HERE / f"out/parts/{part}.a" for part in ("v1", "v2", "v3", "libc_c")]
+    parts = [HERE / f"out/parts/{part}.a" for part in ("v1", "v2", "v3")]
     if not parts[0].exists():
         sys.exit("c/out is not there: run c/build")
     cc = os.environ.get("CC", "cc").split()

@@ -1,11 +1,19 @@
-/* What stands between a C program and the proved calls. It takes the build for the processor's widest vectors, sees to it
- * that each string has a buffer, gives an array of length 0 an address, passes no string twice to one call, and requests
- * memory by the functions that the program names. c/duties tests what it owes the proved calls. */
+/* What stands between a C program and the proved calls. On x86-64 it takes the build for the processor's widest vectors; it
+ * sees to it that each string has a buffer, gives an array of length 0 an address, passes no string twice to one call, and
+ * requests memory by the functions that the program names. c/duties tests what it owes the proved calls. */
 #define WTF8_SILENT
 #include "wtf8.h"
 
-#include <cpuid.h>
 #include <stdlib.h>
+
+/* A string as the proved calls take it: where its buffer lies. */
+typedef struct {
+    void *at;
+} handle;
+
+#ifdef __x86_64__
+
+#include <cpuid.h>
 
 enum { V1, V2, V3 };
 
@@ -57,11 +65,6 @@ __attribute__((constructor)) static void choose_build(void) {
     __atomic_store_n(&build, widest_build(), __ATOMIC_RELAXED);
 }
 
-/* A string as the proved calls take it: where its buffer lies. */
-typedef struct {
-    void *at;
-} handle;
-
 /* Declares the three builds of a proved call, and a table of them. */
 #define DECLARE(result, name, ...)                                                                 \
     result wtf8_##name##_v1(__VA_ARGS__);                                                          \
@@ -71,6 +74,14 @@ typedef struct {
 
 /* The proved call of the build that is taken. */
 #define PROVED(name) builds_##name[__atomic_load_n(&build, __ATOMIC_RELAXED)]
+
+#else
+
+/* On another processor there is one build. */
+#define DECLARE(result, name, ...) result wtf8_##name##_v1(__VA_ARGS__);
+#define PROVED(name) wtf8_##name##_v1
+
+#endif
 
 DECLARE(void, init, handle *)
 DECLARE(wtf8_result, init_units, handle *, const uint16_t *, size_t)
@@ -220,21 +231,36 @@ wtf8_memory wtf8_memory_in_use(void) {
     return in_use;
 }
 
-/* What the proved code calls as malloc, realloc and free: c/build gives them these names. */
-void *wtf8_own_malloc(size_t size);
-void *wtf8_own_realloc(void *block, size_t size);
-void wtf8_own_free(void *block);
+/* Whether a request was granted, and the address of the block; if it was refused, any address but NULL. */
+typedef struct {
+    bool is_granted;
+    void *at;
+} block;
 
-void *wtf8_own_malloc(size_t size) {
-    return memory.allocate(size);
+/* What the proved code calls as rattle_alloc, rattle_realloc and rattle_dealloc: c/build gives them these names. Proofs rest
+ * on this: an alignment divides 16, and so has each block of malloc's; a request is for less than 2^63 bytes, of 0 bytes
+ * for as many as the alignment, since malloc may answer that with NULL; what was refused leaves the old block as it was,
+ * and else the new one begins with the `kept` bytes that the old one began with. */
+block wtf8_own_alloc(size_t size, size_t alignment);
+block wtf8_own_realloc(void *at, size_t kept, size_t size, size_t alignment);
+void wtf8_own_dealloc(void *at);
+
+static inline block answer(void *at) {
+    static char refused[1];
+    return (block){at != NULL, at ? at : refused};
 }
 
-void *wtf8_own_realloc(void *block, size_t size) {
-    return memory.reallocate(block, size);
+block wtf8_own_alloc(size_t size, size_t alignment) {
+    return answer(memory.allocate(size ? size : alignment));
 }
 
-void wtf8_own_free(void *block) {
-    memory.release(block);
+block wtf8_own_realloc(void *at, size_t kept, size_t size, size_t alignment) {
+    (void)kept;
+    return answer(memory.reallocate(at, size ? size : alignment));
+}
+
+void wtf8_own_dealloc(void *at) {
+    memory.release(at);
 }
 
 /* Whether the struct holds a buffer. The first word of one is the address of its bytes, which is never NULL: c/run_tests
