@@ -1,6 +1,6 @@
 """Packs what c/dist laid out as other tools install it: a wheel for pip, and with --deb packages of Debian's. The same files
-give the same bytes. Needs no network; the packages of Debian's need dpkg-deb and strip. Arguments: what was laid out, the folder to
-write to, the version, the time of its commit, and --deb."""
+give the same bytes. Needs no network; the packages of Debian's need dpkg-deb and strip. Arguments: what was laid out, the
+folder to write to, the version, the time of its commit, the processor, and --deb."""
 import base64
 import email.utils
 import gzip
@@ -21,21 +21,22 @@ DESCRIPTION = """\
 Strings of any UTF-16 code units, lone surrogates among them, as file names of Windows, JavaScript, Java and Python have
 them. They are kept as WTF-8, a superset of UTF-8. Units, UTF-8 and Latin-1 go in and out, and strings are indexed by units,
 searched, compared, hashed and edited. Each call's contract was proved."""
-TRIPLET = "x86_64-linux-gnu"
+# What Debian calls each processor.
+ARCHITECTURES = {"x86_64": "amd64", "aarch64": "arm64"}
 # The newest version of glibc whose symbols the tag of the wheel allows.
 MANYLINUX = "manylinux2014", (2, 17)
 # The release that each symbol version began with.
 RELEASES = {"WTF8_0": "0.1.0", "WTF8_0.2": "0.2.0", "WTF8_0.3": "0.3.0"}
 
 
-def wheel(root, version, folder, packed):
+def wheel(root, version, folder, packed, processor):
     """Writes the wheel: the module as a package, with the shared library in it."""
     library = root / "lib/libwtf8.so.0"
     needed = re.findall(r"GLIBC_(\d+)\.(\d+)", subprocess.run(["readelf", "-VW", library], check=True, capture_output=True, text=True).stdout)
     newest = max(tuple(map(int, each)) for each in needed)
     if MANYLINUX[1] < newest:
         sys.exit(f"c/dist: the library needs glibc {newest}, which {MANYLINUX[0]} does not allow")
-    tag = f"py3-none-{MANYLINUX[0]}_x86_64"
+    tag = f"py3-none-{MANYLINUX[0]}_{processor}"
     info = f"wtf8-{version}.dist-info"
     metadata = [
         "Metadata-Version: 2.1", "Name: wtf8", f"Version: {version}", f"Summary: {SUMMARY}",
@@ -67,9 +68,9 @@ def wheel(root, version, folder, packed):
 
 def symbols(root):
     """The file of symbols: each with the release that added it."""
-    listed = subprocess.run(["nm", "-D", "--defined-only", "--with-symbol-versions", root / "lib/libwtf8.so.0"], check=True, capture_output=True, text=True).stdout
+    listed = subprocess.run(["readelf", "--dyn-syms", "-W", root / "lib/libwtf8.so.0"], check=True, capture_output=True, text=True).stdout
     lines = [f"{node}@{node} {release}" for node, release in RELEASES.items()]
-    for name, node in re.findall(r" T (\w+)@@(\S+)$", listed, re.M):
+    for name, node in re.findall(r" FUNC .* (\w+)@@(\S+)$", listed, re.M):
         lines.append(f"{name}@{node} {RELEASES[node]}")
     return "libwtf8.so.0 libwtf8-0 #MINVER#\n" + "".join(f" {line}\n" for line in sorted(lines))
 
@@ -82,7 +83,7 @@ def changes(version):
     return lines or sys.exit(f"c/dist: CHANGELOG.md has no line of {version}")
 
 
-def package(name, section, version, folder, packed, depends, about, files, control=(), architecture="amd64"):
+def package(name, section, version, folder, packed, architecture, depends, about, files, control=()):
     """Writes a package of Debian's with files, by their places, and further files of its control. `about` says what it has.
     $DEBFULLNAME and $DEBEMAIL maintain it."""
     maintainer = f"{os.environ.get('DEBFULLNAME', 'nobody')} <{os.environ.get('DEBEMAIL', 'nobody@localhost')}>"
@@ -116,21 +117,22 @@ def package(name, section, version, folder, packed, depends, about, files, contr
         print(to)
 
 
-def debs(root, version, folder, packed):
+def debs(root, version, folder, packed, processor):
     """Writes the packages of the library, of what a program is built with, and of the module for Python."""
-    lib, doc = f"usr/lib/{TRIPLET}", "usr/share/doc"
+    triplet, doc, architecture = f"{processor}-linux-gnu", "usr/share/doc", ARCHITECTURES[processor]
+    lib, tools = f"usr/lib/{triplet}", "" if processor == "x86_64" else f"{triplet}-"
     with tempfile.TemporaryDirectory() as work:
         pc, cmake, stripped = (pathlib.Path(work) / name for name in ("wtf8.pc", "wtf8-config.cmake", "libwtf8.so.0"))
         text = (root / "lib/pkgconfig/wtf8.pc").read_text()
-        pc.write_text(re.sub(r"^libdir=.*", f"libdir=${{prefix}}/lib/{TRIPLET}", re.sub(r"^prefix=.*", "prefix=/usr", text, flags=re.M), flags=re.M))
+        pc.write_text(re.sub(r"^libdir=.*", f"libdir=${{prefix}}/lib/{triplet}", re.sub(r"^prefix=.*", "prefix=/usr", text, flags=re.M), flags=re.M))
         text = (root / "lib/cmake/wtf8/wtf8-config.cmake").read_text()
         cmake.write_text(text.replace("${wtf8_libdir}/../include", "${wtf8_libdir}/../../include"))
-        subprocess.run(["strip", "--strip-unneeded", "-o", stripped, root / "lib/libwtf8.so.0"], check=True)
-        package("libwtf8-0", "libs", version, folder, packed, "libc6 (>= 2.17)", "This package has the shared library.", {
+        subprocess.run([f"{tools}strip", "--strip-unneeded", "-o", stripped, root / "lib/libwtf8.so.0"], check=True)
+        package("libwtf8-0", "libs", version, folder, packed, architecture, "libc6 (>= 2.17)", "This package has the shared library.", {
             f"{lib}/libwtf8.so.0": stripped,
             f"{doc}/libwtf8-0/copyright": root / "LICENSE",
         }, {"symbols": symbols(root), "shlibs": f"libwtf8 0 libwtf8-0 (>= {version})\n", "triggers": "activate-noawait ldconfig\n"})
-        package("libwtf8-dev", "libdevel", version, folder, packed, f"libwtf8-0 (= {version})",
+        package("libwtf8-dev", "libdevel", version, folder, packed, architecture, f"libwtf8-0 (= {version})",
                 "This package has the headers for C and C++, the static library and examples.", {
             f"{lib}/libwtf8.so": "libwtf8.so.0",
             f"{lib}/libwtf8.a": root / "lib/libwtf8.a",
@@ -142,17 +144,19 @@ def debs(root, version, folder, packed):
             **{f"usr/include/{file.name}": file for file in (root / "include").iterdir()},
             **{f"{doc}/libwtf8-dev/examples/{file.name}": file for file in (root / "examples").iterdir() if file.suffix != ".py"},
         })
-        package("python3-wtf8", "python", version, folder, packed, f"python3 (>= 3.7), libwtf8-0 (>= {version})",
+        if processor != "x86_64":
+            return
+        package("python3-wtf8", "python", version, folder, packed, "all", f"python3 (>= 3.7), libwtf8-0 (>= {version})",
                 "This package has the module for Python 3.", {
             "usr/lib/python3/dist-packages/wtf8.py": root / "lib/wtf8.py",
             f"{doc}/python3-wtf8/copyright": root / "LICENSE",
             f"{doc}/python3-wtf8/examples/join.py": root / "examples/join.py",
-        }, architecture="all")
+        })
 
 
-def main(root, folder, version, packed, is_deb=""):
+def main(root, folder, version, packed, processor, is_deb=""):
     for pack in [wheel, debs] if is_deb else [wheel]:
-        pack(pathlib.Path(root), version, pathlib.Path(folder), int(packed))
+        pack(pathlib.Path(root), version, pathlib.Path(folder), int(packed), processor)
 
 
 main(*sys.argv[1:])
