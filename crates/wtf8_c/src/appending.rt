@@ -3,6 +3,7 @@ ghost use Rattle.std.specs.Prelude.{◌≡◌, ◌+◌, ◌∷◌, [], ◌≤◌
 ghost use Rattle.std.specs.Str.{chars, IsUtf8};
 ghost use Rattle.std.specs.Str.Lossy.{utf8_valid_len};
 ghost use Rattle.wtf8.specs.Appending.{AppendsUnits, KeepsContents, HasRoomFor};
+ghost use Rattle.wtf8.specs.Position.{IsFront};
 ghost use Rattle.wtf8.specs.Unicode.{IsCodePoint, units, units_of};
 ghost use Rattle.wtf8.specs.Utf8.{LeavesUnfinished, lossy_chars};
 ghost use Rattle.wtf8_c.specs.Utf8Front.{utf8_front, bad_len};
@@ -132,6 +133,7 @@ pub extern "C" fn wtf8_push_utf8_lossy(string: &mut Wtf8String, text: &[u8]) -> 
     ensures kept { result ≡ NO_MEMORY → KeepsContents string.old.buf string.new.buf }
     ensures room { HasRoomFor string.old.buf (units (lossy_chars text.now)) → result ≡ OK }
     ensures capacity { string.old.buf.capacity ≤ string.new.buf.capacity }
+    ensures front { result ≡ OK → IsFront string.new.buf.units (length string.old.buf.bytes) string.old.buf.units }
     ensures lies { string.new.at ≡ string.old.at }
 {
     code_of(string.buffer().push_utf8_lossy(text))
@@ -152,6 +154,7 @@ pub extern "C" fn wtf8_push_utf8_lossy_part(
     ensures kept { result ≡ NO_MEMORY → KeepsContents string.old.buf string.new.buf }
     ensures room { (n : ℕ) → LeavesUnfinished text.now n → HasRoomFor string.old.buf (units (lossy_chars (take n text.now))) → result ≡ OK }
     ensures capacity { string.old.buf.capacity ≤ string.new.buf.capacity }
+    ensures front { result ≡ OK → IsFront string.new.buf.units (length string.old.buf.bytes) string.old.buf.units }
     ensures lies { string.new.at ≡ string.old.at }
     ensures used_kept { result ≡ NO_MEMORY → used.new ≡ used.old }
 {
