@@ -5,16 +5,15 @@ use std::alloc::{AllocError, Allocator, Global};
 use wtf8::{Wtf8, Wtf8Buf};
 use wtf8_tests::examples::expect_units;
 use wtf8_tests::unit_edits::{EDITS, Edit};
-use wtf8_tests::wrong::{Failed, Wrong, expect, expect_bytes, in_row};
+use wtf8_tests::wrong::{Check, Failed, Made, Wrong, each_row, expect, expect_bytes, made};
 
 /// Replaces the units of a row, by the string if one is given.
 fn replace<A: Allocator>(
     text: &mut Wtf8Buf<A>,
-    edit: Edit,
+    ((_, (begin, end), other), _): Edit,
     new: Option<Wtf8<'_>>,
-) -> Result<(), AllocError> {
+) -> Made<()> {
     let view = text.as_wtf8();
-    let (begin, end) = (edit.begin, edit.end);
     if end < begin || view.unit_len() < end {
         return Err(AllocError);
     }
@@ -22,21 +21,19 @@ fn replace<A: Allocator>(
     let to = view.mark_at(view.start_mark(), end);
     match new {
         Some(new) => text.replace_at(from, begin, to, end, new),
-        None => text.replace_units_at(from, begin, to, end, edit.new),
+        None => text.replace_units_at(from, begin, to, end, other),
     }
 }
 
 /// The string of the row's units, with a capacity of `capacity` bytes, or of what they need.
 fn with_capacity<'a>(
     heap: Lent<'a>,
-    edit: Edit,
+    ((units, ..), _): Edit,
     capacity: usize,
 ) -> Result<Wtf8Buf<Lent<'a>>, Failed> {
     heap.grant(2);
-    let Ok(mut text) = Wtf8Buf::with_capacity(heap, capacity) else {
-        return Err(Failed::by(Wrong::Memory));
-    };
-    match text.push_ill_formed_utf16(edit.units) {
+    let mut text = made!(Wtf8Buf::with_capacity(heap, capacity));
+    match text.push_ill_formed_utf16(units) {
         Ok(()) => Ok(text),
         Err(_) => Err(Failed::by(Wrong::Memory)),
     }
@@ -50,10 +47,9 @@ fn expect_replaced(
     edit: Edit,
     new: Option<Wtf8<'_>>,
     (len, capacity): (usize, usize),
-) -> Result<(), Failed> {
-    let Ok(mut text) = with_capacity(heap, edit, capacity) else {
-        return Err(Failed::by(Wrong::Memory));
-    };
+) -> Check {
+    let ((units, ..), (_, dump)) = edit;
+    let mut text = made!(with_capacity(heap, edit, capacity));
     let fits = len <= text.capacity();
     heap.grant(0);
     if replace(&mut text, edit, new).is_ok() != fits {
@@ -61,17 +57,16 @@ fn expect_replaced(
     }
     expect((heap.requests() == 0) == fits, Wrong::Requests)?;
     if fits {
-        return expect_bytes(alloc, text.as_wtf8(), edit.dump);
+        return expect_bytes(alloc, text.as_wtf8(), dump);
     }
-    expect_units(alloc, text.as_wtf8(), edit.units)
+    expect_units(alloc, text.as_wtf8(), units)
 }
 
 /// Fails unless the row's units are replaced just if the bytes fit, at each capacity up to what is needed.
-fn expect_row(alloc: Global, heap: Lent<'_>, edit: Edit) -> Result<(), Failed> {
-    let len = edit.dump.len().wrapping_add(1) / 3;
-    let Ok(new) = Wtf8Buf::from_ill_formed_utf16(alloc, edit.new) else {
-        return Err(Failed::by(Wrong::Memory));
-    };
+fn expect_row(alloc: Global, heap: Lent<'_>, edit: Edit) -> Check {
+    let ((_, _, other), (_, dump)) = edit;
+    let len = dump.len().wrapping_add(1) / 3;
+    let new = made!(Wtf8Buf::from_ill_formed_utf16(alloc, other));
     for capacity in 0..=len {
         expect_replaced(alloc, heap, edit, None, (len, capacity))?;
         expect_replaced(alloc, heap, edit, Some(new.as_wtf8()), (len, capacity))?;
@@ -80,15 +75,8 @@ fn expect_row(alloc: Global, heap: Lent<'_>, edit: Edit) -> Result<(), Failed> {
 }
 
 #[test]
-fn units_are_replaced_without_a_request_just_if_they_fit(rt: HostRuntime) -> Result<(), Failed> {
+fn units_are_replaced_without_a_request_just_if_they_fit(rt: HostRuntime) -> Check {
     let alloc = rt.alloc();
     let heap = Refusing::new(alloc, 0);
-    let mut row = 0usize;
-    for edit in &EDITS {
-        if let Err(failed) = expect_row(alloc, &heap, *edit) {
-            return in_row(row, Err(failed));
-        }
-        row = row.wrapping_add(1);
-    }
-    Ok(())
+    each_row!(edit in EDITS => expect_row(alloc, &heap, edit))
 }

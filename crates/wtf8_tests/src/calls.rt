@@ -1,7 +1,7 @@
 // Each call of a string on one example, and strings built from arrays and options of code points. Scripts compare the calls
 // with the original crate on many strings.
 use crate::examples::{JOINING, TEXT, TEXT_DUMP, expect_made, expect_units, has_numbers, joined};
-use crate::wrong::{Failed, Wrong, expect, expect_bytes, in_row};
+use crate::wrong::{Check, Failed, Made, Wrong, each_row, expect, expect_bytes, made};
 use std::alloc::{AllocError, Allocator, Global};
 use std::borrow::CowStr;
 use wtf8::{Build, CodePoint, Wtf8, Wtf8Buf};
@@ -14,16 +14,17 @@ static UNITS: [u16; 6] = [0x61, 0xE9, 0x20, 0xD83D, 0xDCA9, 0xD83D];
 const DUMP: &str = "61 C3 A9 20 F0 9F 92 A9 ED A0 BD";
 
 /// Appends the trail of a pair, and a lead.
-fn append_trail_and_lead(alloc: Global, text: &mut Wtf8Buf<Global>) -> Result<(), AllocError> {
-    let Ok(trail) = Wtf8Buf::from_ill_formed_utf16(alloc, &[0xDCA9]) else {
-        return Err(AllocError);
-    };
+fn append_trail_and_lead(alloc: Global, text: &mut Wtf8Buf<Global>) -> Made<()> {
+    let trail = made!(
+        Wtf8Buf::from_ill_formed_utf16(alloc, &[0xDCA9]),
+        Err(AllocError)
+    );
     text.push_wtf8(trail.as_wtf8())?;
     text.extend([CodePoint::from_unit(0xD83D)])
 }
 
 /// Appends the units of `UNITS` after the first one, by each call that appends.
-fn append_each(alloc: Global, text: &mut Wtf8Buf<Global>) -> Result<(), AllocError> {
+fn append_each(alloc: Global, text: &mut Wtf8Buf<Global>) -> Made<()> {
     let is_pushed = text.push_char('é').is_ok()
         && text.push_str(" ").is_ok()
         && text.push(CodePoint::from_unit(0xD83D)).is_ok();
@@ -34,70 +35,60 @@ fn append_each(alloc: Global, text: &mut Wtf8Buf<Global>) -> Result<(), AllocErr
 }
 
 /// The string of `UNITS`, by each call that appends.
-fn appended(alloc: Global) -> Result<Wtf8Buf<Global>, AllocError> {
-    let Ok(mut text) = Wtf8Buf::from_str(alloc, "a") else {
-        return Err(AllocError);
-    };
+fn appended(alloc: Global) -> Made<Wtf8Buf<Global>> {
+    let mut text = made!(Wtf8Buf::from_str(alloc, "a"), Err(AllocError));
     append_each(alloc, &mut text)?;
     Ok(text)
 }
 
 /// Fails unless the string is that of `UNITS`.
-fn expect_string(alloc: Global, string: &Wtf8Buf<Global>) -> Result<(), Failed> {
+fn expect_string(alloc: Global, string: &Wtf8Buf<Global>) -> Check {
     expect_bytes(alloc, string.as_wtf8(), DUMP)?;
     expect_units(alloc, string.as_wtf8(), &UNITS)?;
     expect(has_numbers(string.as_wtf8(), &NUMBERS), Wrong::Outcome)
 }
 
 /// Fails unless a string was made, and is that of `UNITS`.
-fn expect_made_string(
-    alloc: Global,
-    made: Result<Wtf8Buf<Global>, AllocError>,
-) -> Result<(), Failed> {
-    match made {
-        Ok(text) => expect_string(alloc, &text),
-        Err(_) => Err(Failed::by(Wrong::Memory)),
-    }
+fn expect_made_string(alloc: Global, made: Made<Wtf8Buf<Global>>) -> Check {
+    let text = made!(made);
+    expect_string(alloc, &text)
 }
 
 #[test]
-fn each_call_that_appends_keeps_the_units_before(rt: HostRuntime) -> Result<(), Failed> {
+fn each_call_that_appends_keeps_the_units_before(rt: HostRuntime) -> Check {
     let alloc = rt.alloc();
-    let Ok(text) = appended(alloc) else {
-        return Err(Failed::by(Wrong::Memory));
-    };
+    let text = made!(appended(alloc));
     expect_string(alloc, &text)?;
     expect_made_string(alloc, text.clone())
 }
 
 /// Appends the units of `UNITS` after the first one, by the calls that append units.
-fn push_units(text: &mut Wtf8Buf<Global>) -> Result<(), AllocError> {
+fn push_units(text: &mut Wtf8Buf<Global>) -> Made<()> {
     text.push_ill_formed_utf16(&UNITS[1..4])?;
     text.push_ill_formed_utf16(&UNITS[4..5])?;
     text.push_unit(0xD83D)
 }
 
 /// The string of `UNITS`, by the calls that append units.
-fn pushed_as_units(alloc: Global) -> Result<Wtf8Buf<Global>, AllocError> {
-    let Ok(mut text) = Wtf8Buf::from_str(alloc, "a") else {
-        return Err(AllocError);
-    };
+fn pushed_as_units(alloc: Global) -> Made<Wtf8Buf<Global>> {
+    let mut text = made!(Wtf8Buf::from_str(alloc, "a"), Err(AllocError));
     push_units(&mut text)?;
     Ok(text)
 }
 
 /// Appends a string by two slices of it, cut after its fourth unit.
-fn push_slices(text: &mut Wtf8Buf<Global>, whole: Wtf8<'_>) -> Result<(), AllocError> {
+fn push_slices(text: &mut Wtf8Buf<Global>, whole: Wtf8<'_>) -> Made<()> {
     let end = whole.unit_len();
     text.push_unit_slice(whole.slice_units(0, 4.min(end)))?;
     text.push_unit_slice(whole.slice_units(4.min(end), end))
 }
 
 /// The string of `UNITS`, by slices of it that are cut inside its pair.
-fn pushed_as_slices(alloc: Global) -> Result<Wtf8Buf<Global>, AllocError> {
-    let Ok(whole) = Wtf8Buf::from_ill_formed_utf16(alloc, &UNITS) else {
-        return Err(AllocError);
-    };
+fn pushed_as_slices(alloc: Global) -> Made<Wtf8Buf<Global>> {
+    let whole = made!(
+        Wtf8Buf::from_ill_formed_utf16(alloc, &UNITS),
+        Err(AllocError)
+    );
     let mut text = Wtf8Buf::new(alloc);
     push_slices(&mut text, whole.as_wtf8())?;
     Ok(text)
@@ -119,26 +110,24 @@ fn is_no_text(text: Wtf8Buf<Global>) -> bool {
 }
 
 #[test]
-fn units_are_pushed_and_written(rt: HostRuntime) -> Result<(), Failed> {
+fn units_are_pushed_and_written(rt: HostRuntime) -> Check {
     let alloc = rt.alloc();
     expect_made_string(alloc, pushed_as_units(alloc))?;
     expect_made_string(alloc, pushed_as_slices(alloc))?;
-    let Ok(text) = pushed_as_units(alloc) else {
-        return Err(Failed::by(Wrong::Memory));
-    };
+    let text = made!(pushed_as_units(alloc));
     expect(writes_units(text.as_wtf8()), Wrong::Units)?;
     // A lone surrogate was pushed, so this is no text.
     expect(is_no_text(text), Wrong::Outcome)
 }
 
 /// The string of the code points of `UNITS`, collected from the string itself.
-fn collected(alloc: Global) -> Result<Wtf8Buf<Global>, AllocError> {
+fn collected(alloc: Global) -> Made<Wtf8Buf<Global>> {
     let text = Wtf8Buf::from_ill_formed_utf16(alloc, &UNITS)?;
     Wtf8Buf::from_iter(alloc, text.as_wtf8().code_points())
 }
 
 #[test]
-fn code_points_of_a_string_give_it_again(rt: HostRuntime) -> Result<(), Failed> {
+fn code_points_of_a_string_give_it_again(rt: HostRuntime) -> Check {
     let alloc = rt.alloc();
     expect_made_string(alloc, collected(alloc))
 }
@@ -176,15 +165,8 @@ fn is_text(string: Wtf8Buf<Global>) -> bool {
 }
 
 /// Fails unless the lossy text of the view is `text`, borrowed from the view if `is_borrowed`, else copied.
-fn expect_lossy(
-    alloc: Global,
-    view: Wtf8<'_>,
-    text: &str,
-    is_borrowed: bool,
-) -> Result<(), Failed> {
-    let Ok(lossy) = view.to_string_lossy(alloc) else {
-        return Err(Failed::by(Wrong::Memory));
-    };
+fn expect_lossy(alloc: Global, view: Wtf8<'_>, text: &str, is_borrowed: bool) -> Check {
+    let lossy = made!(view.to_string_lossy(alloc));
     let is_right = matches!(lossy, CowStr::Borrowed(_)) == is_borrowed && lossy.as_str() == text;
     expect(is_right, Wrong::Bytes)
 }
@@ -203,16 +185,14 @@ fn writes_lossy(text: Wtf8<'_>) -> bool {
 }
 
 #[test]
-fn a_string_without_surrogates_is_a_text(rt: HostRuntime) -> Result<(), Failed> {
-    let Ok(text) = String::from_str(rt.alloc(), TEXT) else {
-        return Err(Failed::by(Wrong::Memory));
-    };
+fn a_string_without_surrogates_is_a_text(rt: HostRuntime) -> Check {
+    let text = made!(String::from_str(rt.alloc(), TEXT));
     expect(is_text(Wtf8Buf::from_string(text)), Wrong::Bytes)?;
     expect_lossy(rt.alloc(), Wtf8::from_str(TEXT), TEXT, true)
 }
 
 /// Fails unless the view of `UNITS` is no text, and `text` with its surrogate replaced.
-fn expect_replaced(alloc: Global, view: Wtf8<'_>, text: &str) -> Result<(), Failed> {
+fn expect_replaced(alloc: Global, view: Wtf8<'_>, text: &str) -> Check {
     expect_lossy(alloc, view, text, false)?;
     expect(view.as_str().is_none() && writes_lossy(view), Wrong::Bytes)
 }
@@ -223,16 +203,14 @@ fn becomes_lossy(string: Wtf8Buf<Global>, text: &str) -> bool {
 }
 
 #[test]
-fn a_lossy_text_has_replacements(rt: HostRuntime) -> Result<(), Failed> {
-    let Ok(text) = appended(rt.alloc()) else {
-        return Err(Failed::by(Wrong::Memory));
-    };
+fn a_lossy_text_has_replacements(rt: HostRuntime) -> Check {
+    let text = made!(appended(rt.alloc()));
     expect_replaced(rt.alloc(), text.as_wtf8(), "aé 💩\u{FFFD}")?;
     expect(becomes_lossy(text, "aé 💩\u{FFFD}"), Wrong::Bytes)
 }
 
 /// Fails unless the parts of `TEXT` at a boundary have their bytes, and inside a code point there is none.
-fn expect_parts(alloc: Global, text: Wtf8<'_>) -> Result<(), Failed> {
+fn expect_parts(alloc: Global, text: Wtf8<'_>) -> Check {
     if text.is_code_point_boundary(5) || !text.is_code_point_boundary(4) {
         return Err(Failed::by(Wrong::Row));
     }
@@ -242,16 +220,12 @@ fn expect_parts(alloc: Global, text: Wtf8<'_>) -> Result<(), Failed> {
 }
 
 #[test]
-fn parts_have_the_bytes_between_their_positions(rt: HostRuntime) -> Result<(), Failed> {
+fn parts_have_the_bytes_between_their_positions(rt: HostRuntime) -> Check {
     expect_parts(rt.alloc(), Wtf8::from_str(TEXT))
 }
 
 /// Appends a trail. Fails unless the string then has the bytes of `dump`.
-fn expect_trail_pushed(
-    alloc: Global,
-    text: &mut Wtf8Buf<Global>,
-    dump: &str,
-) -> Result<(), Failed> {
+fn expect_trail_pushed(alloc: Global, text: &mut Wtf8Buf<Global>, dump: &str) -> Check {
     match text.push(CodePoint::from_unit(0xDCA9)) {
         Ok(()) => expect_bytes(alloc, text.as_wtf8(), dump),
         Err(_) => Err(Failed::by(Wrong::Memory)),
@@ -259,7 +233,7 @@ fn expect_trail_pushed(
 }
 
 /// Truncates `TEXT` to its first four units. Fails unless it then ends with a lead that a trail joins.
-fn expect_truncated(alloc: Global, text: &mut Wtf8Buf<Global>) -> Result<(), Failed> {
+fn expect_truncated(alloc: Global, text: &mut Wtf8Buf<Global>) -> Check {
     if text.as_wtf8().unit_len() != 5 {
         return Err(Failed::by(Wrong::Outcome));
     }
@@ -269,10 +243,8 @@ fn expect_truncated(alloc: Global, text: &mut Wtf8Buf<Global>) -> Result<(), Fai
 }
 
 #[test]
-fn a_string_is_truncated_inside_a_pair(rt: HostRuntime) -> Result<(), Failed> {
-    let Ok(mut text) = Wtf8Buf::from_str(rt.alloc(), TEXT) else {
-        return Err(Failed::by(Wrong::Memory));
-    };
+fn a_string_is_truncated_inside_a_pair(rt: HostRuntime) -> Check {
+    let mut text = made!(Wtf8Buf::from_str(rt.alloc(), TEXT));
     expect_truncated(rt.alloc(), &mut text)
 }
 
@@ -284,10 +256,8 @@ fn clears(text: &mut Wtf8Buf<Global>) -> bool {
 }
 
 #[test]
-fn a_cleared_string_is_empty_and_begins_anew(rt: HostRuntime) -> Result<(), Failed> {
-    let Ok(mut text) = appended(rt.alloc()) else {
-        return Err(Failed::by(Wrong::Memory));
-    };
+fn a_cleared_string_is_empty_and_begins_anew(rt: HostRuntime) -> Check {
+    let mut text = made!(appended(rt.alloc()));
     assert!(rt; !text.is_empty() && !text.as_wtf8().is_empty());
     assert!(rt; clears(&mut text));
     expect_trail_pushed(rt.alloc(), &mut text, "ED B2 A9")
@@ -329,10 +299,8 @@ fn yields_back(text: Wtf8<'_>) -> bool {
 }
 
 #[test]
-fn an_iterator_outlives_its_view(rt: HostRuntime) -> Result<(), Failed> {
-    let Ok(text) = Wtf8Buf::from_ill_formed_utf16(rt.alloc(), &[0xD83D, 0x62]) else {
-        return Err(Failed::by(Wrong::Memory));
-    };
+fn an_iterator_outlives_its_view(rt: HostRuntime) -> Check {
+    let text = made!(Wtf8Buf::from_ill_formed_utf16(rt.alloc(), &[0xD83D, 0x62]));
     expect(yields_back(text.as_wtf8()), Wrong::Units)
 }
 
@@ -349,10 +317,8 @@ fn keeps_back(text: Wtf8<'_>) -> bool {
 }
 
 #[test]
-fn a_slice_outlives_its_view(rt: HostRuntime) -> Result<(), Failed> {
-    let Ok(text) = Wtf8Buf::from_ill_formed_utf16(rt.alloc(), &[0x61, 0xD83D, 0x62]) else {
-        return Err(Failed::by(Wrong::Memory));
-    };
+fn a_slice_outlives_its_view(rt: HostRuntime) -> Check {
+    let text = made!(Wtf8Buf::from_ill_formed_utf16(rt.alloc(), &[0x61, 0xD83D, 0x62]));
     expect(keeps_back(text.as_wtf8()), Wrong::Bytes)
 }
 
@@ -362,26 +328,17 @@ fn ends_before_max(text: Wtf8<'_>) -> bool {
 }
 
 /// Fails unless the string of the units has a boundary at its start and none at `usize::MAX`.
-fn expect_end_before_max(alloc: Global, units: &[u16]) -> Result<(), Failed> {
-    let Ok(text) = Wtf8Buf::from_ill_formed_utf16(alloc, units) else {
-        return Err(Failed::by(Wrong::Memory));
-    };
+fn expect_end_before_max(alloc: Global, units: &[u16]) -> Check {
+    let text = made!(Wtf8Buf::from_ill_formed_utf16(alloc, units));
     expect(ends_before_max(text.as_wtf8()), Wrong::Outcome)
 }
 
 #[test]
-fn usize_max_is_no_boundary(rt: HostRuntime) -> Result<(), Failed> {
+fn usize_max_is_no_boundary(rt: HostRuntime) -> Check {
     for text in ["", TEXT] {
         expect(ends_before_max(Wtf8::from_str(text)), Wrong::Outcome)?;
     }
-    let mut row = 0usize;
-    for (units, _, _) in &JOINING {
-        if let Err(failed) = expect_end_before_max(rt.alloc(), units) {
-            return in_row(row, Err(failed));
-        }
-        row = row.wrapping_add(1);
-    }
-    Ok(())
+    each_row!((units, _, _) in JOINING => expect_end_before_max(rt.alloc(), units))
 }
 
 /// Whether a list of an extension by a lead and one by its trail and "a" is applied.
@@ -392,7 +349,7 @@ fn extends_twice(text: &mut Wtf8Buf<Global>) -> bool {
 }
 
 #[test]
-fn two_extensions_join(rt: HostRuntime) -> Result<(), Failed> {
+fn two_extensions_join(rt: HostRuntime) -> Check {
     let mut text = Wtf8Buf::new(rt.alloc());
     expect(extends_twice(&mut text), Wrong::Outcome)?;
     expect_bytes(rt.alloc(), text.as_wtf8(), "F0 9F 92 A9 61")
@@ -403,14 +360,14 @@ fn of_arrays(
     alloc: Global,
     collected: [CodePoint; 2],
     extension: [CodePoint; 2],
-) -> Result<Wtf8Buf<Global>, AllocError> {
+) -> Made<Wtf8Buf<Global>> {
     let mut text = Wtf8Buf::from_iter(alloc, collected)?;
     text.extend(extension)?;
     Ok(text)
 }
 
 #[test]
-fn arrays_are_taken(rt: HostRuntime) -> Result<(), Failed> {
+fn arrays_are_taken(rt: HostRuntime) -> Check {
     let alloc = rt.alloc();
     let [a, b] = ['a', 'b'].map(CodePoint::from_char);
     let pair = [CodePoint::from_unit(0xD83D), CodePoint::from_unit(0xDCA9)];
@@ -419,23 +376,20 @@ fn arrays_are_taken(rt: HostRuntime) -> Result<(), Failed> {
 }
 
 /// Extends `text` by no code point, then by `point`.
-fn extend_by_options<A: Allocator>(
-    text: &mut Wtf8Buf<A>,
-    point: CodePoint,
-) -> Result<(), AllocError> {
+fn extend_by_options<A: Allocator>(text: &mut Wtf8Buf<A>, point: CodePoint) -> Made<()> {
     text.extend(None)?;
     text.extend(Some(point))
 }
 
 /// The string of D83D, extended by DCA9.
-fn of_options(alloc: Global) -> Result<Wtf8Buf<Global>, AllocError> {
+fn of_options(alloc: Global) -> Made<Wtf8Buf<Global>> {
     let mut text = joined(alloc, &[0xD83D])?;
     extend_by_options(&mut text, CodePoint::from_unit(0xDCA9))?;
     Ok(text)
 }
 
 #[test]
-fn an_option_is_taken(rt: HostRuntime) -> Result<(), Failed> {
+fn an_option_is_taken(rt: HostRuntime) -> Check {
     let alloc = rt.alloc();
     expect_made(alloc, of_options(alloc), "F0 9F 92 A9")
 }

@@ -2,7 +2,7 @@
 use crate::displaying::long_text;
 use crate::examples::pushed;
 use crate::sinks::Sink;
-use crate::wrong::{Failed, Wrong, in_row};
+use crate::wrong::{Check, Failed, Made, Wrong, assert_row, made};
 use std::alloc::{AllocError, Global};
 use std::fmt::{Debug, Write};
 use wtf8::CodePoint;
@@ -57,7 +57,7 @@ fn writes_of<T: Debug>(
 }
 
 /// Refuses each write of the debug output in turn. Fails unless the output ends there.
-fn expect_ends<T: Debug>(alloc: Global, value: &T, expected: &str) -> Result<(), Failed> {
+fn expect_ends<T: Debug>(alloc: Global, value: &T, expected: &str) -> Check {
     for is_styled in [false, true] {
         let writes = writes_of(alloc, value, is_styled, u32::MAX, expected)?;
         for refused in 1..=writes {
@@ -68,14 +68,14 @@ fn expect_ends<T: Debug>(alloc: Global, value: &T, expected: &str) -> Result<(),
 }
 
 /// Fails unless the debug output of the string of these code points, and of its view, ends at each refused write.
-fn expect_string_ends(alloc: Global, numbers: &[u32], expected: &str) -> Result<(), Failed> {
+fn expect_string_ends(alloc: Global, numbers: &[u32], expected: &str) -> Check {
     let text = pushed(alloc, numbers)?;
     expect_ends(alloc, &text, expected)?;
     expect_ends(alloc, &text.as_wtf8(), expected)
 }
 
 /// Fails unless the debug output of the code point ends at each refused write.
-fn expect_point_ends(alloc: Global, number: u32, expected: &str) -> Result<(), Failed> {
+fn expect_point_ends(alloc: Global, number: u32, expected: &str) -> Check {
     let Some(point) = CodePoint::from_u32(number) else {
         return Err(Failed::by(Wrong::Row));
     };
@@ -83,31 +83,23 @@ fn expect_point_ends(alloc: Global, number: u32, expected: &str) -> Result<(), F
 }
 
 #[test]
-fn a_debug_text_shows_surrogates_by_number_and_ends_at_a_refused_write(
-    rt: HostRuntime,
-) -> Result<(), Failed> {
+fn a_debug_text_shows_surrogates_by_number_and_ends_at_a_refused_write(rt: HostRuntime) -> Check {
     let alloc = rt.alloc();
     let mut row = 0usize;
     for (numbers, expected) in &STRINGS {
-        if let Err(failed) = expect_string_ends(alloc, numbers, expected) {
-            return in_row(row, Err(failed));
-        }
+        assert_row!(row, expect_string_ends(alloc, numbers, expected));
         row = row.wrapping_add(1);
     }
     for (number, expected) in &POINTS {
-        if let Err(failed) = expect_point_ends(alloc, *number, expected) {
-            return in_row(row, Err(failed));
-        }
+        assert_row!(row, expect_point_ends(alloc, *number, expected));
         row = row.wrapping_add(1);
     }
     Ok(())
 }
 
 /// `text` in quotation marks.
-fn quoted(alloc: Global, text: &str) -> Result<String, AllocError> {
-    let Ok(mut quoted) = String::from_str(alloc, "\"") else {
-        return Err(AllocError);
-    };
+fn quoted(alloc: Global, text: &str) -> Made<String> {
+    let mut quoted = made!(String::from_str(alloc, "\""), Err(AllocError));
     let is_quoted = quoted.push_str(text).is_ok() && quoted.push('"').is_ok();
     if !is_quoted {
         return Err(AllocError);
@@ -117,18 +109,14 @@ fn quoted(alloc: Global, text: &str) -> Result<String, AllocError> {
 
 /// Fails unless the debug output of a long string with the code point `number`, shown as `shown`, ends at each refused
 /// write.
-fn expect_long_ends(alloc: Global, number: u32, shown: &str) -> Result<(), Failed> {
-    let Ok((numbers, text)) = long_text(alloc, 160, number, shown) else {
-        return Err(Failed::by(Wrong::Memory));
-    };
-    match quoted(alloc, &text) {
-        Ok(quoted) => expect_string_ends(alloc, &numbers, &quoted),
-        Err(_) => Err(Failed::by(Wrong::Memory)),
-    }
+fn expect_long_ends(alloc: Global, number: u32, shown: &str) -> Check {
+    let (numbers, text) = made!(long_text(alloc, 160, number, shown));
+    let quoted = made!(quoted(alloc, &text));
+    expect_string_ends(alloc, &numbers, &quoted)
 }
 
 #[test]
-fn a_long_debug_text_ends_at_a_refused_write(rt: HostRuntime) -> Result<(), Failed> {
+fn a_long_debug_text_ends_at_a_refused_write(rt: HostRuntime) -> Check {
     let alloc = rt.alloc();
     expect_long_ends(alloc, 0xDEAD, "\\u{DEAD}")?;
     expect_long_ends(alloc, 0x07, "\u{7}")

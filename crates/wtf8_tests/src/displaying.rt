@@ -1,7 +1,7 @@
 // `Display` output of strings: with a width, a fill and a precision, and through a sink that refuses a write.
 use crate::examples::{expect_true, pushed};
 use crate::sinks::Sink;
-use crate::wrong::{Failed, Wrong, in_row};
+use crate::wrong::{Check, Failed, Made, each_number, each_row, made};
 use std::alloc::{AllocError, Global};
 use std::fmt;
 use std::fmt::{Display, Write};
@@ -44,7 +44,7 @@ impl Write for Parts {
 }
 
 /// The first `left` parts, each followed by `|`.
-fn with_bars(alloc: Global, parts: &[&str], left: usize) -> Result<String, AllocError> {
+fn with_bars(alloc: Global, parts: &[&str], left: usize) -> Made<String> {
     let mut text = String::new(alloc);
     for part in parts.iter().take(left) {
         let is_pushed = text.push_str(part).is_ok() && text.push_str("|").is_ok();
@@ -57,12 +57,7 @@ fn with_bars(alloc: Global, parts: &[&str], left: usize) -> Result<String, Alloc
 
 /// Whether a sink that refuses the write after the first `left` takes just the first `left` parts of `value`, and the
 /// call fails if there are more.
-fn takes<T: Display>(
-    alloc: Global,
-    value: &T,
-    left: usize,
-    parts: &[&str],
-) -> Result<bool, AllocError> {
+fn takes<T: Display>(alloc: Global, value: &T, left: usize, parts: &[&str]) -> Made<bool> {
     let taken = String::new(alloc);
     let mut sink = Parts { taken, left };
     let is_ok = write!(sink, "{value}").is_ok();
@@ -70,11 +65,7 @@ fn takes<T: Display>(
 }
 
 /// Whether the string and its view are written in these parts, and end at each refused write.
-fn writes_in_parts(
-    alloc: Global,
-    text: &Wtf8Buf<Global>,
-    parts: &[&str],
-) -> Result<bool, AllocError> {
+fn writes_in_parts(alloc: Global, text: &Wtf8Buf<Global>, parts: &[&str]) -> Made<bool> {
     for left in 0..parts.len().saturating_add(2) {
         if !takes(alloc, text, left, parts)? || !takes(alloc, &text.as_wtf8(), left, parts)? {
             return Ok(false);
@@ -96,22 +87,15 @@ static IN_PARTS: [(&[u32], &[&str]); 5] = [
 ];
 
 /// Fails unless the string of these code points, and its view, are written in these parts.
-fn expect_parts(alloc: Global, numbers: &[u32], parts: &[&str]) -> Result<(), Failed> {
+fn expect_parts(alloc: Global, numbers: &[u32], parts: &[&str]) -> Check {
     let text = pushed(alloc, numbers)?;
     expect_true(writes_in_parts(alloc, &text, parts))
 }
 
 #[test]
-fn a_lossy_text_is_written_in_parts(rt: HostRuntime) -> Result<(), Failed> {
+fn a_lossy_text_is_written_in_parts(rt: HostRuntime) -> Check {
     let alloc = rt.alloc();
-    let mut row = 0usize;
-    for (numbers, parts) in &IN_PARTS {
-        if let Err(failed) = expect_parts(alloc, numbers, parts) {
-            return in_row(row, Err(failed));
-        }
-        row = row.wrapping_add(1);
-    }
-    Ok(())
+    each_row!((numbers, parts) in IN_PARTS => expect_parts(alloc, numbers, parts))
 }
 
 /// Displays `value` in format number `style` of `STYLED` to a sink that refuses write number `refused`. Fails unless
@@ -135,7 +119,7 @@ fn writes_of<T: Display>(
 }
 
 /// Refuses each write in each format in turn. Fails unless the output ends there.
-fn expect_ends<T: Display>(alloc: Global, value: &T, expected: [&str; 5]) -> Result<(), Failed> {
+fn expect_ends<T: Display>(alloc: Global, value: &T, expected: [&str; 5]) -> Check {
     let mut style = 0usize;
     for expected in expected {
         let writes = writes_of(alloc, value, style, u32::MAX, expected)?;
@@ -148,33 +132,19 @@ fn expect_ends<T: Display>(alloc: Global, value: &T, expected: [&str; 5]) -> Res
 }
 
 /// Fails unless the output of the string of these code points, and of its view, ends at each refused write.
-fn expect_string_ends(alloc: Global, numbers: &[u32], expected: [&str; 5]) -> Result<(), Failed> {
+fn expect_string_ends(alloc: Global, numbers: &[u32], expected: [&str; 5]) -> Check {
     let text = pushed(alloc, numbers)?;
     expect_ends(alloc, &text, expected)?;
     expect_ends(alloc, &text.as_wtf8(), expected)
 }
 
 #[test]
-fn a_text_is_filled_a_lossy_text_is_not_and_both_end_at_a_refused_write(
-    rt: HostRuntime,
-) -> Result<(), Failed> {
-    let mut row = 0usize;
-    for (numbers, expected) in &STYLED {
-        if let Err(failed) = expect_string_ends(rt.alloc(), numbers, *expected) {
-            return in_row(row, Err(failed));
-        }
-        row = row.wrapping_add(1);
-    }
-    Ok(())
+fn a_text_is_filled_a_lossy_text_is_not_and_both_end_at_a_refused_write(rt: HostRuntime) -> Check {
+    each_row!((numbers, expected) in STYLED => expect_string_ends(rt.alloc(), numbers, expected))
 }
 
 /// "a", a code point and U+3042, repeated `times` times: as code points, and as a text with `shown` for the code point.
-pub fn long_text(
-    alloc: Global,
-    times: u32,
-    number: u32,
-    shown: &str,
-) -> Result<(Vec<u32>, String), AllocError> {
+pub fn long_text(alloc: Global, times: u32, number: u32, shown: &str) -> Made<(Vec<u32>, String)> {
     let mut numbers = Vec::new(alloc);
     let mut text = String::new(alloc);
     for _ in 0..times {
@@ -190,22 +160,18 @@ pub fn long_text(
 }
 
 #[test]
-fn a_long_text_ends_at_a_refused_write(rt: HostRuntime) -> Result<(), Failed> {
+fn a_long_text_ends_at_a_refused_write(rt: HostRuntime) -> Check {
     let alloc = rt.alloc();
-    let Ok((numbers, text)) = long_text(alloc, 160, 0x1F4A9, "💩") else {
-        return Err(Failed::by(Wrong::Memory));
-    };
+    let (numbers, text) = made!(long_text(alloc, 160, 0x1F4A9, "💩"));
     let whole = text.as_str();
     let expected = [whole, whole, "***a****", "a💩****", whole];
     expect_string_ends(alloc, &numbers, expected)
 }
 
 #[test]
-fn a_long_lossy_text_ends_at_a_refused_write(rt: HostRuntime) -> Result<(), Failed> {
+fn a_long_lossy_text_ends_at_a_refused_write(rt: HostRuntime) -> Check {
     let alloc = rt.alloc();
-    let Ok((numbers, text)) = long_text(alloc, 160, 0xDEAD, "\u{FFFD}") else {
-        return Err(Failed::by(Wrong::Memory));
-    };
+    let (numbers, text) = made!(long_text(alloc, 160, 0xDEAD, "\u{FFFD}"));
     let whole = text.as_str();
     let expected = [whole, whole, whole, whole, whole];
     expect_string_ends(alloc, &numbers, expected)
@@ -215,7 +181,7 @@ fn a_long_lossy_text_ends_at_a_refused_write(rt: HostRuntime) -> Result<(), Fail
 const LETTERS: usize = 100;
 
 /// "a" `LETTERS` times with a lone surrogate after the first `length`: its code points, and its lossy text.
-fn around_a_surrogate(alloc: Global, length: usize) -> Result<(Vec<u32>, String), AllocError> {
+fn around_a_surrogate(alloc: Global, length: usize) -> Made<(Vec<u32>, String)> {
     let mut numbers = Vec::new(alloc);
     let mut text = String::new(alloc);
     for index in 0..=LETTERS {
@@ -234,7 +200,7 @@ fn around_a_surrogate(alloc: Global, length: usize) -> Result<(Vec<u32>, String)
 }
 
 /// Fails unless the string of these code points, and its view, are displayed as `expected`.
-fn expect_displayed(alloc: Global, numbers: &[u32], expected: &str) -> Result<(), Failed> {
+fn expect_displayed(alloc: Global, numbers: &[u32], expected: &str) -> Check {
     let text = pushed(alloc, numbers)?;
     writes_of(alloc, &text, 0, u32::MAX, expected)?;
     match writes_of(alloc, &text.as_wtf8(), 0, u32::MAX, expected) {
@@ -244,14 +210,9 @@ fn expect_displayed(alloc: Global, numbers: &[u32], expected: &str) -> Result<()
 }
 
 #[test]
-fn texts_of_each_length_around_a_surrogate_are_written(rt: HostRuntime) -> Result<(), Failed> {
-    for length in 0..=LETTERS {
-        let Ok((numbers, text)) = around_a_surrogate(rt.alloc(), length) else {
-            return in_row(length, Err(Failed::by(Wrong::Memory)));
-        };
-        if let Err(failed) = expect_displayed(rt.alloc(), &numbers, &text) {
-            return in_row(length, Err(failed));
-        }
-    }
-    Ok(())
+fn texts_of_each_length_around_a_surrogate_are_written(rt: HostRuntime) -> Check {
+    each_number!(length in 0..=LETTERS => {
+        let (numbers, text) = made!(around_a_surrogate(rt.alloc(), length));
+        expect_displayed(rt.alloc(), &numbers, &text)
+    })
 }

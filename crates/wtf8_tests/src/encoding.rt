@@ -1,16 +1,16 @@
 // `encoded_len` counts the bytes of the string that is made of the same units, and `encode_front` encodes lists of units
 // part by part.
 use crate::examples::{LISTS, long_list};
-use crate::wrong::{Failed, Wrong, expect, in_row};
-use std::alloc::{AllocError, Global};
+use crate::wrong::{Check, Made, Wrong, assert_row, each_number, each_row, expect, made};
+use std::alloc::Global;
 use wtf8::{Wtf8Buf, encode_front, encoded_len};
 
 /// Units, and the number of bytes of their string: Unicode 3.9, Table 3-6, and three bytes for a lone surrogate.
 static ROWS: [(&[u16], usize); 18] = [
     (&[], 0),
-    (&[0x0000], 1),
-    (&[0x007F], 1),
-    (&[0x0080], 2),
+    (&[0x00], 1),
+    (&[0x7F], 1),
+    (&[0x80], 2),
     (&[0x07FF], 2),
     (&[0x0800], 3),
     (&[0xD7FF], 3),
@@ -24,19 +24,19 @@ static ROWS: [(&[u16], usize); 18] = [
     (&[0xDCA9, 0xD83D], 6),
     (&[0xD83D, 0xD83D, 0xDCA9], 7),
     (&[0xD83D, 0xDCA9, 0xDCA9], 7),
-    (&[0xDBFF, 0xDFFF, 0x0061, 0x00E9, 0xD83D], 10),
+    (&[0xDBFF, 0xDFFF, 0x61, 0xE9, 0xD83D], 10),
 ];
 
 /// Units that repeat, and the number of bytes of each repetition.
 static REPEATED: [(&[u16], usize); 8] = [
-    (&[0x0061], 1),
-    (&[0x00E9], 2),
+    (&[0x61], 1),
+    (&[0xE9], 2),
     (&[0x3042], 3),
     (&[0xD83D], 3),
     (&[0xDCA9], 3),
     (&[0xD83D, 0xDCA9], 4),
-    (&[0x0061, 0xD83D, 0xDCA9], 5),
-    (&[0xD83D, 0x0061, 0xDCA9], 7),
+    (&[0x61, 0xD83D, 0xDCA9], 5),
+    (&[0xD83D, 0x61, 0xDCA9], 7),
 ];
 
 /// Numbers of repetitions: up to several blocks, then more than are added up at once.
@@ -46,12 +46,7 @@ static TIMES: [usize; 26] = [
 ];
 
 /// `front` letters, and `times` times the units.
-fn repeated(
-    alloc: Global,
-    front: usize,
-    units: &[u16],
-    times: usize,
-) -> Result<Vec<u16>, AllocError> {
+fn repeated(alloc: Global, front: usize, units: &[u16], times: usize) -> Made<Vec<u16>> {
     let mut all = vec![in alloc; 0x61; front]?;
     for _ in 0..times {
         all.extend_from_slice(units)?;
@@ -60,33 +55,22 @@ fn repeated(
 }
 
 #[test]
-fn each_kind_of_unit_is_counted(_rt: HostRuntime) -> Result<(), Failed> {
-    let mut row: usize = 0;
-    for (units, len) in &ROWS {
-        if let Err(failed) = expect(encoded_len(units) == *len, Wrong::Outcome) {
-            return in_row(row, Err(failed));
-        }
-        row = row.wrapping_add(1);
-    }
-    Ok(())
+fn each_kind_of_unit_is_counted(_rt: HostRuntime) -> Check {
+    each_row!((units, len) in ROWS => expect(encoded_len(units) == len, Wrong::Outcome))
 }
 
 /// Fails unless the repetitions have the number of bytes that they must, after up to three letters.
-fn expect_repeated(alloc: Global, units: &[u16], len: usize, times: usize) -> Result<(), Failed> {
+fn expect_repeated(alloc: Global, units: &[u16], len: usize, times: usize) -> Check {
     for front in 0..4_usize {
-        let Ok(all) = repeated(alloc, front, units, times) else {
-            return Err(Failed::by(Wrong::Memory));
-        };
+        let all = made!(repeated(alloc, front, units, times));
         let whole = front.wrapping_add(len.wrapping_mul(times));
-        if let Err(failed) = expect(encoded_len(&all) == whole, Wrong::Outcome) {
-            return in_row(times, Err(failed));
-        }
+        assert_row!(times, expect(encoded_len(&all) == whole, Wrong::Outcome));
     }
     Ok(())
 }
 
 #[test]
-fn repeated_units_are_counted(rt: HostRuntime) -> Result<(), Failed> {
+fn repeated_units_are_counted(rt: HostRuntime) -> Check {
     for (units, len) in &REPEATED {
         for times in &TIMES {
             expect_repeated(rt.alloc(), units, *len, *times)?;
@@ -96,32 +80,23 @@ fn repeated_units_are_counted(rt: HostRuntime) -> Result<(), Failed> {
 }
 
 /// Fails unless `encoded_len` is the length of the string that is made of the units.
-fn expect_len(alloc: Global, units: &[u16]) -> Result<(), Failed> {
-    let Ok(text) = Wtf8Buf::from_ill_formed_utf16(alloc, units) else {
-        return Err(Failed::by(Wrong::Memory));
-    };
+fn expect_len(alloc: Global, units: &[u16]) -> Check {
+    let text = made!(Wtf8Buf::from_ill_formed_utf16(alloc, units));
     expect(text.len() == encoded_len(units), Wrong::Outcome)
 }
 
 /// Fails unless `encoded_len` is the length of the string of a long list.
-fn expect_long_len(alloc: Global, letters: usize) -> Result<(), Failed> {
-    match long_list(alloc, letters) {
-        Ok(units) => expect_len(alloc, &units),
-        Err(_) => Err(Failed::by(Wrong::Memory)),
-    }
+fn expect_long_len(alloc: Global, letters: usize) -> Check {
+    let units = made!(long_list(alloc, letters));
+    expect_len(alloc, &units)
 }
 
 #[test]
-fn strings_have_the_counted_length(rt: HostRuntime) -> Result<(), Failed> {
+fn strings_have_the_counted_length(rt: HostRuntime) -> Check {
     for list in &LISTS {
         expect_len(rt.alloc(), list)?;
     }
-    for letters in 0..70_usize {
-        if let Err(failed) = expect_long_len(rt.alloc(), letters) {
-            return in_row(letters, Err(failed));
-        }
-    }
-    Ok(())
+    each_number!(letters in 0..70_usize => expect_long_len(rt.alloc(), letters))
 }
 
 /// Units, and the bytes of their string: Unicode 3.9, Table 3-6, and the three bytes of a lone surrogate.
@@ -179,13 +154,6 @@ fn are_parts_of_each_size(units: &[u16], bytes: &[u8]) -> bool {
 }
 
 #[test]
-fn parts_are_encoded(_rt: HostRuntime) -> Result<(), Failed> {
-    let mut row: usize = 0;
-    for (units, bytes) in &ENCODED {
-        if let Err(failed) = expect(are_parts_of_each_size(units, bytes), Wrong::Bytes) {
-            return in_row(row, Err(failed));
-        }
-        row = row.wrapping_add(1);
-    }
-    Ok(())
+fn parts_are_encoded(_rt: HostRuntime) -> Check {
+    each_row!((units, bytes) in ENCODED => expect(are_parts_of_each_size(units, bytes), Wrong::Bytes))
 }

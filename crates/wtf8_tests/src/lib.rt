@@ -20,6 +20,7 @@ mod hexadecimal;
 mod marks;
 #[cfg(test)]
 mod replaced_units;
+pub mod room;
 pub mod sinks;
 #[cfg(test)]
 mod unit_cuts;

@@ -1,22 +1,16 @@
 // Marks by positions and by units, what iterators have left, and the size hints of the iterator over units. Scripts compare
 // all steps of both iterators with the original crate.
 use crate::examples::TEXT;
-use crate::wrong::{Failed, Wrong, expect, expect_bytes, in_row};
-use std::alloc::{AllocError, Global};
+use crate::wrong::{
+    Check, Failed, Made, Wrong, assert_row, each_number, expect, expect_bytes, made,
+};
+use std::alloc::Global;
 use wtf8::{CodePoint, IllFormedUtf16CodeUnits, Wtf8, Wtf8Buf};
 
 /// For each byte position of `TEXT` the last boundary at or before it, and the number of units before that.
-static MARKS: [(usize, usize); 9] = [
-    (0, 0),
-    (1, 1),
-    (1, 1),
-    (3, 2),
-    (4, 3),
-    (4, 3),
-    (4, 3),
-    (4, 3),
-    (8, 5),
-];
+static BOUNDARIES: [usize; 9] = [0, 1, 1, 3, 4, 4, 4, 4, 8];
+
+static UNITS_BEFORE: [usize; 9] = [0, 1, 1, 2, 3, 3, 3, 3, 5];
 
 /// Whether the mark before a position, counted from the start or from another mark, is that of the row, and is found
 /// again by its number of units.
@@ -30,46 +24,32 @@ fn is_marked(text: Wtf8<'_>, position: usize, row: (usize, usize)) -> bool {
     (mark.position, mark.units) == row && again.position == mark.position
 }
 
-/// Fails unless each position of `TEXT` has the mark of its row.
-fn expect_marks(text: Wtf8<'_>) -> Result<(), Failed> {
-    let mut position = 0usize;
-    for row in &MARKS {
-        let is_right = is_marked(text, position, *row);
-        if let Err(failed) = expect(is_right, Wrong::Outcome) {
-            return in_row(position, Err(failed));
-        }
-        position = position.wrapping_add(1);
-    }
-    Ok(())
-}
-
 #[test]
-fn each_position_is_at_or_after_a_mark() -> Result<(), Failed> {
-    expect_marks(Wtf8::from_str(TEXT))
+fn each_position_is_at_or_after_a_mark() -> Check {
+    each_number!(position in 0..BOUNDARIES.len() => {
+        let row = (BOUNDARIES[position], UNITS_BEFORE[position]);
+        expect(is_marked(Wtf8::from_str(TEXT), position, row), Wrong::Outcome)
+    })
 }
 
 /// For each number of units of `TEXT` the mark for it. Four split the pair, so theirs is before it.
 static MARKS_OF_UNITS: [(usize, usize); 6] = [(0, 0), (1, 1), (3, 2), (4, 3), (4, 3), (8, 5)];
 
 /// Fails unless each mark for at most the units before `position` is found back from the mark there.
-fn expect_found_back(text: Wtf8<'_>, position: usize) -> Result<(), Failed> {
+fn expect_found_back(text: Wtf8<'_>, position: usize) -> Check {
     let from = text.mark_before(text.start_mark(), position.min(text.len()));
-    let mut units = 0usize;
-    for row in &MARKS_OF_UNITS {
+    for units in 0..MARKS_OF_UNITS.len() {
         if units <= from.units {
             let mark = text.mark_back(from, units);
-            let is_right = (mark.position, mark.units) == *row;
-            if let Err(failed) = expect(is_right, Wrong::Outcome) {
-                return in_row(units, Err(failed));
-            }
+            let is_right = (mark.position, mark.units) == MARKS_OF_UNITS[units];
+            assert_row!(units, expect(is_right, Wrong::Outcome));
         }
-        units = units.wrapping_add(1);
     }
     Ok(())
 }
 
 #[test]
-fn marks_are_found_back_from_later_ones() -> Result<(), Failed> {
+fn marks_are_found_back_from_later_ones() -> Check {
     for position in 0..9 {
         expect_found_back(Wtf8::from_str(TEXT), position)?;
     }
@@ -77,7 +57,7 @@ fn marks_are_found_back_from_later_ones() -> Result<(), Failed> {
 }
 
 /// Fails unless the view of an iterator has the bytes of `dump`, or there is none where `dump` is `None`.
-fn expect_left(alloc: Global, left: Option<Wtf8<'_>>, dump: Option<&str>) -> Result<(), Failed> {
+fn expect_left(alloc: Global, left: Option<Wtf8<'_>>, dump: Option<&str>) -> Check {
     match (left, dump) {
         (None, None) => Ok(()),
         (Some(left), Some(dump)) => expect_bytes(alloc, left, dump),
@@ -86,7 +66,7 @@ fn expect_left(alloc: Global, left: Option<Wtf8<'_>>, dump: Option<&str>) -> Res
 }
 
 /// Fails unless the iterator over code points has left what is after the two that it returned.
-fn expect_points_left(alloc: Global, text: Wtf8<'_>) -> Result<(), Failed> {
+fn expect_points_left(alloc: Global, text: Wtf8<'_>) -> Check {
     let mut points = text.code_points();
     points.next();
     points.next();
@@ -104,13 +84,11 @@ static LEFT: [Option<&str>; 6] = [
 ];
 
 /// Fails unless the iterator over units has left what is after the ones that it returned.
-fn expect_units_left(alloc: Global, text: Wtf8<'_>) -> Result<(), Failed> {
+fn expect_units_left(alloc: Global, text: Wtf8<'_>) -> Check {
     let mut units = text.to_ill_formed_utf16();
     let mut row = 0usize;
     for dump in &LEFT {
-        if let Err(failed) = expect_left(alloc, units.as_wtf8(), *dump) {
-            return in_row(row, Err(failed));
-        }
+        assert_row!(row, expect_left(alloc, units.as_wtf8(), *dump));
         row = row.wrapping_add(1);
         units.next();
     }
@@ -118,7 +96,7 @@ fn expect_units_left(alloc: Global, text: Wtf8<'_>) -> Result<(), Failed> {
 }
 
 #[test]
-fn iterators_show_what_they_have_left(rt: HostRuntime) -> Result<(), Failed> {
+fn iterators_show_what_they_have_left(rt: HostRuntime) -> Check {
     expect_points_left(rt.alloc(), Wtf8::from_str(TEXT))?;
     expect_units_left(rt.alloc(), Wtf8::from_str(TEXT))
 }
@@ -133,18 +111,12 @@ fn has_boundary_before(text: Wtf8<'_>, position: usize, boundary: usize) -> bool
 
 #[test]
 fn last_boundary_before_a_position(rt: HostRuntime) {
-    let text = Wtf8::from_str(TEXT);
-    for (position, boundary) in [
-        (0, 0),
-        (1, 1),
-        (2, 1),
-        (3, 3),
-        (4, 4),
-        (5, 4),
-        (7, 4),
-        (8, 8),
-    ] {
-        assert!(rt; has_boundary_before(text, position, boundary), "{position}");
+    for position in 0..BOUNDARIES.len() {
+        let boundary = BOUNDARIES[position];
+        assert!(rt;
+            has_boundary_before(Wtf8::from_str(TEXT), position, boundary),
+            "{position}"
+        );
     }
 }
 
@@ -163,10 +135,8 @@ fn has_next_surrogate(text: Wtf8<'_>, begin: usize, surrogate: Option<(u32, usiz
 }
 
 /// Whether the surrogates of the string of `SURROGATES_IN_TEXT` are found from each boundary on.
-fn has_next_surrogates(made: Result<Wtf8Buf<Global>, AllocError>) -> bool {
-    let Ok(buf) = made else {
-        return false;
-    };
+fn has_next_surrogates(made: Made<Wtf8Buf<Global>>) -> bool {
+    let buf = made!(made, false);
     for (begin, surrogate) in [
         (0, Some((0xDC00, 4))),
         (1, Some((0xDC00, 4))),
@@ -192,52 +162,40 @@ fn next_surrogate_after_a_position(rt: HostRuntime) {
     assert!(rt; has_next_surrogates(made), "a surrogate");
 }
 
-/// Whether a number is that of a code point of this encoded length.
-fn has_len(number: u32, len: usize) -> bool {
-    match CodePoint::from_u32(number) {
-        Some(point) => point.encoded_len() == len,
-        None => false,
+/// Whether these are numbers of code points of this encoded length.
+fn have_len(numbers: &[u32], len: usize) -> bool {
+    for number in numbers {
+        match CodePoint::from_u32(*number) {
+            Some(point) if point.encoded_len() == len => {}
+            _ => return false,
+        }
     }
+    true
 }
 
 #[test]
 fn encoded_lengths_are_those_of_table_3_6(rt: HostRuntime) {
-    for (number, len) in [
-        (0x00, 1),
-        (0x7F, 1),
-        (0x80, 2),
-        (0x7FF, 2),
-        (0x800, 3),
-        (0xD800, 3),
-        (0xFFFF, 3),
-        (0x10000, 4),
-        (0x10FFFF, 4),
-    ] {
-        assert!(rt; has_len(number, len), "{number}");
-    }
+    assert!(rt; have_len(&[0x00, 0x7F], 1));
+    assert!(rt; have_len(&[0x80, 0x7FF], 2));
+    assert!(rt; have_len(&[0x800, 0xD800, 0xFFFF], 3));
+    assert!(rt; have_len(&[0x10000, 0x10FFFF], 4));
 }
 
-/// Whether a number is that of a code point of this number of units.
-fn has_units(number: u32, units: usize) -> bool {
-    match CodePoint::from_u32(number) {
-        Some(point) => point.len_utf16() == units,
-        None => false,
+/// Whether these are numbers of code points of this number of units.
+fn have_units(numbers: &[u32], units: usize) -> bool {
+    for number in numbers {
+        match CodePoint::from_u32(*number) {
+            Some(point) if point.len_utf16() == units => {}
+            _ => return false,
+        }
     }
+    true
 }
 
 #[test]
 fn numbers_of_units_are_those_of_table_3_5(rt: HostRuntime) {
-    for (number, units) in [
-        (0x00, 1),
-        (0xD7FF, 1),
-        (0xD800, 1),
-        (0xDFFF, 1),
-        (0xFFFF, 1),
-        (0x10000, 2),
-        (0x10FFFF, 2),
-    ] {
-        assert!(rt; has_units(number, units), "{number}");
-    }
+    assert!(rt; have_units(&[0x00, 0xD7FF, 0xD800, 0xDFFF, 0xFFFF], 1));
+    assert!(rt; have_units(&[0x10000, 0x10FFFF], 2));
 }
 
 /// Whether the iterator yields `unit`, and has the size hint `hint` after it.

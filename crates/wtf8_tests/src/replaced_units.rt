@@ -1,7 +1,7 @@
 // Code units replaced in the middle of a string, by code units and by a string.
 use crate::examples::{LISTS, expect_units, long_list};
 use crate::unit_edits::{EDITS, Edit};
-use crate::wrong::{Failed, Wrong, expect, expect_bytes, in_row};
+use crate::wrong::{Check, Made, Wrong, each_number, each_row, expect, expect_bytes, made};
 use std::alloc::{AllocError, Allocator, Global};
 use wtf8::{Wtf8, Wtf8Buf};
 
@@ -10,7 +10,7 @@ pub fn replace<A: Allocator>(
     text: &mut Wtf8Buf<A>,
     (begin, end): (usize, usize),
     new: &[u16],
-) -> Result<(), AllocError> {
+) -> Made<()> {
     let view = text.as_wtf8();
     let last = view.mark_before(view.start_mark(), view.len());
     if end < begin || last.units < end {
@@ -26,7 +26,7 @@ fn replace_by_string<A: Allocator>(
     text: &mut Wtf8Buf<A>,
     (begin, end): (usize, usize),
     new: Wtf8<'_>,
-) -> Result<(), AllocError> {
+) -> Made<()> {
     let view = text.as_wtf8();
     if end < begin || view.unit_len() < end {
         return Err(AllocError);
@@ -42,10 +42,11 @@ fn replaced(
     units: &[u16],
     range: (usize, usize),
     new: &[u16],
-) -> Result<Wtf8Buf<Global>, AllocError> {
-    let Ok(mut text) = Wtf8Buf::from_ill_formed_utf16(alloc, units) else {
-        return Err(AllocError);
-    };
+) -> Made<Wtf8Buf<Global>> {
+    let mut text = made!(
+        Wtf8Buf::from_ill_formed_utf16(alloc, units),
+        Err(AllocError)
+    );
     replace(&mut text, range, new)?;
     Ok(text)
 }
@@ -56,10 +57,11 @@ fn replaced_by_view(
     units: &[u16],
     range: (usize, usize),
     new: Wtf8<'_>,
-) -> Result<Wtf8Buf<Global>, AllocError> {
-    let Ok(mut text) = Wtf8Buf::from_ill_formed_utf16(alloc, units) else {
-        return Err(AllocError);
-    };
+) -> Made<Wtf8Buf<Global>> {
+    let mut text = made!(
+        Wtf8Buf::from_ill_formed_utf16(alloc, units),
+        Err(AllocError)
+    );
     replace_by_string(&mut text, range, new)?;
     Ok(text)
 }
@@ -70,7 +72,7 @@ fn replaced_by_string(
     units: &[u16],
     range: (usize, usize),
     new: &[u16],
-) -> Result<Wtf8Buf<Global>, AllocError> {
+) -> Made<Wtf8Buf<Global>> {
     match Wtf8Buf::from_ill_formed_utf16(alloc, new) {
         Ok(new) => replaced_by_view(alloc, units, range, new.as_wtf8()),
         Err(_) => Err(AllocError),
@@ -80,48 +82,30 @@ fn replaced_by_string(
 /// Fails unless a string was made, and has the units and the bytes of the row after its edit.
 fn expect_edited(
     alloc: Global,
-    made: Result<Wtf8Buf<Global>, AllocError>,
-    edit: Edit,
-) -> Result<(), Failed> {
-    let Ok(text) = made else {
-        return Err(Failed::by(Wrong::Memory));
-    };
-    expect_units(alloc, text.as_wtf8(), edit.edited)?;
-    expect_bytes(alloc, text.as_wtf8(), edit.dump)
+    made: Made<Wtf8Buf<Global>>,
+    (edited, dump): (&[u16], &str),
+) -> Check {
+    let text = made!(made);
+    expect_units(alloc, text.as_wtf8(), edited)?;
+    expect_bytes(alloc, text.as_wtf8(), dump)
 }
 
-fn expect_edit(alloc: Global, edit: Edit) -> Result<(), Failed> {
-    let made = replaced(alloc, edit.units, (edit.begin, edit.end), edit.new);
-    expect_edited(alloc, made, edit)
+fn expect_edit(alloc: Global, ((units, range, new), edited): Edit) -> Check {
+    expect_edited(alloc, replaced(alloc, units, range, new), edited)
 }
 
 #[test]
-fn replaced_units_have_the_bytes_of_the_rows(rt: HostRuntime) -> Result<(), Failed> {
-    let mut row = 0usize;
-    for edit in &EDITS {
-        if let Err(failed) = expect_edit(rt.alloc(), *edit) {
-            return in_row(row, Err(failed));
-        }
-        row = row.wrapping_add(1);
-    }
-    Ok(())
+fn replaced_units_have_the_bytes_of_the_rows(rt: HostRuntime) -> Check {
+    each_row!(edit in EDITS => expect_edit(rt.alloc(), edit))
 }
 
-fn expect_edit_by_string(alloc: Global, edit: Edit) -> Result<(), Failed> {
-    let made = replaced_by_string(alloc, edit.units, (edit.begin, edit.end), edit.new);
-    expect_edited(alloc, made, edit)
+fn expect_edit_by_string(alloc: Global, ((units, range, new), edited): Edit) -> Check {
+    expect_edited(alloc, replaced_by_string(alloc, units, range, new), edited)
 }
 
 #[test]
-fn strings_in_place_of_units_have_the_bytes_of_the_rows(rt: HostRuntime) -> Result<(), Failed> {
-    let mut row = 0usize;
-    for edit in &EDITS {
-        if let Err(failed) = expect_edit_by_string(rt.alloc(), *edit) {
-            return in_row(row, Err(failed));
-        }
-        row = row.wrapping_add(1);
-    }
-    Ok(())
+fn strings_in_place_of_units_have_the_bytes_of_the_rows(rt: HostRuntime) -> Check {
+    each_row!(edit in EDITS => expect_edit_by_string(rt.alloc(), edit))
 }
 
 /// The units, with others in place of the ones from `begin` to before `end`.
@@ -130,36 +114,30 @@ fn spliced(
     units: &[u16],
     (begin, end): (usize, usize),
     new: &[u16],
-) -> Result<Vec<u16>, AllocError> {
-    let Ok(mut all) = Vec::from_slice(alloc, units.split_at(begin.min(units.len())).0) else {
-        return Err(AllocError);
-    };
+) -> Made<Vec<u16>> {
+    let mut all = made!(
+        Vec::from_slice(alloc, units.split_at(begin.min(units.len())).0),
+        Err(AllocError)
+    );
     all.extend_from_slice(new)?;
     all.extend_from_slice(units.split_at(end.min(units.len())).1)?;
     Ok(all)
 }
 
 /// Fails unless a string was made, and is equal to `whole`.
-fn expect_equal(
-    made: Result<Wtf8Buf<Global>, AllocError>,
-    whole: &Wtf8Buf<Global>,
-) -> Result<(), Failed> {
-    match made {
-        Ok(text) => expect(text == *whole, Wrong::Bytes),
-        Err(_) => Err(Failed::by(Wrong::Memory)),
-    }
+fn expect_equal(made: Made<Wtf8Buf<Global>>, whole: &Wtf8Buf<Global>) -> Check {
+    let text = made!(made);
+    expect(text == *whole, Wrong::Bytes)
 }
 
 /// Fails unless a string was made, has the code units `expected`, and is equal to `whole`.
 fn expect_whole(
     alloc: Global,
-    made: Result<Wtf8Buf<Global>, AllocError>,
+    made: Made<Wtf8Buf<Global>>,
     expected: &[u16],
     whole: &Wtf8Buf<Global>,
-) -> Result<(), Failed> {
-    let Ok(text) = made else {
-        return Err(Failed::by(Wrong::Memory));
-    };
+) -> Check {
+    let text = made!(made);
     expect_units(alloc, text.as_wtf8(), expected)?;
     expect(text == *whole, Wrong::Bytes)
 }
@@ -172,30 +150,21 @@ fn expect_replaced_as(
     range: (usize, usize),
     new: &[u16],
     expected: &[u16],
-) -> Result<(), Failed> {
-    let Ok(whole) = Wtf8Buf::from_ill_formed_utf16(alloc, expected) else {
-        return Err(Failed::by(Wrong::Memory));
-    };
+) -> Check {
+    let whole = made!(Wtf8Buf::from_ill_formed_utf16(alloc, expected));
     expect_whole(alloc, replaced(alloc, units, range, new), expected, &whole)?;
     expect_equal(replaced_by_string(alloc, units, range, new), &whole)
 }
 
 /// Fails unless the string of the units has all units, and the bytes of their string, after a replacement of the units from
 /// `begin` to before `end`.
-fn expect_replaced(
-    alloc: Global,
-    units: &[u16],
-    range: (usize, usize),
-    new: &[u16],
-) -> Result<(), Failed> {
-    match spliced(alloc, units, range, new) {
-        Ok(expected) => expect_replaced_as(alloc, units, range, new, &expected),
-        Err(_) => Err(Failed::by(Wrong::Memory)),
-    }
+fn expect_replaced(alloc: Global, units: &[u16], range: (usize, usize), new: &[u16]) -> Check {
+    let expected = made!(spliced(alloc, units, range, new));
+    expect_replaced_as(alloc, units, range, new, &expected)
 }
 
 /// Replaces each part of the units by each of the lists.
-fn expect_each_part(alloc: Global, units: &[u16]) -> Result<(), Failed> {
+fn expect_each_part(alloc: Global, units: &[u16]) -> Check {
     for begin in 0..=units.len() {
         for end in begin..=units.len() {
             for new in &LISTS {
@@ -207,19 +176,12 @@ fn expect_each_part(alloc: Global, units: &[u16]) -> Result<(), Failed> {
 }
 
 #[test]
-fn each_part_of_a_list_is_replaced(rt: HostRuntime) -> Result<(), Failed> {
-    let mut row = 0usize;
-    for units in &LISTS {
-        if let Err(failed) = expect_each_part(rt.alloc(), units) {
-            return in_row(row, Err(failed));
-        }
-        row = row.wrapping_add(1);
-    }
-    Ok(())
+fn each_part_of_a_list_is_replaced(rt: HostRuntime) -> Check {
+    each_row!(units in LISTS => expect_each_part(rt.alloc(), units))
 }
 
 /// Inserts units at each index, and removes the unit there and after it, of a string whose rest has more than a block.
-fn expect_moved(alloc: Global, units: &[u16]) -> Result<(), Failed> {
+fn expect_moved(alloc: Global, units: &[u16]) -> Check {
     for begin in 0..units.len() {
         expect_replaced(alloc, units, (begin, begin), &[0xDC00, 0x3042, 0xD800])?;
         expect_replaced(alloc, units, (begin, begin.wrapping_add(1)), &[])?;
@@ -228,23 +190,14 @@ fn expect_moved(alloc: Global, units: &[u16]) -> Result<(), Failed> {
 }
 
 /// Moves the end of a string of `letters` letters and other units, by few units and by many.
-fn expect_moves(alloc: Global, letters: usize) -> Result<(), Failed> {
-    let Ok(units) = long_list(alloc, letters) else {
-        return Err(Failed::by(Wrong::Memory));
-    };
-    let Ok(text) = long_list(alloc, 600) else {
-        return Err(Failed::by(Wrong::Memory));
-    };
+fn expect_moves(alloc: Global, letters: usize) -> Check {
+    let units = made!(long_list(alloc, letters));
+    let text = made!(long_list(alloc, 600));
     expect_moved(alloc, &units)?;
     expect_replaced(alloc, &units, (1, units.len()), &text)
 }
 
 #[test]
-fn bytes_after_replaced_units_move(rt: HostRuntime) -> Result<(), Failed> {
-    for letters in [50, 60, 130] {
-        if let Err(failed) = expect_moves(rt.alloc(), letters) {
-            return in_row(letters, Err(failed));
-        }
-    }
-    Ok(())
+fn bytes_after_replaced_units_move(rt: HostRuntime) -> Check {
+    each_number!(letters in [50, 60, 130] => expect_moves(rt.alloc(), letters))
 }

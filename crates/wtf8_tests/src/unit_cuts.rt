@@ -1,6 +1,6 @@
 // Truncation to every number of code units.
 use crate::examples::{JOINING, LISTS, expect_made, expect_units, long_list};
-use crate::wrong::{Failed, Wrong, in_row};
+use crate::wrong::{Check, Failed, Wrong, assert_row, each_number, made};
 use refusing::{Lent, REFUSALS, Refusal, Refusing};
 use std::alloc::{Allocator, Global};
 use wtf8::{Build, Wtf8Buf};
@@ -63,11 +63,9 @@ fn expect_cut(
     n: usize,
     cut: Cut,
     refusal: Refusal,
-) -> Result<(), Failed> {
+) -> Check {
     heap.grant(1_000);
-    let Ok(mut text) = Wtf8Buf::from_ill_formed_utf16(heap, units) else {
-        return Err(Failed::by(Wrong::Memory));
-    };
+    let mut text = made!(Wtf8Buf::from_ill_formed_utf16(heap, units));
     if !cuts_without_memory(heap, &mut text, units, n, cut, refusal) {
         return Err(Failed::by(Wrong::Outcome));
     }
@@ -75,7 +73,7 @@ fn expect_cut(
 }
 
 /// Fails unless truncation to `n` units is right.
-fn expect_cut_at(alloc: Global, heap: Lent<'_>, units: &[u16], n: usize) -> Result<(), Failed> {
+fn expect_cut_at(alloc: Global, heap: Lent<'_>, units: &[u16], n: usize) -> Check {
     for refusal in REFUSALS {
         for cut in [Cut::Apply, Cut::TruncateUnits, Cut::TruncateUnitsAt] {
             expect_cut(alloc, heap, units, n, cut, refusal)?;
@@ -85,7 +83,7 @@ fn expect_cut_at(alloc: Global, heap: Lent<'_>, units: &[u16], n: usize) -> Resu
 }
 
 /// Fails unless truncation to each number of units, up to two past the end, is right.
-fn expect_each_cut(alloc: Global, units: &[u16]) -> Result<(), Failed> {
+fn expect_each_cut(alloc: Global, units: &[u16]) -> Check {
     let heap = Refusing::new(alloc, 0);
     for n in 0..units.len().saturating_add(3) {
         expect_cut_at(alloc, &heap, units, n)?;
@@ -94,40 +92,28 @@ fn expect_each_cut(alloc: Global, units: &[u16]) -> Result<(), Failed> {
 }
 
 #[test]
-fn truncate_units_keeps_the_first_units_without_memory(rt: HostRuntime) -> Result<(), Failed> {
+fn truncate_units_keeps_the_first_units_without_memory(rt: HostRuntime) -> Check {
     let alloc = rt.alloc();
-    let mut row = 0usize;
-    for (units, _, dump) in &JOINING {
+    for row in 0..JOINING.len() {
+        let (units, _, dump) = JOINING[row];
         let made = Wtf8Buf::from_ill_formed_utf16(alloc, units);
-        if let Err(failed) = expect_made(alloc, made, dump) {
-            return in_row(row, Err(failed));
-        }
-        if let Err(failed) = expect_each_cut(alloc, units) {
-            return in_row(row, Err(failed));
-        }
-        row = row.wrapping_add(1);
+        assert_row!(row, expect_made(alloc, made, dump));
+        assert_row!(row, expect_each_cut(alloc, units));
     }
-    for units in &LISTS {
-        if let Err(failed) = expect_each_cut(alloc, units) {
-            return in_row(row, Err(failed));
-        }
-        row = row.wrapping_add(1);
+    for index in 0..LISTS.len() {
+        let row = JOINING.len().wrapping_add(index);
+        assert_row!(row, expect_each_cut(alloc, LISTS[index]));
     }
     Ok(())
 }
 
 #[test]
-fn truncate_units_is_right_near_block_edges(rt: HostRuntime) -> Result<(), Failed> {
+fn truncate_units_is_right_near_block_edges(rt: HostRuntime) -> Check {
     let alloc = rt.alloc();
-    for letters in 20..36 {
-        let Ok(units) = long_list(alloc, letters) else {
-            return in_row(letters, Err(Failed::by(Wrong::Memory)));
-        };
-        if let Err(failed) = expect_each_cut(alloc, &units) {
-            return in_row(letters, Err(failed));
-        }
-    }
-    Ok(())
+    each_number!(letters in 20..36 => {
+        let units = made!(long_list(alloc, letters));
+        expect_each_cut(alloc, &units)
+    })
 }
 
 /// Whether four of five truncations of "a" and a pair are refused: to more units than are left, and within a lead.
@@ -144,11 +130,9 @@ fn refuses_four(text: &mut Wtf8Buf<Global>) -> bool {
 }
 
 #[test]
-fn refused_truncations_are_counted(rt: HostRuntime) -> Result<(), Failed> {
+fn refused_truncations_are_counted(rt: HostRuntime) -> Check {
     let alloc = rt.alloc();
-    let Ok(mut text) = Wtf8Buf::from_str(alloc, "a💩") else {
-        return Err(Failed::by(Wrong::Memory));
-    };
+    let mut text = made!(Wtf8Buf::from_str(alloc, "a💩"));
     assert!(rt; refuses_four(&mut text));
     expect_units(alloc, text.as_wtf8(), &[0x61, 0xD83D, 0x62])
 }

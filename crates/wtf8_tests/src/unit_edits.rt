@@ -1,162 +1,101 @@
 //! Replacements of code units in the middle of a string. Python made the bytes, by its codecs of UTF-16 and UTF-8 that let
 //! surrogates pass.
 
-/// The units from index `begin` to before `end` are replaced by others.
-#[derive(Clone, Copy)]
-pub struct Edit {
-    pub units: &'static [u16],
-    pub begin: usize,
-    pub end: usize,
-    pub new: &'static [u16],
-    /// The units after it, and their bytes.
-    pub edited: &'static [u16],
-    pub dump: &'static str,
-}
+/// The units of a string, an index from which and one before which they are replaced, and the units in their place; then all
+/// units after it, and their bytes.
+pub type Edit = (
+    (&'static [u16], (usize, usize), &'static [u16]),
+    (&'static [u16], &'static str),
+);
 
 /// Pairs are cut, formed, formed again from two halves, and put back, at each end.
 pub static EDITS: [Edit; 18] = [
-    Edit {
-        units: &[0x0061, 0x0062, 0x0063],
-        begin: 1,
-        end: 2,
-        new: &[0x00E9, 0x3042],
-        edited: &[0x0061, 0x00E9, 0x3042, 0x0063],
-        dump: "61 C3 A9 E3 81 82 63",
-    },
-    Edit {
-        units: &[0x0061, 0xD83D, 0xDCA9, 0x0062],
-        begin: 2,
-        end: 2,
-        new: &[0x0063],
-        edited: &[0x0061, 0xD83D, 0x0063, 0xDCA9, 0x0062],
-        dump: "61 ED A0 BD 63 ED B2 A9 62",
-    },
-    Edit {
-        units: &[0x0061, 0xD83D, 0xDCA9, 0x0062],
-        begin: 2,
-        end: 2,
-        new: &[0xDC00],
-        edited: &[0x0061, 0xD83D, 0xDC00, 0xDCA9, 0x0062],
-        dump: "61 F0 9F 90 80 ED B2 A9 62",
-    },
-    Edit {
-        units: &[0x0061, 0xD83D, 0xDCA9, 0x0062],
-        begin: 2,
-        end: 2,
-        new: &[0xD800],
-        edited: &[0x0061, 0xD83D, 0xD800, 0xDCA9, 0x0062],
-        dump: "61 ED A0 BD F0 90 82 A9 62",
-    },
-    Edit {
-        units: &[0x0061, 0xD83D, 0xDCA9, 0x0062],
-        begin: 2,
-        end: 2,
-        new: &[0xDC00, 0xD800],
-        edited: &[0x0061, 0xD83D, 0xDC00, 0xD800, 0xDCA9, 0x0062],
-        dump: "61 F0 9F 90 80 F0 90 82 A9 62",
-    },
-    Edit {
-        units: &[0x0061, 0xD83D, 0xDCA9, 0x0062],
-        begin: 2,
-        end: 2,
-        new: &[],
-        edited: &[0x0061, 0xD83D, 0xDCA9, 0x0062],
-        dump: "61 F0 9F 92 A9 62",
-    },
-    Edit {
-        units: &[0x0061, 0xD83D, 0xDCA9, 0x0062],
-        begin: 1,
-        end: 2,
-        new: &[],
-        edited: &[0x0061, 0xDCA9, 0x0062],
-        dump: "61 ED B2 A9 62",
-    },
-    Edit {
-        units: &[0x0061, 0xD83D, 0xDCA9, 0x0062],
-        begin: 2,
-        end: 3,
-        new: &[],
-        edited: &[0x0061, 0xD83D, 0x0062],
-        dump: "61 ED A0 BD 62",
-    },
-    Edit {
-        units: &[0xD83D, 0x0061, 0x0062, 0xDCA9],
-        begin: 1,
-        end: 3,
-        new: &[],
-        edited: &[0xD83D, 0xDCA9],
-        dump: "F0 9F 92 A9",
-    },
-    Edit {
-        units: &[0xD83D, 0x0061, 0x0062, 0xDCA9],
-        begin: 1,
-        end: 3,
-        new: &[0xDC00, 0x007A, 0xD800],
-        edited: &[0xD83D, 0xDC00, 0x007A, 0xD800, 0xDCA9],
-        dump: "F0 9F 90 80 7A F0 90 82 A9",
-    },
-    Edit {
-        units: &[0xD83D, 0xDCA9, 0x0061, 0xD83E, 0xDD84],
-        begin: 1,
-        end: 4,
-        new: &[],
-        edited: &[0xD83D, 0xDD84],
-        dump: "F0 9F 96 84",
-    },
-    Edit {
-        units: &[0xD83D, 0xDCA9, 0x0061, 0xD83E, 0xDD84],
-        begin: 1,
-        end: 4,
-        new: &[0x0078],
-        edited: &[0xD83D, 0x0078, 0xDD84],
-        dump: "ED A0 BD 78 ED B6 84",
-    },
-    Edit {
-        units: &[0xD83D, 0xDCA9],
-        begin: 0,
-        end: 2,
-        new: &[0xDCA9, 0xD83D],
-        edited: &[0xDCA9, 0xD83D],
-        dump: "ED B2 A9 ED A0 BD",
-    },
-    Edit {
-        units: &[],
-        begin: 0,
-        end: 0,
-        new: &[0x0061],
-        edited: &[0x0061],
-        dump: "61",
-    },
-    Edit {
-        units: &[0x0061],
-        begin: 1,
-        end: 1,
-        new: &[0xD83D, 0xDCA9],
-        edited: &[0x0061, 0xD83D, 0xDCA9],
-        dump: "61 F0 9F 92 A9",
-    },
-    Edit {
-        units: &[0xDCA9],
-        begin: 0,
-        end: 0,
-        new: &[0xD83D],
-        edited: &[0xD83D, 0xDCA9],
-        dump: "F0 9F 92 A9",
-    },
-    Edit {
-        units: &[0xD83D],
-        begin: 1,
-        end: 1,
-        new: &[0xDCA9],
-        edited: &[0xD83D, 0xDCA9],
-        dump: "F0 9F 92 A9",
-    },
-    Edit {
-        units: &[0xD83D, 0xD83D, 0xDCA9, 0xDCA9],
-        begin: 1,
-        end: 3,
-        new: &[],
-        edited: &[0xD83D, 0xDCA9],
-        dump: "F0 9F 92 A9",
-    },
+    (
+        (&[0x61, 0x62, 0x63], (1, 2), &[0xE9, 0x3042]),
+        (&[0x61, 0xE9, 0x3042, 0x63], "61 C3 A9 E3 81 82 63"),
+    ),
+    (
+        (&[0x61, 0xD83D, 0xDCA9, 0x62], (2, 2), &[0x63]),
+        (
+            &[0x61, 0xD83D, 0x63, 0xDCA9, 0x62],
+            "61 ED A0 BD 63 ED B2 A9 62",
+        ),
+    ),
+    (
+        (&[0x61, 0xD83D, 0xDCA9, 0x62], (2, 2), &[0xDC00]),
+        (
+            &[0x61, 0xD83D, 0xDC00, 0xDCA9, 0x62],
+            "61 F0 9F 90 80 ED B2 A9 62",
+        ),
+    ),
+    (
+        (&[0x61, 0xD83D, 0xDCA9, 0x62], (2, 2), &[0xD800]),
+        (
+            &[0x61, 0xD83D, 0xD800, 0xDCA9, 0x62],
+            "61 ED A0 BD F0 90 82 A9 62",
+        ),
+    ),
+    (
+        (&[0x61, 0xD83D, 0xDCA9, 0x62], (2, 2), &[0xDC00, 0xD800]),
+        (
+            &[0x61, 0xD83D, 0xDC00, 0xD800, 0xDCA9, 0x62],
+            "61 F0 9F 90 80 F0 90 82 A9 62",
+        ),
+    ),
+    (
+        (&[0x61, 0xD83D, 0xDCA9, 0x62], (2, 2), &[]),
+        (&[0x61, 0xD83D, 0xDCA9, 0x62], "61 F0 9F 92 A9 62"),
+    ),
+    (
+        (&[0x61, 0xD83D, 0xDCA9, 0x62], (1, 2), &[]),
+        (&[0x61, 0xDCA9, 0x62], "61 ED B2 A9 62"),
+    ),
+    (
+        (&[0x61, 0xD83D, 0xDCA9, 0x62], (2, 3), &[]),
+        (&[0x61, 0xD83D, 0x62], "61 ED A0 BD 62"),
+    ),
+    (
+        (&[0xD83D, 0x61, 0x62, 0xDCA9], (1, 3), &[]),
+        (&[0xD83D, 0xDCA9], "F0 9F 92 A9"),
+    ),
+    (
+        (
+            &[0xD83D, 0x61, 0x62, 0xDCA9],
+            (1, 3),
+            &[0xDC00, 0x7A, 0xD800],
+        ),
+        (
+            &[0xD83D, 0xDC00, 0x7A, 0xD800, 0xDCA9],
+            "F0 9F 90 80 7A F0 90 82 A9",
+        ),
+    ),
+    (
+        (&[0xD83D, 0xDCA9, 0x61, 0xD83E, 0xDD84], (1, 4), &[]),
+        (&[0xD83D, 0xDD84], "F0 9F 96 84"),
+    ),
+    (
+        (&[0xD83D, 0xDCA9, 0x61, 0xD83E, 0xDD84], (1, 4), &[0x78]),
+        (&[0xD83D, 0x78, 0xDD84], "ED A0 BD 78 ED B6 84"),
+    ),
+    (
+        (&[0xD83D, 0xDCA9], (0, 2), &[0xDCA9, 0xD83D]),
+        (&[0xDCA9, 0xD83D], "ED B2 A9 ED A0 BD"),
+    ),
+    ((&[], (0, 0), &[0x61]), (&[0x61], "61")),
+    (
+        (&[0x61], (1, 1), &[0xD83D, 0xDCA9]),
+        (&[0x61, 0xD83D, 0xDCA9], "61 F0 9F 92 A9"),
+    ),
+    (
+        (&[0xDCA9], (0, 0), &[0xD83D]),
+        (&[0xD83D, 0xDCA9], "F0 9F 92 A9"),
+    ),
+    (
+        (&[0xD83D], (1, 1), &[0xDCA9]),
+        (&[0xD83D, 0xDCA9], "F0 9F 92 A9"),
+    ),
+    (
+        (&[0xD83D, 0xD83D, 0xDCA9, 0xDCA9], (1, 3), &[]),
+        (&[0xD83D, 0xDCA9], "F0 9F 92 A9"),
+    ),
 ];

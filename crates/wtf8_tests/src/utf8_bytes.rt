@@ -1,13 +1,14 @@
 // Strings of bytes that are UTF-8, what is said of bytes that are not, and bytes read with U+FFFD for each part that is
 // not. What is wrong is as CPython's decoder says.
 use crate::sinks::Sink;
-use crate::wrong::{Failed, Wrong, expect, in_row};
+use crate::wrong::{Check, Wrong, each_row, expect, made};
 use std::alloc::Global;
 use std::fmt::Write;
 use wtf8::{CodePoint, TextError, Utf8Error, Wtf8, Wtf8Buf, from_utf8};
 
 /// Bytes, how many at their front are UTF-8, and how many after these are wrong together. The `Display` output of the
 /// error is that of Rust's `str::Utf8Error`.
+#[derive(Clone, Copy)]
 struct NoText {
     bytes: &'static [u8],
     valid: usize,
@@ -94,7 +95,7 @@ fn made_of(alloc: Global, bytes: &[u8]) -> Result<(), TextError> {
     }
 }
 
-fn expect_told(alloc: Global, row: &NoText) -> Result<(), Failed> {
+fn expect_told(alloc: Global, row: &NoText) -> Check {
     let mut text = Wtf8Buf::new(alloc);
     expect(is_found(alloc, row), Wrong::Outcome)?;
     expect(is_told(made_of(alloc, row.bytes), row), Wrong::Outcome)?;
@@ -141,9 +142,7 @@ fn equals_surrogate(alloc: Global) -> bool {
 
 /// Whether a string of the text, followed by it once more, is the text twice.
 fn is_made_and_pushed(alloc: Global) -> bool {
-    let Ok(mut text) = Wtf8Buf::from_utf8(alloc, TEXT.as_bytes()) else {
-        return false;
-    };
+    let mut text = made!(Wtf8Buf::from_utf8(alloc, TEXT.as_bytes()), false);
     text.push_utf8(TEXT.as_bytes()).is_ok() && is_text_twice(text.as_wtf8())
 }
 
@@ -156,19 +155,12 @@ fn has_bytes_of_text(alloc: Global) -> bool {
 }
 
 /// Fails unless each call says of the bytes of `NO_TEXTS` what their row says.
-fn expect_all_told(alloc: Global) -> Result<(), Failed> {
-    let mut index = 0usize;
-    for row in &NO_TEXTS {
-        if let Err(failed) = expect_told(alloc, row) {
-            return in_row(index, Err(failed));
-        }
-        index = index.wrapping_add(1);
-    }
-    Ok(())
+fn expect_all_told(alloc: Global) -> Check {
+    each_row!(row in NO_TEXTS => expect_told(alloc, &row))
 }
 
 #[test]
-fn bytes_of_utf8_are_taken_and_others_told(rt: HostRuntime) -> Result<(), Failed> {
+fn bytes_of_utf8_are_taken_and_others_told(rt: HostRuntime) -> Check {
     expect(is_made_and_pushed(rt.alloc()), Wrong::Bytes)?;
     expect(has_bytes_of_text(rt.alloc()), Wrong::Outcome)?;
     expect_all_told(rt.alloc())
@@ -176,116 +168,86 @@ fn bytes_of_utf8_are_taken_and_others_told(rt: HostRuntime) -> Result<(), Failed
 
 /// Bytes, their text as CPython's `bytes.decode` gives it with `errors="replace"`, the number of bytes before an unfinished code point at the end, and the text
 /// of these bytes. CPython's incremental decoder keeps the bytes from `used` on.
-struct Row {
-    bytes: &'static [u8],
-    text: &'static str,
-    used: usize,
-    part: &'static str,
-}
+type Row = (&'static [u8], &'static str, usize, &'static str);
 
 static ROWS: [Row; 17] = [
-    Row {
-        bytes: b"",
-        text: "",
-        used: 0,
-        part: "",
-    },
-    Row {
-        bytes: b"abc",
-        text: "abc",
-        used: 3,
-        part: "abc",
-    },
-    Row {
-        bytes: b"caf\xC3\xA9 \xE8\x8C\xB6 \xF0\x9F\x92\xA9",
-        text: "café 茶 💩",
-        used: 14,
-        part: "café 茶 💩",
-    },
-    Row {
-        bytes: b"\xFF",
-        text: "\u{FFFD}",
-        used: 1,
-        part: "\u{FFFD}",
-    },
-    Row {
-        bytes: b"ab\xC3",
-        text: "ab\u{FFFD}",
-        used: 2,
-        part: "ab",
-    },
-    Row {
-        bytes: b"\xE4\xB8\xAD\xF0\x9F\x92a",
-        text: "中\u{FFFD}a",
-        used: 7,
-        part: "中\u{FFFD}a",
-    },
-    Row {
-        bytes: b"a\xED\xA0\x80b",
-        text: "a\u{FFFD}\u{FFFD}\u{FFFD}b",
-        used: 5,
-        part: "a\u{FFFD}\u{FFFD}\u{FFFD}b",
-    },
-    Row {
-        bytes: b"\xF0\x80\x80\x80",
-        text: "\u{FFFD}\u{FFFD}\u{FFFD}\u{FFFD}",
-        used: 4,
-        part: "\u{FFFD}\u{FFFD}\u{FFFD}\u{FFFD}",
-    },
-    Row {
-        bytes: b"\xC3\xC3\xA9\x80",
-        text: "\u{FFFD}é\u{FFFD}",
-        used: 4,
-        part: "\u{FFFD}é\u{FFFD}",
-    },
-    Row {
-        bytes: b"\xF4\x90\x80\xE8\x8C",
-        text: "\u{FFFD}\u{FFFD}\u{FFFD}\u{FFFD}",
-        used: 3,
-        part: "\u{FFFD}\u{FFFD}\u{FFFD}",
-    },
-    Row {
-        bytes: b"\xF0\x9F\x92\xF0\x9F\x92\xA9\xF0\x9F",
-        text: "\u{FFFD}💩\u{FFFD}",
-        used: 7,
-        part: "\u{FFFD}💩",
-    },
-    Row {
-        bytes: b"The quick brown fox jumps over the lazy dog, and over the fence \xFF and away \xE2\x80\x99\xE2\x80",
-        text: "The quick brown fox jumps over the lazy dog, and over the fence \u{FFFD} and away ’\u{FFFD}",
-        used: 78,
-        part: "The quick brown fox jumps over the lazy dog, and over the fence \u{FFFD} and away ’",
-    },
-    Row {
-        bytes: b"\xE8\x8C\xB6\xE8\x8C\xB6\xE8\x8C\xB6\xE8\x8C\xB6\xE8\x8C\xB6\xE8\x8C\xB6\xE8\x8C\xB6\xE8\x8C\xB6\xE8\x8C\xB6\xE8\x8C\xB6\xE8\x8C\xB6\xE8\x8C\xB6\xE8\x8C\xB6\xE8\x8C\xE8\x8C\xB6\xE8\x8C\xB6\xE8\x8C\xB6\xF0\x9F\x92",
-        text: "茶茶茶茶茶茶茶茶茶茶茶茶茶\u{FFFD}茶茶茶\u{FFFD}",
-        used: 50,
-        part: "茶茶茶茶茶茶茶茶茶茶茶茶茶\u{FFFD}茶茶茶",
-    },
-    Row {
-        bytes: b"\x80\xBF\xC0\xAF\xE0\x80\xAF\xF5\xFE",
-        text: "\u{FFFD}\u{FFFD}\u{FFFD}\u{FFFD}\u{FFFD}\u{FFFD}\u{FFFD}\u{FFFD}\u{FFFD}",
-        used: 9,
-        part: "\u{FFFD}\u{FFFD}\u{FFFD}\u{FFFD}\u{FFFD}\u{FFFD}\u{FFFD}\u{FFFD}\u{FFFD}",
-    },
-    Row {
-        bytes: b"\xE2\x82\xE2\x82\xACX\xE0\xA0",
-        text: "\u{FFFD}€X\u{FFFD}",
-        used: 6,
-        part: "\u{FFFD}€X",
-    },
-    Row {
-        bytes: b"ab\xFFcd\xFF\xE8\x8C\xFFe\xF0\x9F\x92\xFFfghijklm\xC3\xA9\xE8\x8C\xB6\xFFnopq\xE8\x8C\xB6\xF0\x9F\x92\xA9\xFFr\xE2\x80\x99\xF0\x9F\x92",
-        text: "ab\u{FFFD}cd\u{FFFD}\u{FFFD}\u{FFFD}e\u{FFFD}\u{FFFD}fghijklmé茶\u{FFFD}nopq茶💩\u{FFFD}r’\u{FFFD}",
-        used: 44,
-        part: "ab\u{FFFD}cd\u{FFFD}\u{FFFD}\u{FFFD}e\u{FFFD}\u{FFFD}fghijklmé茶\u{FFFD}nopq茶💩\u{FFFD}r’",
-    },
-    Row {
-        bytes: b"\xFF\xE8\x8C\xB6\xE8\x8C\xB6\xE8\x8C\xB6\xE8\x8C\xB6\xE8\x8C\xB6\xE8\x8C\xB6\xFF\xFF\xED\xA0\x80\xF4\x90\xE0\x80ab\xC0\xAF\xC3\xA9cdef\xE8\x8C",
-        text: "\u{FFFD}茶茶茶茶茶茶\u{FFFD}\u{FFFD}\u{FFFD}\u{FFFD}\u{FFFD}\u{FFFD}\u{FFFD}\u{FFFD}\u{FFFD}ab\u{FFFD}\u{FFFD}écdef\u{FFFD}",
-        used: 38,
-        part: "\u{FFFD}茶茶茶茶茶茶\u{FFFD}\u{FFFD}\u{FFFD}\u{FFFD}\u{FFFD}\u{FFFD}\u{FFFD}\u{FFFD}\u{FFFD}ab\u{FFFD}\u{FFFD}écdef",
-    },
+    (b"", "", 0, ""),
+    (b"abc", "abc", 3, "abc"),
+    (
+        b"caf\xC3\xA9 \xE8\x8C\xB6 \xF0\x9F\x92\xA9",
+        "café 茶 💩",
+        14,
+        "café 茶 💩",
+    ),
+    (b"\xFF", "\u{FFFD}", 1, "\u{FFFD}"),
+    (b"ab\xC3", "ab\u{FFFD}", 2, "ab"),
+    (b"\xE4\xB8\xAD\xF0\x9F\x92a", "中\u{FFFD}a", 7, "中\u{FFFD}a"),
+    (
+        b"a\xED\xA0\x80b",
+        "a\u{FFFD}\u{FFFD}\u{FFFD}b",
+        5,
+        "a\u{FFFD}\u{FFFD}\u{FFFD}b",
+    ),
+    (
+        b"\xF0\x80\x80\x80",
+        "\u{FFFD}\u{FFFD}\u{FFFD}\u{FFFD}",
+        4,
+        "\u{FFFD}\u{FFFD}\u{FFFD}\u{FFFD}",
+    ),
+    (
+        b"\xC3\xC3\xA9\x80",
+        "\u{FFFD}é\u{FFFD}",
+        4,
+        "\u{FFFD}é\u{FFFD}",
+    ),
+    (
+        b"\xF4\x90\x80\xE8\x8C",
+        "\u{FFFD}\u{FFFD}\u{FFFD}\u{FFFD}",
+        3,
+        "\u{FFFD}\u{FFFD}\u{FFFD}",
+    ),
+    (
+        b"\xF0\x9F\x92\xF0\x9F\x92\xA9\xF0\x9F",
+        "\u{FFFD}💩\u{FFFD}",
+        7,
+        "\u{FFFD}💩",
+    ),
+    (
+        b"The quick brown fox jumps over the lazy dog, and over the fence \xFF and away \xE2\x80\x99\xE2\x80",
+        "The quick brown fox jumps over the lazy dog, and over the fence \u{FFFD} and away ’\u{FFFD}",
+        78,
+        "The quick brown fox jumps over the lazy dog, and over the fence \u{FFFD} and away ’",
+    ),
+    (
+        b"\xE8\x8C\xB6\xE8\x8C\xB6\xE8\x8C\xB6\xE8\x8C\xB6\xE8\x8C\xB6\xE8\x8C\xB6\xE8\x8C\xB6\xE8\x8C\xB6\xE8\x8C\xB6\xE8\x8C\xB6\xE8\x8C\xB6\xE8\x8C\xB6\xE8\x8C\xB6\xE8\x8C\xE8\x8C\xB6\xE8\x8C\xB6\xE8\x8C\xB6\xF0\x9F\x92",
+        "茶茶茶茶茶茶茶茶茶茶茶茶茶\u{FFFD}茶茶茶\u{FFFD}",
+        50,
+        "茶茶茶茶茶茶茶茶茶茶茶茶茶\u{FFFD}茶茶茶",
+    ),
+    (
+        b"\x80\xBF\xC0\xAF\xE0\x80\xAF\xF5\xFE",
+        "\u{FFFD}\u{FFFD}\u{FFFD}\u{FFFD}\u{FFFD}\u{FFFD}\u{FFFD}\u{FFFD}\u{FFFD}",
+        9,
+        "\u{FFFD}\u{FFFD}\u{FFFD}\u{FFFD}\u{FFFD}\u{FFFD}\u{FFFD}\u{FFFD}\u{FFFD}",
+    ),
+    (
+        b"\xE2\x82\xE2\x82\xACX\xE0\xA0",
+        "\u{FFFD}€X\u{FFFD}",
+        6,
+        "\u{FFFD}€X",
+    ),
+    (
+        b"ab\xFFcd\xFF\xE8\x8C\xFFe\xF0\x9F\x92\xFFfghijklm\xC3\xA9\xE8\x8C\xB6\xFFnopq\xE8\x8C\xB6\xF0\x9F\x92\xA9\xFFr\xE2\x80\x99\xF0\x9F\x92",
+        "ab\u{FFFD}cd\u{FFFD}\u{FFFD}\u{FFFD}e\u{FFFD}\u{FFFD}fghijklmé茶\u{FFFD}nopq茶💩\u{FFFD}r’\u{FFFD}",
+        44,
+        "ab\u{FFFD}cd\u{FFFD}\u{FFFD}\u{FFFD}e\u{FFFD}\u{FFFD}fghijklmé茶\u{FFFD}nopq茶💩\u{FFFD}r’",
+    ),
+    (
+        b"\xFF\xE8\x8C\xB6\xE8\x8C\xB6\xE8\x8C\xB6\xE8\x8C\xB6\xE8\x8C\xB6\xE8\x8C\xB6\xFF\xFF\xED\xA0\x80\xF4\x90\xE0\x80ab\xC0\xAF\xC3\xA9cdef\xE8\x8C",
+        "\u{FFFD}茶茶茶茶茶茶\u{FFFD}\u{FFFD}\u{FFFD}\u{FFFD}\u{FFFD}\u{FFFD}\u{FFFD}\u{FFFD}\u{FFFD}ab\u{FFFD}\u{FFFD}écdef\u{FFFD}",
+        38,
+        "\u{FFFD}茶茶茶茶茶茶\u{FFFD}\u{FFFD}\u{FFFD}\u{FFFD}\u{FFFD}\u{FFFD}\u{FFFD}\u{FFFD}\u{FFFD}ab\u{FFFD}\u{FFFD}écdef",
+    ),
 ];
 
 fn is_text(text: &Wtf8Buf<Global>, expected: &str) -> bool {
@@ -296,44 +258,37 @@ fn is_text(text: &Wtf8Buf<Global>, expected: &str) -> bool {
 }
 
 /// Whether the bytes of a row are appended as their text.
-fn is_pushed(alloc: Global, row: &Row) -> bool {
+fn is_pushed(alloc: Global, &(bytes, decoded, ..): &Row) -> bool {
     let mut text = Wtf8Buf::new(alloc);
-    text.push_utf8_lossy(row.bytes).is_ok() && is_text(&text, row.text)
+    text.push_utf8_lossy(bytes).is_ok() && is_text(&text, decoded)
 }
 
 /// Whether all of a row's bytes but an unfinished code point are appended.
-fn is_part_pushed(alloc: Global, row: &Row) -> bool {
+fn is_part_pushed(alloc: Global, &(bytes, _, before, part): &Row) -> bool {
     let mut text = Wtf8Buf::new(alloc);
-    match text.push_utf8_lossy_part(row.bytes) {
-        Ok(used) => used == row.used && is_text(&text, row.part),
+    match text.push_utf8_lossy_part(bytes) {
+        Ok(used) => used == before && is_text(&text, part),
         Err(_) => false,
     }
 }
 
 /// Whether a lead before the bytes stays one.
-fn leaves_lead(alloc: Global, row: &Row) -> bool {
+fn leaves_lead(alloc: Global, &(bytes, decoded, ..): &Row) -> bool {
     let mut text = Wtf8Buf::new(alloc);
     let lead = CodePoint::from_unit(0xD83D);
     text.push(lead).is_ok()
-        && text.push_utf8_lossy(row.bytes).is_ok()
+        && text.push_utf8_lossy(bytes).is_ok()
         && text.as_wtf8().unit_at(0) == Some(0xD83D)
-        && text.len() == row.text.len().wrapping_add(3)
+        && text.len() == decoded.len().wrapping_add(3)
 }
 
-fn expect_read(alloc: Global, row: &Row) -> Result<(), Failed> {
+fn expect_read(alloc: Global, row: &Row) -> Check {
     expect(is_pushed(alloc, row), Wrong::Bytes)?;
     expect(is_part_pushed(alloc, row), Wrong::Bytes)?;
     expect(leaves_lead(alloc, row), Wrong::Units)
 }
 
 #[test]
-fn bytes_are_read_with_replacement(rt: HostRuntime) -> Result<(), Failed> {
-    let mut index = 0usize;
-    for row in &ROWS {
-        if let Err(failed) = expect_read(rt.alloc(), row) {
-            return in_row(index, Err(failed));
-        }
-        index = index.wrapping_add(1);
-    }
-    Ok(())
+fn bytes_are_read_with_replacement(rt: HostRuntime) -> Check {
+    each_row!(row in ROWS => expect_read(rt.alloc(), &row))
 }
