@@ -4,7 +4,7 @@ use std::alloc::{AllocError, Allocator, Global};
 use std::cell::Cell;
 use wtf8::{CodePoint, Wtf8, Wtf8Buf};
 use wtf8_tests::examples::{expect_units, joined};
-use wtf8_tests::wrong::{Failed, Wrong, expect, expect_bytes, in_row};
+use wtf8_tests::wrong::{Check, Failed, Made, Wrong, assert_row, expect, expect_bytes, made};
 
 /// Yields a code point `left` times, with size hints that the test chooses, of which the lower one may be wrong. Counts
 /// the items that are taken.
@@ -62,7 +62,7 @@ fn trails(left: u32, hint: usize, taken: &Cell<u32>) -> Hinted<'_> {
 }
 
 /// The unit D83D if `has_lead`, then `left` times DCA9.
-fn expected_units(alloc: Global, left: u32, has_lead: bool) -> Result<Vec<u16>, AllocError> {
+fn expected_units(alloc: Global, left: u32, has_lead: bool) -> Made<Vec<u16>> {
     let mut units = Vec::new(alloc);
     if has_lead {
         units.push(0xD83D)?;
@@ -80,21 +80,16 @@ fn expect_trails(
     left: u32,
     has_lead: bool,
     taken: &Cell<u32>,
-) -> Result<(), Failed> {
+) -> Check {
     if taken.take() != left {
         return Err(Failed::by(Wrong::Outcome));
     }
-    let Ok(expected) = expected_units(alloc, left, has_lead) else {
-        return Err(Failed::by(Wrong::Memory));
-    };
+    let expected = made!(expected_units(alloc, left, has_lead));
     expect_units(alloc, text, &expected)
 }
 
 /// Appends the items to a string.
-fn extended<A: Allocator + Drop>(
-    string: Wtf8Buf<A>,
-    items: Hinted<'_>,
-) -> Result<Wtf8Buf<A>, AllocError> {
+fn extended<A: Allocator + Drop>(string: Wtf8Buf<A>, items: Hinted<'_>) -> Made<Wtf8Buf<A>> {
     let mut text = string;
     text.extend(items)?;
     Ok(text)
@@ -106,7 +101,7 @@ fn collected<A: Allocator + Drop>(
     alloc: A,
     front: Option<&[u16]>,
     items: Hinted<'_>,
-) -> Result<Wtf8Buf<A>, AllocError> {
+) -> Made<Wtf8Buf<A>> {
     match front {
         None => Wtf8Buf::from_iter(alloc, items),
         Some(units) => extended(joined(alloc, units)?, items),
@@ -119,25 +114,20 @@ fn expect_collected(
     (left, hint): (u32, usize),
     has_lead: bool,
     taken: &Cell<u32>,
-) -> Result<(), Failed> {
+) -> Check {
     let lead: &[u16] = &[0xD83D];
     let front = if has_lead { Some(lead) } else { None };
-    let Ok(text) = collected(alloc, front, trails(left, hint, taken)) else {
-        return Err(Failed::by(Wrong::Memory));
-    };
+    let text = made!(collected(alloc, front, trails(left, hint, taken)));
     expect_trails(alloc, text.as_wtf8(), left, has_lead, taken)
 }
 
 #[test]
-fn a_lower_hint_may_be_false(rt: HostRuntime) -> Result<(), Failed> {
-    let alloc = rt.alloc();
+fn a_lower_hint_may_be_false(rt: HostRuntime) -> Check {
     let taken = Cell::new(0);
     let mut row = 0usize;
     for items in [(1000, 0), (2, 5), (0, 3)] {
         for has_lead in [false, true] {
-            if let Err(failed) = expect_collected(alloc, items, has_lead, &taken) {
-                return in_row(row, Err(failed));
-            }
+            assert_row!(row, expect_collected(rt.alloc(), items, has_lead, &taken));
         }
         row = row.wrapping_add(1);
     }
@@ -162,7 +152,7 @@ fn is_reserved<A: Allocator>(
 
 /// Fails unless room for the lower hint is reserved first: for 50 by the one request that is granted, and for 51 by the
 /// next one, whose refusal leaves the string empty before an item is taken.
-fn expect_reserved_first(alloc: Global, heap: Lent<'_>, taken: &Cell<u32>) -> Result<(), Failed> {
+fn expect_reserved_first(alloc: Global, heap: Lent<'_>, taken: &Cell<u32>) -> Check {
     let mut text = Wtf8Buf::new(heap);
     let is_right = is_reserved(heap, &mut text, (0, 50, true), 1, taken)
         && is_reserved(heap, &mut text, (1, 51, false), 2, taken);
@@ -173,7 +163,7 @@ fn expect_reserved_first(alloc: Global, heap: Lent<'_>, taken: &Cell<u32>) -> Re
 }
 
 #[test]
-fn room_for_the_lower_hint_is_reserved_first(rt: HostRuntime) -> Result<(), Failed> {
+fn room_for_the_lower_hint_is_reserved_first(rt: HostRuntime) -> Check {
     let alloc = rt.alloc();
     let taken = Cell::new(0);
     let heap = Refusing::new(alloc, 0);
@@ -184,66 +174,23 @@ fn room_for_the_lower_hint_is_reserved_first(rt: HostRuntime) -> Result<(), Fail
     Ok(())
 }
 
-/// `left` times U+DCA9 with a lower and an upper hint, and the number of requests that they make, and of the bytes in
+/// A number of code points U+DCA9, a lower and an upper hint, and the number of requests that they make, and of the bytes in
 /// them.
-#[derive(Clone, Copy)]
-struct Upper {
-    left: u32,
-    lower: usize,
-    upper: usize,
-    requests: u64,
-    bytes: usize,
-}
+type Upper = (u32, usize, usize, u64, usize);
 
 /// The requests are for the lower hint, then for at least eight bytes and twice the capacity each time.
 static UPPER_ROWS: [Upper; 6] = [
-    Upper {
-        left: 0,
-        lower: 0,
-        upper: 1000,
-        requests: 0,
-        bytes: 0,
-    },
-    Upper {
-        left: 1,
-        lower: 0,
-        upper: 1000,
-        requests: 1,
-        bytes: 8,
-    },
-    Upper {
-        left: 1,
-        lower: 1,
-        upper: 1000,
-        requests: 1,
-        bytes: 8,
-    },
-    Upper {
-        left: 10,
-        lower: 10,
-        upper: 100_000,
-        requests: 3,
-        bytes: 10 + 20 + 40,
-    },
-    Upper {
-        left: 10,
-        lower: 9,
-        upper: usize::MAX,
-        requests: 3,
-        bytes: 9 + 18 + 36,
-    },
-    Upper {
-        left: 10,
-        lower: 100,
-        upper: usize::MAX,
-        requests: 1,
-        bytes: 100,
-    },
+    (0, 0, 1000, 0, 0),
+    (1, 0, 1000, 1, 8),
+    (1, 1, 1000, 1, 8),
+    (10, 10, 100_000, 3, 10 + 20 + 40),
+    (10, 9, usize::MAX, 3, 9 + 18 + 36),
+    (10, 100, usize::MAX, 1, 100),
 ];
 
 /// The items of a row.
-fn items_of(row: Upper, taken: &Cell<u32>) -> Hinted<'_> {
-    items(row.left, row.lower, Some(row.upper), taken)
+fn items_of((n, lower, upper, ..): Upper, taken: &Cell<u32>) -> Hinted<'_> {
+    items(n, lower, Some(upper), taken)
 }
 
 /// The length in bytes of the string that `collected` makes of the items of a row.
@@ -252,42 +199,33 @@ fn len_of<A: Allocator + Drop>(
     front: Option<&[u16]>,
     row: Upper,
     taken: &Cell<u32>,
-) -> Result<usize, AllocError> {
-    let Ok(text) = collected(heap, front, items_of(row, taken)) else {
-        return Err(AllocError);
-    };
+) -> Made<usize> {
+    let text = made!(
+        collected(heap, front, items_of(row, taken)),
+        Err(AllocError)
+    );
     Ok(text.len())
 }
 
 /// Fails unless `from_iter` if `front` is `None`, or else `extend` of the string of these units, which are none, takes
 /// all items of the row, three bytes each, with its requests and bytes.
-fn expect_upper(
-    heap: Lent<'_>,
-    front: Option<&[u16]>,
-    row: Upper,
-    taken: &Cell<u32>,
-) -> Result<(), Failed> {
+fn expect_upper(heap: Lent<'_>, front: Option<&[u16]>, row: Upper, taken: &Cell<u32>) -> Check {
+    let (n, _, _, requests, bytes) = row;
     heap.grant(99);
     let len = len_of(heap, front, row, taken);
-    let are_taken = taken.take() == row.left && len == Ok(row.left as usize * 3);
-    let are_made = heap.requests() == row.requests && heap.bytes() == row.bytes;
+    let are_taken = taken.take() == n && len == Ok(n as usize * 3);
+    let are_made = heap.requests() == requests && heap.bytes() == bytes;
     expect(are_taken && are_made, Wrong::Requests)
 }
 
 #[test]
-fn no_room_is_reserved_for_the_upper_hint(rt: HostRuntime) -> Result<(), Failed> {
+fn no_room_is_reserved_for_the_upper_hint(rt: HostRuntime) -> Check {
     let taken = Cell::new(0);
     let heap = Refusing::new(rt.alloc(), 0);
-    let mut index = 0usize;
-    for row in &UPPER_ROWS {
-        let row = *row;
-        if let Err(failed) = expect_upper(&heap, None, row, &taken) {
-            return in_row(index, Err(failed));
-        }
-        if let Err(failed) = expect_upper(&heap, Some(&[]), row, &taken) {
-            return in_row(index, Err(failed));
-        }
-        index = index.wrapping_add(1);
+    for index in 0..UPPER_ROWS.len() {
+        let row = UPPER_ROWS[index];
+        assert_row!(index, expect_upper(&heap, None, row, &taken));
+        assert_row!(index, expect_upper(&heap, Some(&[]), row, &taken));
     }
     Ok(())
 }
@@ -300,10 +238,8 @@ fn are_refused(alloc: Global, text: &mut Wtf8Buf<Global>, taken: &Cell<u32>) -> 
 }
 
 /// Fails unless a lower hint of `usize::MAX` is refused before an item is taken, and leaves "a".
-fn expect_too_large(alloc: Global, taken: &Cell<u32>) -> Result<(), Failed> {
-    let Ok(mut text) = Wtf8Buf::from_str(alloc, "a") else {
-        return Err(Failed::by(Wrong::Memory));
-    };
+fn expect_too_large(alloc: Global, taken: &Cell<u32>) -> Check {
+    let mut text = made!(Wtf8Buf::from_str(alloc, "a"));
     let is_refused = are_refused(alloc, &mut text, taken) && taken.get() == 0;
     if !is_refused {
         return Err(Failed::by(Wrong::Outcome));
@@ -312,7 +248,7 @@ fn expect_too_large(alloc: Global, taken: &Cell<u32>) -> Result<(), Failed> {
 }
 
 #[test]
-fn no_item_is_taken_if_the_hint_is_too_large(rt: HostRuntime) -> Result<(), Failed> {
+fn no_item_is_taken_if_the_hint_is_too_large(rt: HostRuntime) -> Check {
     let taken = Cell::new(0);
     expect_too_large(rt.alloc(), &taken)
 }

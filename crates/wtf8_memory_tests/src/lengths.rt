@@ -3,25 +3,8 @@
 use crate::samples::{Call, Sample, expect_refused, sample_with, succeeds};
 use refusing::{Lent, Refusing};
 use std::alloc::{AllocError, Global};
-use wtf8_tests::wrong::{Failed, Wrong, in_row};
-
-/// Eight units that repeat in a string: of one kind alone, or mixed, without lone surrogates and with some.
-static KINDS: [[u16; 8]; 8] = [
-    [0x0061; 8],
-    [0x00E9; 8],
-    [0x3042; 8],
-    [0xD83D; 8],
-    [0xDCA9; 8],
-    [
-        0xD83D, 0xDCA9, 0xD83D, 0xDCA9, 0xD83D, 0xDCA9, 0xD83D, 0xDCA9,
-    ],
-    [
-        0x0061, 0x00E9, 0x3042, 0xD83D, 0xDCA9, 0x07FF, 0xE000, 0x0020,
-    ],
-    [
-        0x0061, 0x00E9, 0x3042, 0xD83D, 0xDCA9, 0xDCA9, 0x0020, 0xD83D,
-    ],
-];
+use wtf8_tests::room::{ABOUT_POWERS, KINDS, NO_ROOM, Room};
+use wtf8_tests::wrong::{Check, Failed, Made, Wrong, assert_row, made};
 
 /// The number of lengths that `length_at` has.
 const LENGTHS: usize = 305;
@@ -37,15 +20,8 @@ fn length_at(index: usize) -> usize {
     }
 }
 
-/// A unit, and lengths in units at which a string of it has about 4,096 or 65,536 bytes.
-static ABOUT_POWERS: [(u16, &[usize]); 3] = [
-    (0x0061, &[4095, 4096, 4097, 65_535, 65_536, 65_537]),
-    (0x00E9, &[2047, 2048, 2049, 32_767, 32_768, 32_769]),
-    (0x3042, &[1365, 1366, 21_845, 21_846]),
-];
-
 /// `length` units that repeat `kind`.
-fn units_of(alloc: Global, kind: &[u16; 8], length: usize) -> Result<Vec<u16>, AllocError> {
+fn units_of(alloc: Global, kind: &[u16; 8], length: usize) -> Made<Vec<u16>> {
     let mut units = Vec::new(alloc);
     for at in 0..length {
         units.push(kind[at % 8])?;
@@ -59,10 +35,8 @@ fn sample_of<'a>(
     heap: Lent<'a>,
     kind: &[u16; 8],
     length: usize,
-) -> Result<Sample<Lent<'a>>, AllocError> {
-    let Ok(units) = units_of(alloc, kind, length) else {
-        return Err(AllocError);
-    };
+) -> Made<Sample<Lent<'a>>> {
+    let units = made!(units_of(alloc, kind, length), Err(AllocError));
     heap.grant(u64::MAX);
     sample_with(alloc, heap, units)
 }
@@ -87,56 +61,6 @@ static CALLS: [Call; 18] = [
     Call::AppendUnits,
     Call::AppendUnitsTwice,
 ];
-
-/// A model of the memory of a growing string: its length and capacity in bytes, and the number of requests and of the
-/// bytes in them. It grows to the greatest of eight bytes, twice its capacity and what is needed.
-#[derive(Clone, Copy)]
-struct Room {
-    len: usize,
-    capacity: usize,
-    requests: u64,
-    bytes: usize,
-}
-
-const NO_ROOM: Room = Room {
-    len: 0,
-    capacity: 0,
-    requests: 0,
-    bytes: 0,
-};
-
-impl Room {
-    /// Reserves `additional` more bytes.
-    fn reserve(&mut self, additional: usize) {
-        let needed = self.len.saturating_add(additional);
-        if needed <= self.capacity {
-            return;
-        }
-        self.capacity = self.capacity.saturating_mul(2).max(needed).max(8);
-        self.requests = self.requests.wrapping_add(1);
-        self.bytes = self.bytes.wrapping_add(self.capacity);
-    }
-
-    /// Appends `count` bytes at once.
-    fn append(&mut self, count: usize) {
-        self.reserve(count);
-        self.len = self.len.wrapping_add(count);
-    }
-
-    /// Pushes units one by one after the unit `before`. A trail after a lead adds one byte to the lead's three.
-    fn push_each(&mut self, before: u16, units: &[u16]) {
-        let mut last = before;
-        for unit in units {
-            self.append(match *unit {
-                0..=0x7F => 1,
-                0x80..=0x7FF => 2,
-                0xDC00..=0xDFFF if 0xD800 <= last && last <= 0xDBFF => 1,
-                _ => 3,
-            });
-            last = *unit;
-        }
-    }
-}
 
 /// The memory of a string of `len` bytes, empty or with a lead at its end, to which the sample is appended as a view.
 fn room_with_view(len: usize, sample: &Sample<Lent<'_>>) -> Room {
@@ -266,93 +190,69 @@ fn expect_granted<'a>(
     Ok(requests)
 }
 
-/// Fails unless each call on a sample succeeds if all is granted, with the expected number of requests and of bytes.
-fn expect_calls<'a>(heap: Lent<'a>, sample: &Sample<Lent<'a>>) -> Result<(), Failed> {
+/// Fails unless each call on a sample succeeds if all is granted, with the expected number of requests and of bytes, and, if
+/// `is_refused`, fails at each request that is refused.
+fn expect_calls<'a>(heap: Lent<'a>, sample: &Sample<Lent<'a>>, is_refused: bool) -> Check {
     for call in &CALLS {
         let call = *call;
-        expect_granted(heap, call, sample)?;
+        let requests = expect_granted(heap, call, sample)?;
+        if is_refused {
+            expect_refused(heap, call, sample, requests)?;
+        }
     }
     Ok(())
 }
 
-/// Fails unless each call succeeds on `length` units that repeat `kind`, with the expected requests and bytes.
-fn expect_done(
+/// Fails unless `expect_calls` succeeds on `length` units that repeat `kind`.
+fn expect_length(
     alloc: Global,
     heap: Lent<'_>,
-    kind: &[u16; 8],
-    length: usize,
-) -> Result<(), Failed> {
-    let Ok(sample) = sample_of(alloc, heap, kind, length) else {
-        return Err(Failed::by(Wrong::Memory));
-    };
-    expect_calls(heap, &sample)
+    (kind, length): (&[u16; 8], usize),
+    is_refused: bool,
+) -> Check {
+    let sample = made!(sample_of(alloc, heap, kind, length));
+    expect_calls(heap, &sample, is_refused)
 }
 
 #[test]
-fn each_call_is_done_at_each_length(rt: HostRuntime) -> Result<(), Failed> {
+fn each_call_is_done_at_each_length(rt: HostRuntime) -> Check {
     let alloc = rt.alloc();
     let heap = Refusing::new(alloc, 0);
     for kind in &KINDS {
         for index in 0..LENGTHS {
             let length = length_at(index);
-            if let Err(failed) = expect_done(alloc, &heap, kind, length) {
-                return in_row(length, Err(failed));
-            }
+            assert_row!(length, expect_length(alloc, &heap, (kind, length), false));
         }
     }
     Ok(())
 }
 
 #[test]
-fn each_call_is_done_about_powers_of_two(rt: HostRuntime) -> Result<(), Failed> {
+fn each_call_is_done_about_powers_of_two(rt: HostRuntime) -> Check {
     let alloc = rt.alloc();
     let heap = Refusing::new(alloc, 0);
     for (unit, lengths) in &ABOUT_POWERS {
         for length in *lengths {
-            if let Err(failed) = expect_done(alloc, &heap, &[*unit; 8], *length) {
-                return in_row(*length, Err(failed));
-            }
+            assert_row!(
+                *length,
+                expect_length(alloc, &heap, (&[*unit; 8], *length), false)
+            );
         }
     }
     Ok(())
-}
-
-/// Fails unless each call on a sample fails at each request that is refused.
-fn expect_refusals<'a>(heap: Lent<'a>, sample: &Sample<Lent<'a>>) -> Result<(), Failed> {
-    for call in &CALLS {
-        let call = *call;
-        let requests = expect_granted(heap, call, sample)?;
-        expect_refused(heap, call, sample, requests)?;
-    }
-    Ok(())
-}
-
-/// Fails unless each call on `length` units that repeat `kind` fails at each request that is refused.
-fn expect_failures(
-    alloc: Global,
-    heap: Lent<'_>,
-    kind: &[u16; 8],
-    length: usize,
-) -> Result<(), Failed> {
-    let Ok(sample) = sample_of(alloc, heap, kind, length) else {
-        return Err(Failed::by(Wrong::Memory));
-    };
-    expect_refusals(heap, &sample)
 }
 
 /// The lengths in units at which each request is refused in turn.
 static REFUSED: [usize; 15] = [0, 1, 2, 3, 8, 15, 16, 17, 31, 32, 33, 64, 100, 300, 1000];
 
 #[test]
-fn each_call_fails_at_each_refusal(rt: HostRuntime) -> Result<(), Failed> {
+fn each_call_fails_at_each_refusal(rt: HostRuntime) -> Check {
     let alloc = rt.alloc();
     let heap = Refusing::new(alloc, 0);
     for kind in &KINDS {
         for length in &REFUSED {
             let length = *length;
-            if let Err(failed) = expect_failures(alloc, &heap, kind, length) {
-                return in_row(length, Err(failed));
-            }
+            assert_row!(length, expect_length(alloc, &heap, (kind, length), true));
         }
     }
     Ok(())

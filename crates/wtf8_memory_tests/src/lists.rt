@@ -4,52 +4,31 @@ use refusing::{Lent, REFUSALS, Refusal, Refusing};
 use std::alloc::{AllocError, Allocator, Global};
 use wtf8::{Build, CodePoint, Wtf8, Wtf8Buf};
 use wtf8_tests::examples::{expect_made, joined};
-use wtf8_tests::wrong::{Failed, Wrong, expect, expect_bytes, in_row};
+use wtf8_tests::wrong::{Check, Failed, Made, Wrong, assert_row, expect, expect_bytes, made};
 
 /// The string that the calls build, each made by the method of its name.
-fn folded(alloc: Global, calls: &[Build<'_>]) -> Result<Wtf8Buf<Global>, AllocError> {
+fn folded(alloc: Global, calls: &[Build<'_>]) -> Made<Wtf8Buf<Global>> {
     let mut text = Wtf8Buf::new(alloc);
     call_each(&mut text, calls)?;
     Ok(text)
 }
 
-/// With `granted` requests granted, a list stops at call `done`, of which `taken` code points are appended if it is an
-/// extension, and leaves the bytes of `dump`.
-#[derive(Clone, Copy)]
-struct Stop {
-    granted: u64,
-    done: usize,
-    taken: usize,
-    dump: &'static str,
-}
+/// A number of requests that are granted; the index of the call at which a list then stops, how many of its code points are
+/// appended if it is an extension, and the bytes that it leaves.
+type Stop = (u64, usize, usize, &'static str);
 
 /// `every_call` makes four requests for memory: for the first push, which grows to eight bytes, for the character, for
 /// the second code point of the extension, and for the reserved 30 bytes.
 static STOPS: [Stop; 4] = [
-    Stop {
-        granted: 0,
-        done: 0,
-        taken: 0,
-        dump: "",
-    },
-    Stop {
-        granted: 1,
-        done: 4,
-        taken: 0,
-        dump: "F0 9F 92 A9 62 C3 A9 20",
-    },
-    Stop {
-        granted: 2,
-        done: 5,
-        taken: 1,
-        dump: "F0 9F 92 A9 62 C3 A9 20 F0 9F 92 A9 E0 A0 80",
-    },
-    Stop {
-        granted: 3,
-        done: 6,
-        taken: 0,
-        dump: "F0 9F 92 A9 62 C3 A9 20 F0 9F 92 A9 E0 A0 80 E0 A0 80 E0 A0 80",
-    },
+    (0, 0, 0, ""),
+    (1, 4, 0, "F0 9F 92 A9 62 C3 A9 20"),
+    (2, 5, 1, "F0 9F 92 A9 62 C3 A9 20 F0 9F 92 A9 E0 A0 80"),
+    (
+        3,
+        6,
+        0,
+        "F0 9F 92 A9 62 C3 A9 20 F0 9F 92 A9 E0 A0 80 E0 A0 80 E0 A0 80",
+    ),
 ];
 
 /// Appends the first `taken` code points of the call, if it is an extension.
@@ -57,7 +36,7 @@ fn extend_by<A: Allocator>(
     text: &mut Wtf8Buf<A>,
     call: Option<&Build<'_>>,
     taken: usize,
-) -> Result<(), AllocError> {
+) -> Made<()> {
     match call {
         Some(Build::Extend(points)) => text.extend(points.iter().copied().take(taken)),
         _ => Ok(()),
@@ -66,11 +45,12 @@ fn extend_by<A: Allocator>(
 
 /// The string built by the calls before the refused one, made as methods, and, if that one is an extension, by the code
 /// points that it appended.
-fn before(alloc: Global, calls: &[Build<'_>], stop: Stop) -> Result<Wtf8Buf<Global>, AllocError> {
-    let Ok(mut text) = folded(alloc, calls.get(..stop.done).unwrap_or(calls)) else {
-        return Err(AllocError);
-    };
-    extend_by(&mut text, calls.get(stop.done), stop.taken)?;
+fn before(alloc: Global, calls: &[Build<'_>], (_, done, taken, _): Stop) -> Made<Wtf8Buf<Global>> {
+    let mut text = made!(
+        folded(alloc, calls.get(..done).unwrap_or(calls)),
+        Err(AllocError)
+    );
+    extend_by(&mut text, calls.get(done), taken)?;
     Ok(text)
 }
 
@@ -87,31 +67,25 @@ fn expect_stop(
     alloc: Global,
     heap: Lent<'_>,
     calls: &[Build<'_>],
-    stop: Stop,
+    (granted, done, _, dump): Stop,
     refusal: Refusal,
-) -> Result<(), Failed> {
-    heap.refuse_after(stop.granted, refusal);
+) -> Check {
+    heap.refuse_after(granted, refusal);
     let mut text = Wtf8Buf::new(heap);
-    let is_stopped = stops_at(&mut text, calls, stop.done);
-    let is_counted = heap.requests() == stop.granted.wrapping_add(1);
+    let is_stopped = stops_at(&mut text, calls, done);
+    let is_counted = heap.requests() == granted.wrapping_add(1);
     expect(is_stopped && is_counted, Wrong::Requests)?;
-    expect_bytes(alloc, text.as_wtf8(), stop.dump)
+    expect_bytes(alloc, text.as_wtf8(), dump)
 }
 
 /// Fails unless the list stops at each of its requests, refused for good or once, with the bytes of the calls before.
-fn expect_stops(alloc: Global, heap: Lent<'_>, calls: &[Build<'_>]) -> Result<(), Failed> {
-    let mut row = 0usize;
-    for stop in &STOPS {
-        let stop = *stop;
-        if let Err(failed) = expect_made(alloc, before(alloc, calls, stop), stop.dump) {
-            return in_row(row, Err(failed));
-        }
+fn expect_stops(alloc: Global, heap: Lent<'_>, calls: &[Build<'_>]) -> Check {
+    for row in 0..STOPS.len() {
+        let stop = STOPS[row];
+        assert_row!(row, expect_made(alloc, before(alloc, calls, stop), stop.3));
         for refusal in REFUSALS {
-            if let Err(failed) = expect_stop(alloc, heap, calls, stop, refusal) {
-                return in_row(row, Err(failed));
-            }
+            assert_row!(row, expect_stop(alloc, heap, calls, stop, refusal));
         }
-        row = row.wrapping_add(1);
     }
     Ok(())
 }
@@ -126,12 +100,7 @@ fn applies_all<A: Allocator>(text: &mut Wtf8Buf<A>, calls: &[Build<'_>], refused
 
 /// Fails unless the list makes four requests if all are granted, three of its truncations are refused, and it builds
 /// the bytes of `dump`.
-fn expect_applied(
-    alloc: Global,
-    heap: Lent<'_>,
-    calls: &[Build<'_>],
-    dump: &str,
-) -> Result<(), Failed> {
+fn expect_applied(alloc: Global, heap: Lent<'_>, calls: &[Build<'_>], dump: &str) -> Check {
     heap.grant(9);
     let mut text = Wtf8Buf::new(heap);
     let is_applied = applies_all(&mut text, calls, 3) && heap.grants_left() == 5;
@@ -161,7 +130,7 @@ fn every_call<'a>(joining: Wtf8<'a>, points: &'a [CodePoint]) -> [Build<'a>; 13]
 }
 
 /// Fails unless the list of `every_call` stops at each request that is refused, and is applied if all are granted.
-fn expect_every_call(alloc: Global, heap: Lent<'_>, joining: Wtf8<'_>) -> Result<(), Failed> {
+fn expect_every_call(alloc: Global, heap: Lent<'_>, joining: Wtf8<'_>) -> Check {
     let points = [CodePoint::from_unit(0x0800); 3];
     let calls = every_call(joining, &points);
     expect_stops(alloc, heap, &calls)?;
@@ -170,12 +139,10 @@ fn expect_every_call(alloc: Global, heap: Lent<'_>, joining: Wtf8<'_>) -> Result
 }
 
 #[test]
-fn a_list_of_every_call_stops_at_each_request(rt: HostRuntime) -> Result<(), Failed> {
+fn a_list_of_every_call_stops_at_each_request(rt: HostRuntime) -> Check {
     let alloc = rt.alloc();
     let heap = Refusing::new(alloc, 0);
-    let Ok(joining) = joined(alloc, &[0xDCA9, 0x62]) else {
-        return Err(Failed::by(Wrong::Memory));
-    };
+    let joining = made!(joined(alloc, &[0xDCA9, 0x62]));
     expect_every_call(alloc, &heap, joining.as_wtf8())
 }
 
@@ -195,7 +162,7 @@ fn expect_push_refused<A: Allocator>(
     alloc: Global,
     heap: Lent<'_>,
     text: &mut Wtf8Buf<A>,
-) -> Result<(), Failed> {
+) -> Check {
     for refusal in REFUSALS {
         if !stops_at_push(heap, text, refusal) {
             return Err(Failed::by(Wrong::Outcome));
@@ -206,15 +173,13 @@ fn expect_push_refused<A: Allocator>(
 }
 
 /// Fails unless a list stops at a refused push, on a string without spare capacity, and leaves that unchanged.
-fn expect_push_refused_where_full(alloc: Global, heap: Lent<'_>) -> Result<(), Failed> {
-    let Ok(mut text) = full(heap) else {
-        return Err(Failed::by(Wrong::Memory));
-    };
+fn expect_push_refused_where_full(alloc: Global, heap: Lent<'_>) -> Check {
+    let mut text = made!(full(heap));
     expect_push_refused(alloc, heap, &mut text)
 }
 
 #[test]
-fn a_list_stops_at_the_refused_push(rt: HostRuntime) -> Result<(), Failed> {
+fn a_list_stops_at_the_refused_push(rt: HostRuntime) -> Check {
     let alloc = rt.alloc();
     let heap = Refusing::new(alloc, 1);
     expect_push_refused_where_full(alloc, &heap)
@@ -232,16 +197,14 @@ fn keeps_part<A: Allocator>(text: &mut Wtf8Buf<A>, points: &[CodePoint]) -> bool
 }
 
 /// Fails unless an extension of a string of small capacity stops, with the code points appended that fit.
-fn expect_extension_stopped(heap: Lent<'_>) -> Result<(), Failed> {
-    let Ok(mut text) = Wtf8Buf::with_capacity(heap, 4) else {
-        return Err(Failed::by(Wrong::Memory));
-    };
+fn expect_extension_stopped(heap: Lent<'_>) -> Check {
+    let mut text = made!(Wtf8Buf::with_capacity(heap, 4));
     let points = [CodePoint::from_unit(0x0800); 4];
     expect(keeps_part(&mut text, &points), Wrong::Outcome)
 }
 
 #[test]
-fn a_stopped_extension_keeps_the_code_points_that_fit(rt: HostRuntime) -> Result<(), Failed> {
+fn a_stopped_extension_keeps_the_code_points_that_fit(rt: HostRuntime) -> Check {
     let heap = Refusing::new(rt.alloc(), 1);
     expect_extension_stopped(&heap)
 }

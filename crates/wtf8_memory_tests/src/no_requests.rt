@@ -2,11 +2,11 @@
 // all are left after them. The calls also succeed if every request is refused.
 use crate::shared::{Change, call_each, expect_step, expect_steps};
 use refusing::{Lent, Refusing};
-use std::alloc::{AllocError, Allocator, Global};
+use std::alloc::{Allocator, Global};
 use std::borrow::CowStr;
 use wtf8::{Build, CodePoint, Wtf8, Wtf8Buf};
 use wtf8_tests::examples::{TEXT, TEXT_DUMP, expect_made, pushed};
-use wtf8_tests::wrong::{Failed, Wrong, expect, expect_bytes, in_row};
+use wtf8_tests::wrong::{Check, Failed, Made, Wrong, assert_row, expect, expect_bytes, made};
 
 const LEAD: u16 = 0xD83D;
 
@@ -16,26 +16,18 @@ const TRAIL: u16 = 0xDCA9;
 const PAIR_DUMP: &str = "F0 9F 92 A9";
 
 /// The numbers of requests granted: none, or nine.
-static GRANTS: [u64; 2] = [0, 9];
-
-/// Fails if `outcome` did, or unless `grants` requests are still granted, so that none was made.
-fn expect_left(heap: Lent<'_>, grants: u64, outcome: Result<(), Failed>) -> Result<(), Failed> {
-    outcome?;
-    expect(heap.grants_left() == grants, Wrong::Requests)
-}
+const GRANTS: [u64; 2] = [0, 9];
 
 /// An empty string with a capacity of `room` bytes, after which `grants` requests are granted.
 fn with_room(heap: Lent<'_>, room: usize, grants: u64) -> Result<Wtf8Buf<Lent<'_>>, Failed> {
     heap.grant(1);
-    let Ok(text) = Wtf8Buf::with_capacity(heap, room) else {
-        return Err(Failed::by(Wrong::Memory));
-    };
+    let text = made!(Wtf8Buf::with_capacity(heap, room));
     heap.grant(grants);
     Ok(text)
 }
 
 /// Appends nothing, by each call that appends.
-fn append_nothing<A: Allocator>(text: &mut Wtf8Buf<A>) -> Result<(), AllocError> {
+fn append_nothing<A: Allocator>(text: &mut Wtf8Buf<A>) -> Made<()> {
     let calls = [
         Build::Reserve(0),
         Build::PushStr(""),
@@ -62,11 +54,9 @@ fn is_lossy_text_borrowed<A: Allocator + Drop>(heap: A, view: Wtf8<'_>, text: &s
 }
 
 /// Fails unless an empty string to which nothing is appended is empty, and so are its hex dump and lossy text.
-fn expect_nothing<A: Allocator + Drop + Copy>(alloc: Global, heap: A) -> Result<(), Failed> {
+fn expect_nothing<A: Allocator + Drop + Copy>(alloc: Global, heap: A) -> Check {
     let mut text = Wtf8Buf::new(heap);
-    let Ok(()) = append_nothing(&mut text) else {
-        return Err(Failed::by(Wrong::Memory));
-    };
+    made!(append_nothing(&mut text));
     let view = text.as_wtf8();
     expect_bytes(alloc, view, "")?;
     let has_no_texts = is_dump_empty(heap, view) && is_lossy_text_borrowed(heap, view, "");
@@ -74,55 +64,15 @@ fn expect_nothing<A: Allocator + Drop + Copy>(alloc: Global, heap: A) -> Result<
 }
 
 /// Fails unless each call that makes a string of nothing makes an empty one.
-fn expect_made_of_nothing<A: Allocator + Drop + Copy>(
-    alloc: Global,
-    heap: A,
-) -> Result<(), Failed> {
+fn expect_made_of_nothing<A: Allocator + Drop + Copy>(alloc: Global, heap: A) -> Check {
     expect_made(alloc, Wtf8Buf::with_capacity(heap, 0), "")?;
     expect_made(alloc, Wtf8Buf::from_str(heap, ""), "")?;
     expect_made(alloc, Wtf8Buf::from_ill_formed_utf16(heap, &[]), "")?;
     expect_made(alloc, Wtf8Buf::from_iter(heap, []), "")
 }
 
-/// What makes no request.
-#[derive(Clone, Copy)]
-enum Quiet {
-    /// Appending nothing, and texts of an empty string.
-    Nothing,
-    /// Making a string of nothing.
-    Made,
-    /// The lossy text of a text.
-    Borrowed,
-}
-
-/// Fails unless one of the three does what its check requires.
-fn expect_quiet(alloc: Global, heap: Lent<'_>, quiet: Quiet) -> Result<(), Failed> {
-    match quiet {
-        Quiet::Nothing => expect_nothing(alloc, heap),
-        Quiet::Made => expect_made_of_nothing(alloc, heap),
-        Quiet::Borrowed => expect(
-            is_lossy_text_borrowed(heap, Wtf8::from_str("a"), "a"),
-            Wrong::Outcome,
-        ),
-    }
-}
-
-#[test]
-fn nothing_and_borrowed_texts_make_no_request(rt: HostRuntime) -> Result<(), Failed> {
-    let alloc = rt.alloc();
-    let heap = Refusing::new(alloc, 0);
-    for grants in &GRANTS {
-        let grants = *grants;
-        heap.grant(grants);
-        for quiet in [Quiet::Nothing, Quiet::Made, Quiet::Borrowed] {
-            expect_left(&heap, grants, expect_quiet(alloc, &heap, quiet))?;
-        }
-    }
-    Ok(())
-}
-
 /// Fails unless two pushed surrogates become one code point, and it can be pushed again once the string is cleared.
-fn expect_pushed_pair<A: Allocator>(alloc: Global, text: &mut Wtf8Buf<A>) -> Result<(), Failed> {
+fn expect_pushed_pair<A: Allocator>(alloc: Global, text: &mut Wtf8Buf<A>) -> Check {
     let lead = Build::Push(CodePoint::from_unit(LEAD));
     let trail = Build::Push(CodePoint::from_unit(TRAIL));
     let rows = [
@@ -137,7 +87,7 @@ fn expect_pushed_pair<A: Allocator>(alloc: Global, text: &mut Wtf8Buf<A>) -> Res
 
 /// Fails unless a list that appends the two surrogates of a pair, by an extension each with an empty push between them,
 /// is applied with no truncation refused.
-fn expect_pair_list<A: Allocator>(alloc: Global, text: &mut Wtf8Buf<A>) -> Result<(), Failed> {
+fn expect_pair_list<A: Allocator>(alloc: Global, text: &mut Wtf8Buf<A>) -> Check {
     let lead = [CodePoint::from_unit(LEAD)];
     let trail = [CodePoint::from_unit(TRAIL)];
     let calls = [
@@ -151,44 +101,16 @@ fn expect_pair_list<A: Allocator>(alloc: Global, text: &mut Wtf8Buf<A>) -> Resul
 
 /// Fails unless a surrogate pair fits in a capacity of four bytes: pushed in halves and then as a character, or, if
 /// `is_list`, appended by a list.
-fn expect_room_for_pair(
-    alloc: Global,
-    heap: Lent<'_>,
-    grants: u64,
-    is_list: bool,
-) -> Result<(), Failed> {
-    let Ok(mut text) = with_room(heap, 4, grants) else {
-        return Err(Failed::by(Wrong::Memory));
-    };
+fn expect_room_for_pair(alloc: Global, heap: Lent<'_>, grants: u64, is_list: bool) -> Check {
+    let mut text = made!(with_room(heap, 4, grants));
     if is_list {
         return expect_pair_list(alloc, &mut text);
     }
     expect_pushed_pair(alloc, &mut text)
 }
 
-/// Fails unless the pair of `expect_room_for_pair` is appended without a request.
-fn expect_quiet_pair(alloc: Global, is_list: bool) -> Result<(), Failed> {
-    let heap = Refusing::new(alloc, 0);
-    for grants in &GRANTS {
-        let grants = *grants;
-        let outcome = expect_room_for_pair(alloc, &heap, grants, is_list);
-        expect_left(&heap, grants, outcome)?;
-    }
-    Ok(())
-}
-
-#[test]
-fn pushes_within_capacity_make_no_request(rt: HostRuntime) -> Result<(), Failed> {
-    expect_quiet_pair(rt.alloc(), false)
-}
-
-#[test]
-fn a_list_within_capacity_makes_no_request(rt: HostRuntime) -> Result<(), Failed> {
-    expect_quiet_pair(rt.alloc(), true)
-}
-
 /// Makes each call that appends; `trail`, which begins with a trail, is pushed after a lead.
-fn push_each<A: Allocator>(text: &mut Wtf8Buf<A>, trail: Wtf8<'_>) -> Result<(), AllocError> {
+fn push_each<A: Allocator>(text: &mut Wtf8Buf<A>, trail: Wtf8<'_>) -> Made<()> {
     let calls = [
         Build::PushStr(TEXT),
         Build::PushChar('a'),
@@ -205,10 +127,8 @@ fn expect_each_pushed<A: Allocator>(
     alloc: Global,
     text: &mut Wtf8Buf<A>,
     trail: Wtf8<'_>,
-) -> Result<(), Failed> {
-    let Ok(()) = push_each(text, trail) else {
-        return Err(Failed::by(Wrong::Memory));
-    };
+) -> Check {
+    made!(push_each(text, trail));
     expect_bytes(
         alloc,
         text.as_wtf8(),
@@ -244,14 +164,12 @@ fn expect_each_applied<A: Allocator>(
     alloc: Global,
     text: &mut Wtf8Buf<A>,
     piece: Wtf8<'_>,
-) -> Result<(), Failed> {
+) -> Check {
     let lead = [CodePoint::from_unit(LEAD)];
     let mut index = 0usize;
     for (call, is_done, dump) in applied_rows(&lead, piece) {
         let row = (Change::Apply(call), Some(is_done), dump);
-        if let Err(failed) = expect_step(alloc, text, row) {
-            return in_row(index, Err(failed));
-        }
+        assert_row!(index, expect_step(alloc, text, row));
         index = index.wrapping_add(1);
     }
     Ok(())
@@ -262,38 +180,25 @@ fn expect_each_applied<A: Allocator>(
 fn expect_room_for_piece(
     alloc: Global,
     heap: Lent<'_>,
+    grants: u64,
     piece: Wtf8<'_>,
     is_applied: bool,
-) -> Result<(), Failed> {
-    let Ok(mut text) = with_room(heap, 20, 9) else {
-        return Err(Failed::by(Wrong::Memory));
-    };
+) -> Check {
+    let mut text = made!(with_room(heap, 20, grants));
     if is_applied {
         return expect_each_applied(alloc, &mut text, piece);
     }
     expect_each_pushed(alloc, &mut text, piece)
 }
 
-/// Fails unless the calls of `expect_room_for_piece`, with a trail and "b" as the piece, make no request.
-fn expect_quiet_piece(alloc: Global, is_applied: bool) -> Result<(), Failed> {
+/// Fails unless the calls of `expect_room_for_piece` do what they must with a trail and "b" as the piece.
+fn expect_piece(alloc: Global, heap: Lent<'_>, grants: u64, is_applied: bool) -> Check {
     let piece = pushed(alloc, &[0xDCA9, 0x62])?;
-    let heap = Refusing::new(alloc, 0);
-    let outcome = expect_room_for_piece(alloc, &heap, piece.as_wtf8(), is_applied);
-    expect_left(&heap, 9, outcome)
-}
-
-#[test]
-fn each_call_within_capacity_makes_no_request(rt: HostRuntime) -> Result<(), Failed> {
-    expect_quiet_piece(rt.alloc(), false)
-}
-
-#[test]
-fn applied_calls_within_capacity_make_no_request(rt: HostRuntime) -> Result<(), Failed> {
-    expect_quiet_piece(rt.alloc(), true)
+    expect_room_for_piece(alloc, heap, grants, piece.as_wtf8(), is_applied)
 }
 
 /// Appends `TEXT`, and a lone lead surrogate if `has_lead`.
-fn push_text<A: Allocator>(text: &mut Wtf8Buf<A>, has_lead: bool) -> Result<(), AllocError> {
+fn push_text<A: Allocator>(text: &mut Wtf8Buf<A>, has_lead: bool) -> Made<()> {
     let lead = Build::Push(CodePoint::from_unit(0xD800));
     if has_lead {
         return call_each(text, &[Build::PushStr(TEXT), lead]);
@@ -303,12 +208,8 @@ fn push_text<A: Allocator>(text: &mut Wtf8Buf<A>, has_lead: bool) -> Result<(), 
 
 /// A string of `TEXT`, with a lone lead surrogate if `has_lead`, and `grants` requests granted after its allocation.
 fn text_of(heap: Lent<'_>, has_lead: bool, grants: u64) -> Result<Wtf8Buf<Lent<'_>>, Failed> {
-    let Ok(mut text) = with_room(heap, 11, grants) else {
-        return Err(Failed::by(Wrong::Memory));
-    };
-    let Ok(()) = push_text(&mut text, has_lead) else {
-        return Err(Failed::by(Wrong::Memory));
-    };
+    let mut text = made!(with_room(heap, 11, grants));
+    made!(push_text(&mut text, has_lead));
     Ok(text)
 }
 
@@ -326,13 +227,13 @@ fn expect_lossy<A: Allocator + Drop>(
     string: Wtf8Buf<A>,
     dump: &str,
     text: &str,
-) -> Result<(), Failed> {
+) -> Check {
     expect_bytes(alloc, string.as_wtf8(), dump)?;
     expect(string.into_string_lossy().as_str() == text, Wrong::Outcome)
 }
 
 /// Fails unless `owned` is `TEXT`, also as a string made of it and as that string's lossy text.
-fn expect_again<A: Allocator + Drop>(alloc: Global, owned: String<A>) -> Result<(), Failed> {
+fn expect_again<A: Allocator + Drop>(alloc: Global, owned: String<A>) -> Check {
     if owned.as_str() != TEXT {
         return Err(Failed::by(Wrong::Outcome));
     }
@@ -340,7 +241,7 @@ fn expect_again<A: Allocator + Drop>(alloc: Global, owned: String<A>) -> Result<
 }
 
 /// Fails unless `back` is `TEXT` and a lead surrogate, which is U+FFFD in the lossy text.
-fn expect_back<A: Allocator + Drop>(alloc: Global, back: Wtf8Buf<A>) -> Result<(), Failed> {
+fn expect_back<A: Allocator + Drop>(alloc: Global, back: Wtf8Buf<A>) -> Check {
     expect_lossy(
         alloc,
         back,
@@ -351,11 +252,7 @@ fn expect_back<A: Allocator + Drop>(alloc: Global, back: Wtf8Buf<A>) -> Result<(
 
 /// Fails unless `into_string` succeeds, and its text makes the string and the lossy text again; or, if `has_lead`,
 /// returns the string with its bytes.
-fn expect_converted<A: Allocator + Drop>(
-    alloc: Global,
-    text: Wtf8Buf<A>,
-    has_lead: bool,
-) -> Result<(), Failed> {
+fn expect_converted<A: Allocator + Drop>(alloc: Global, text: Wtf8Buf<A>, has_lead: bool) -> Check {
     let converted = text.into_string();
     if converted.is_err() != has_lead {
         return Err(Failed::by(Wrong::Outcome));
@@ -368,26 +265,85 @@ fn expect_converted<A: Allocator + Drop>(
 
 /// Fails unless the string of `TEXT` is borrowed as text, and converts to an owned text; or, with a lone lead surrogate
 /// if `has_lead`, has no text, and comes back from `into_string`.
-fn expect_text(alloc: Global, heap: Lent<'_>, has_lead: bool, grants: u64) -> Result<(), Failed> {
-    let Ok(text) = text_of(heap, has_lead, grants) else {
-        return Err(Failed::by(Wrong::Memory));
-    };
+fn expect_text(alloc: Global, heap: Lent<'_>, has_lead: bool, grants: u64) -> Check {
+    let text = made!(text_of(heap, has_lead, grants));
     if !has_texts(heap, text.as_wtf8(), has_lead) {
         return Err(Failed::by(Wrong::Outcome));
     }
     expect_converted(alloc, text, has_lead)
 }
 
-#[test]
-fn texts_of_a_string_make_no_request(rt: HostRuntime) -> Result<(), Failed> {
-    let alloc = rt.alloc();
+/// Calls that make no request.
+#[derive(Clone, Copy)]
+enum Quiet {
+    /// Appending nothing, and texts of an empty string.
+    Nothing,
+    /// Making a string of nothing.
+    Made,
+    /// The lossy text of a text.
+    Borrowed,
+    /// Those of `expect_room_for_pair`, by a list or not.
+    Pair(bool),
+    /// Those of `expect_piece`, applied or not.
+    Piece(bool),
+    /// Those of `expect_text`, with a lone lead or not.
+    Text(bool),
+}
+
+/// Fails unless the calls do what their check requires.
+fn expect_quiet(alloc: Global, heap: Lent<'_>, grants: u64, quiet: Quiet) -> Check {
+    match quiet {
+        Quiet::Nothing => expect_nothing(alloc, heap),
+        Quiet::Made => expect_made_of_nothing(alloc, heap),
+        Quiet::Borrowed => expect(
+            is_lossy_text_borrowed(heap, Wtf8::from_str("a"), "a"),
+            Wrong::Outcome,
+        ),
+        Quiet::Pair(is_list) => expect_room_for_pair(alloc, heap, grants, is_list),
+        Quiet::Piece(is_applied) => expect_piece(alloc, heap, grants, is_applied),
+        Quiet::Text(has_lead) => expect_text(alloc, heap, has_lead, grants),
+    }
+}
+
+/// Fails unless each of the calls does what its check requires, and all requests that were granted are left after it.
+fn expect_no_request(alloc: Global, calls: &[Quiet]) -> Check {
     let heap = Refusing::new(alloc, 0);
-    for grants in &GRANTS {
-        let grants = *grants;
-        for has_lead in [false, true] {
-            let outcome = expect_text(alloc, &heap, has_lead, grants);
-            expect_left(&heap, grants, outcome)?;
+    for grants in GRANTS {
+        for quiet in calls {
+            heap.grant(grants);
+            expect_quiet(alloc, &heap, grants, *quiet)?;
+            expect(heap.grants_left() == grants, Wrong::Requests)?;
         }
     }
     Ok(())
+}
+
+#[test]
+fn nothing_and_borrowed_texts_make_no_request(rt: HostRuntime) -> Check {
+    expect_no_request(rt.alloc(), &[Quiet::Nothing, Quiet::Made, Quiet::Borrowed])
+}
+
+#[test]
+fn pushes_within_capacity_make_no_request(rt: HostRuntime) -> Check {
+    expect_no_request(rt.alloc(), &[Quiet::Pair(false)])
+}
+
+#[test]
+fn a_list_within_capacity_makes_no_request(rt: HostRuntime) -> Check {
+    expect_no_request(rt.alloc(), &[Quiet::Pair(true)])
+}
+
+#[test]
+fn each_call_within_capacity_makes_no_request(rt: HostRuntime) -> Check {
+    expect_no_request(rt.alloc(), &[Quiet::Piece(false)])
+}
+
+#[test]
+fn applied_calls_within_capacity_make_no_request(rt: HostRuntime) -> Check {
+    expect_no_request(rt.alloc(), &[Quiet::Piece(true)])
+}
+
+#[test]
+fn texts_of_a_string_make_no_request(rt: HostRuntime) -> Check {
+    expect_no_request(rt.alloc(), &[Quiet::Text(false), Quiet::Text(true)])
 }

@@ -4,7 +4,7 @@ use refusing::{Lent, REFUSALS};
 use std::alloc::{AllocError, Allocator, Global};
 use wtf8::{Build, CodePoint, Wtf8, Wtf8Buf};
 use wtf8_tests::examples::points_of_units;
-use wtf8_tests::wrong::{Failed, Wrong, expect};
+use wtf8_tests::wrong::{Check, Made, Wrong, expect, made};
 
 /// A string with spare capacity, and the units and the code points that it is made of.
 #[derive(Drop)]
@@ -15,10 +15,8 @@ pub struct Sample<A: Allocator> {
 }
 
 /// The string of these units, with 64 more bytes reserved.
-fn text_of<A: Allocator + Drop>(heap: A, units: &[u16]) -> Result<Wtf8Buf<A>, AllocError> {
-    let Ok(mut text) = Wtf8Buf::from_ill_formed_utf16(heap, units) else {
-        return Err(AllocError);
-    };
+fn text_of<A: Allocator + Drop>(heap: A, units: &[u16]) -> Made<Wtf8Buf<A>> {
+    let mut text = made!(Wtf8Buf::from_ill_formed_utf16(heap, units), Err(AllocError));
     text.reserve(64)?;
     Ok(text)
 }
@@ -28,13 +26,9 @@ pub fn sample_with<A: Allocator + Drop>(
     alloc: Global,
     heap: A,
     units: Vec<u16>,
-) -> Result<Sample<A>, AllocError> {
-    let Ok(points) = points_of_units(alloc, &units) else {
-        return Err(AllocError);
-    };
-    let Ok(text) = text_of(heap, &units) else {
-        return Err(AllocError);
-    };
+) -> Made<Sample<A>> {
+    let points = made!(points_of_units(alloc, &units), Err(AllocError));
+    let text = made!(text_of(heap, &units), Err(AllocError));
     Ok(Sample {
         units,
         points,
@@ -68,7 +62,7 @@ pub enum Call {
 }
 
 /// Pushes code points one by one.
-fn push_each<A: Allocator>(text: &mut Wtf8Buf<A>, points: &[CodePoint]) -> Result<(), AllocError> {
+fn push_each<A: Allocator>(text: &mut Wtf8Buf<A>, points: &[CodePoint]) -> Made<()> {
     for point in points {
         text.push(*point)?;
     }
@@ -114,7 +108,7 @@ fn appends<A: Allocator>(text: &mut Wtf8Buf<A>, call: Call, sample: &Sample<A>) 
 }
 
 /// Appends the units of a view to a vector twice.
-fn append_twice<A: Allocator>(units: &mut Vec<u16, A>, view: Wtf8<'_>) -> Result<(), AllocError> {
+fn append_twice<A: Allocator>(units: &mut Vec<u16, A>, view: Wtf8<'_>) -> Made<()> {
     view.append_units(units)?;
     view.append_units(units)
 }
@@ -173,7 +167,7 @@ pub fn expect_refused<'a>(
     call: Call,
     sample: &Sample<Lent<'a>>,
     requests: u64,
-) -> Result<(), Failed> {
+) -> Check {
     for refusal in REFUSALS {
         for granted in 0..requests {
             heap.refuse_after(granted, refusal);

@@ -1,24 +1,20 @@
 // Strings and calls that several test modules use.
-use refusing::{Lent, Refusal};
-use std::alloc::{AllocError, Allocator, Global};
+use refusing::{Lent, REFUSALS, Refusal};
+use std::alloc::{Allocator, Global};
 use wtf8::{Build, CodePoint, UnitSlice, Wtf8Buf};
-use wtf8_tests::wrong::{Failed, Wrong, expect_bytes, in_row};
+use wtf8_tests::wrong::{Check, Failed, Made, Wrong, assert_row, expect_bytes, made};
 
 /// The bytes of "a" and D83D.
 pub const FULL: &str = "61 ED A0 BD";
 
 /// A string of "a" and D83D with a capacity of `capacity` bytes.
 pub fn filled<A: Allocator + Drop>(alloc: A, capacity: usize) -> Result<Wtf8Buf<A>, Failed> {
-    let Ok(mut text) = Wtf8Buf::with_capacity(alloc, capacity) else {
-        return Err(Failed::by(Wrong::Memory));
-    };
+    let mut text = made!(Wtf8Buf::with_capacity(alloc, capacity));
     let calls = [
         Build::PushChar('a'),
         Build::Push(CodePoint::from_unit(0xD83D)),
     ];
-    let Ok(()) = call_each(&mut text, &calls) else {
-        return Err(Failed::by(Wrong::Memory));
-    };
+    made!(call_each(&mut text, &calls));
     Ok(text)
 }
 
@@ -29,7 +25,7 @@ pub fn full(heap: Lent<'_>) -> Result<Wtf8Buf<Lent<'_>>, Failed> {
 }
 
 /// Appends `length` times "a".
-pub fn push_letters<A: Allocator>(text: &mut Wtf8Buf<A>, length: usize) -> Result<(), AllocError> {
+pub fn push_letters<A: Allocator>(text: &mut Wtf8Buf<A>, length: usize) -> Made<()> {
     for _ in 0..length {
         text.push_char('a')?;
     }
@@ -51,7 +47,7 @@ fn truncate_units<A: Allocator>(text: &mut Wtf8Buf<A>, n: usize) {
 }
 
 /// Makes a call by the method of its name; a truncation only at a boundary, or to a number of units that are there.
-pub fn call_named<A: Allocator>(text: &mut Wtf8Buf<A>, call: Build<'_>) -> Result<(), AllocError> {
+pub fn call_named<A: Allocator>(text: &mut Wtf8Buf<A>, call: Build<'_>) -> Made<()> {
     match call {
         Build::Push(code_point) => text.push(code_point),
         Build::PushChar(c) => text.push_char(c),
@@ -71,10 +67,7 @@ pub fn call_named<A: Allocator>(text: &mut Wtf8Buf<A>, call: Build<'_>) -> Resul
 }
 
 /// Makes calls one after another, each by the method of its name.
-pub fn call_each<A: Allocator>(
-    text: &mut Wtf8Buf<A>,
-    calls: &[Build<'_>],
-) -> Result<(), AllocError> {
+pub fn call_each<A: Allocator>(text: &mut Wtf8Buf<A>, calls: &[Build<'_>]) -> Made<()> {
     for call in calls {
         call_named(text, *call)?;
     }
@@ -94,20 +87,24 @@ pub enum Change<'a> {
     PushUnits(&'a [u16]),
     /// `push_unit_slice`.
     PushSlice(UnitSlice<'a>),
+    /// `push_utf8_lossy`.
+    PushLossy(&'a [u8]),
+    /// `push_utf8_lossy_part`, and the number of bytes that it uses.
+    PushLossyPart(&'a [u8], usize),
     /// `clear`.
     Clear,
 }
 
 /// `Some(true)` for a change that was made, or `None` for one whose request was refused.
-fn outcome_of(returned: Result<(), AllocError>) -> Option<bool> {
+fn outcome_of(returned: Made<()>) -> Option<bool> {
     match returned {
         Ok(()) => Some(true),
         Err(_) => None,
     }
 }
 
-/// Makes a change. Returns whether it was made, which `apply` denies of a truncation, or `None` if a request was
-/// refused.
+/// Makes a change. Returns whether it was made, which `apply` denies of a truncation, or `None` if a request was refused; of
+/// part of some bytes whether it used the right number.
 pub fn changes<A: Allocator>(text: &mut Wtf8Buf<A>, change: Change<'_>) -> Option<bool> {
     match change {
         Change::Method(call) => outcome_of(call_named(text, call)),
@@ -115,6 +112,11 @@ pub fn changes<A: Allocator>(text: &mut Wtf8Buf<A>, change: Change<'_>) -> Optio
         Change::PushUnit(unit) => outcome_of(text.push_unit(unit)),
         Change::PushUnits(units) => outcome_of(text.push_ill_formed_utf16(units)),
         Change::PushSlice(slice) => outcome_of(text.push_unit_slice(slice)),
+        Change::PushLossy(bytes) => outcome_of(text.push_utf8_lossy(bytes)),
+        Change::PushLossyPart(bytes, used) => match text.push_utf8_lossy_part(bytes) {
+            Ok(found) => Some(found == used),
+            Err(_) => None,
+        },
         Change::Clear => {
             text.clear();
             Some(true)
@@ -131,11 +133,7 @@ pub fn succeeds<A: Allocator>(text: &mut Wtf8Buf<A>, change: Change<'_>) -> bool
 pub type Step<'a> = (Change<'a>, Option<bool>, &'static str);
 
 /// Fails unless a change comes to what its row says, and leaves the bytes of the row.
-pub fn expect_step<A: Allocator>(
-    alloc: Global,
-    text: &mut Wtf8Buf<A>,
-    row: Step<'_>,
-) -> Result<(), Failed> {
+pub fn expect_step<A: Allocator>(alloc: Global, text: &mut Wtf8Buf<A>, row: Step<'_>) -> Check {
     let (change, outcome, dump) = row;
     if changes(text, change) != outcome {
         return Err(Failed::by(Wrong::Outcome));
@@ -148,76 +146,62 @@ pub fn expect_steps<A: Allocator>(
     alloc: Global,
     text: &mut Wtf8Buf<A>,
     rows: &[Step<'_>],
-) -> Result<(), Failed> {
+) -> Check {
     let mut index = 0usize;
     for row in rows {
-        if let Err(failed) = expect_step(alloc, text, *row) {
-            return in_row(index, Err(failed));
-        }
+        assert_row!(index, expect_step(alloc, text, *row));
         index = index.wrapping_add(1);
     }
     Ok(())
 }
 
-/// The requests for memory that are granted to a change, and those that it must make.
-#[derive(Clone, Copy)]
-pub struct Requests {
-    /// The first `granted` requests are granted, and the ones after them refused.
-    pub granted: u64,
-    pub refusal: Refusal,
-    /// The number of requests.
-    pub count: u64,
-    /// The number of bytes in them, unless one is refused. It is then not compared.
-    pub bytes: Option<usize>,
-}
-
-impl Requests {
-    /// Those of a change whose requests are all granted.
-    pub fn all(count: u64, bytes: usize) -> Requests {
-        Requests {
-            granted: 9,
-            refusal: Refusal::ForGood,
-            count,
-            bytes: Some(bytes),
-        }
-    }
-
-    /// Those of a change that ends at the request after `granted` ones, which is refused.
-    pub fn first(granted: u64, refusal: Refusal) -> Requests {
-        Requests {
-            granted,
-            refusal,
-            count: granted.wrapping_add(1),
-            bytes: None,
-        }
-    }
-
-    /// Whether a change that was made or not, and made the requests that `heap` counted, is as it must be.
-    fn are_made(self, heap: Lent<'_>, is_changed: bool) -> bool {
-        let is_counted = heap.requests() == self.count;
-        match self.bytes {
-            Some(bytes) => is_changed && is_counted && heap.bytes() == bytes,
-            None => !is_changed && is_counted,
-        }
-    }
-}
-
-/// Makes a change of the string of "a" and D83D, whose four bytes fill its capacity. Fails unless the change is made if
-/// all its requests are granted, and only then, makes the requests that it must, and leaves the bytes of `dump`.
-pub fn expect_requests(
+/// Makes a change of the string of "a" and D83D, whose four bytes fill its capacity. Fails unless it is made, with this number of
+/// requests, and of bytes in them, and leaves the bytes of `dump`.
+pub fn expect_granted(
     alloc: Global,
     heap: Lent<'_>,
     change: Change<'_>,
-    requests: Requests,
+    (requests, bytes): (u64, usize),
     dump: &str,
-) -> Result<(), Failed> {
-    let Ok(mut text) = full(heap) else {
-        return Err(Failed::by(Wrong::Memory));
-    };
-    heap.refuse_after(requests.granted, requests.refusal);
+) -> Check {
+    let mut text = made!(full(heap));
+    heap.grant(9);
     let is_changed = succeeds(&mut text, change);
-    if !requests.are_made(heap, is_changed) {
+    if !is_changed || heap.requests() != requests || heap.bytes() != bytes {
         return Err(Failed::by(Wrong::Requests));
     }
     expect_bytes(alloc, text.as_wtf8(), dump)
+}
+
+/// Makes a change of the same string. Fails unless it fails at the request after `granted` ones, which is refused, and leaves the
+/// bytes of `dump`.
+pub fn expect_refused(
+    alloc: Global,
+    heap: Lent<'_>,
+    change: Change<'_>,
+    (granted, refusal): (u64, Refusal),
+    dump: &str,
+) -> Check {
+    let mut text = made!(full(heap));
+    heap.refuse_after(granted, refusal);
+    let is_changed = succeeds(&mut text, change);
+    if is_changed || heap.requests() != granted.wrapping_add(1) {
+        return Err(Failed::by(Wrong::Requests));
+    }
+    expect_bytes(alloc, text.as_wtf8(), dump)
+}
+
+/// Fails unless the change fails at each of its requests that is refused, and leaves the string as it was.
+pub fn expect_each_refused(
+    alloc: Global,
+    heap: Lent<'_>,
+    change: Change<'_>,
+    requests: u64,
+) -> Check {
+    for refusal in REFUSALS {
+        for granted in 0..requests {
+            expect_refused(alloc, heap, change, (granted, refusal), FULL)?;
+        }
+    }
+    Ok(())
 }
