@@ -6,7 +6,7 @@ use std::collections::HashMap;
 use unit_text::UnitText;
 
 /// The units and bytes of "a", a surrogate pair, "é" and a lone lead surrogate.
-static UNITS: [u16; 5] = [0x0061, 0xD83D, 0xDCA9, 0x00E9, 0xD800];
+static UNITS: [u16; 5] = [0x61, 0xD83D, 0xDCA9, 0xE9, 0xD800];
 
 const DUMP: &str = "61 F0 9F 92 A9 C3 A9 ED A0 80";
 
@@ -61,14 +61,10 @@ fn has_slices(alloc: Global, text: &UnitText<Global>) -> bool {
         && is_slice(alloc, text, 0, 5, DUMP)
 }
 
-/// Whether a text can be made of `UNITS`, and has its slices.
-fn is_sliced(alloc: Global) -> bool {
-    has_slices(alloc, &text_of(alloc, &UNITS))
-}
-
 #[test]
 fn a_slice_that_divides_a_pair_has_its_half(rt: HostRuntime) {
-    assert!(rt; is_sliced(rt.alloc()));
+    let alloc = rt.alloc();
+    assert!(rt; has_slices(alloc, &text_of(alloc, &UNITS)));
 }
 
 /// Whether the text of U+E000 is after that of U+10000 by units and before it by code points.
@@ -100,16 +96,14 @@ fn is_key(map: &HashMap<UnitText<Global>, i32>, key: &UnitText<Global>) -> bool 
     map.get(key).copied() == Some(1)
 }
 
-/// Whether a map with the text of `UNITS` alone has it, and not the text of "a".
-fn is_only_key(alloc: Global) -> bool {
-    let mut map = HashMap::new(alloc);
-    let is_inserted = map.insert(text_of(alloc, &UNITS), 1).is_ok();
-    is_inserted
-        && is_key(&map, &text_of(alloc, &UNITS))
-        && !is_key(&map, &text_of(alloc, &[0x0061]))
-}
-
 #[test]
 fn a_map_has_a_text_by_its_units(rt: HostRuntime) {
-    assert!(rt; is_only_key(rt.alloc()));
+    let alloc = rt.alloc();
+    let mut map = HashMap::new(alloc);
+    let is_inserted = map.insert(text_of(alloc, &UNITS), 1).is_ok();
+    assert!(rt;
+        is_inserted
+            && is_key(&map, &text_of(alloc, &UNITS))
+            && !is_key(&map, &text_of(alloc, &[0x61]))
+    );
 }

@@ -24,28 +24,23 @@ fn a_string_becomes_a_text_and_a_string_again_without_a_request(rt: HostRuntime)
 
 const LETTERS: &str = "abcdefghijklmnopqrstuvwxyzabcdefghijklmn";
 
+/// The bytes of "a" and a lead.
+const FRONT_DUMP: &str = "61 ED A0 BD";
+
 /// 40 letters, as a `&str` and as a view, after "a" and a lead.
 static REFUSED: [Appended; 2] = [
-    Appended {
-        units: &[0x0061, 0xD83D],
-        dump: "61 ED A0 BD",
-        append: Append::Str(LETTERS),
-        unit_len: 42,
-        front: 2,
-        front_dump: "61 ED A0 BD",
-        requests: 1,
-        bytes: 4 + 40,
-    },
-    Appended {
-        units: &[0x0061, 0xD83D],
-        dump: "61 ED A0 BD",
-        append: Append::View(LETTERS),
-        unit_len: 42,
-        front: 2,
-        front_dump: "61 ED A0 BD",
-        requests: 1,
-        bytes: 4 + 40,
-    },
+    (
+        (&[0x61, 0xD83D], FRONT_DUMP),
+        Append::Str(LETTERS),
+        (42, 2, FRONT_DUMP),
+        (1, 4 + 40),
+    ),
+    (
+        (&[0x61, 0xD83D], FRONT_DUMP),
+        Append::View(LETTERS),
+        (42, 2, FRONT_DUMP),
+        (1, 4 + 40),
+    ),
 ];
 
 #[test]
@@ -55,22 +50,8 @@ fn a_refused_string_is_not_appended(rt: HostRuntime) {
 
 /// A text of a `&str`, and of an empty one.
 static STRS: [Made; 2] = [
-    Made {
-        units: &[],
-        text: "",
-        make: MakeText::FromStr("aé"),
-        dump: "61 C3 A9",
-        requests: 1,
-        bytes: 3,
-    },
-    Made {
-        units: &[],
-        text: "",
-        make: MakeText::FromStr(""),
-        dump: "",
-        requests: 0,
-        bytes: 0,
-    },
+    ((&[], ""), MakeText::FromStr("aé"), ("61 C3 A9", 1, 3)),
+    ((&[], ""), MakeText::FromStr(""), ("", 0, 0)),
 ];
 
 #[test]

@@ -1,9 +1,10 @@
 // Buffers that find their code units: short ones by tables, and long ones with marks and without.
+use crate::shared::Push::{Char, Point, Slice, Str, Unit, Units, View};
 use crate::shared::{
-    Push, buf_has_units, buf_of, has_buf, has_bytes, has_text, has_units_left, push_each, push_to,
-    with_room,
+    Buf, Push, buf_has_units, buf_of, has_buf, has_bytes, has_text, has_units_left, push_each,
+    push_to, with_room,
 };
-use std::alloc::{AllocError, Allocator, Global};
+use std::alloc::{AllocError, Global};
 use std::cmp::Ordering;
 use std::hash::{DefaultHasher, Hash, Hasher};
 use unit_text::{IndexedBuf, UnitText};
@@ -24,13 +25,7 @@ fn are_unwritten(units: &[u16]) -> bool {
 
 /// Whether `copy_units` writes the units from index `begin` to before index `end` to the front of `out`, whose units no
 /// call has written, and leaves its rest, which has more units than those from index `end` on.
-fn is_copied_to<A: Allocator>(
-    buf: &IndexedBuf<A>,
-    units: &[u16],
-    begin: usize,
-    end: usize,
-    out: &mut [u16],
-) -> bool {
+fn is_copied_to(buf: &Buf, units: &[u16], begin: usize, end: usize, out: &mut [u16]) -> bool {
     if begin > end || end > buf.unit_len() || end > units.len() {
         return false;
     }
@@ -44,20 +39,14 @@ fn is_copied_to<A: Allocator>(
 }
 
 /// Whether `is_copied_to` holds of an output that has room for all units and one more.
-fn is_copied<A: Allocator>(
-    alloc: Global,
-    buf: &IndexedBuf<A>,
-    units: &[u16],
-    begin: usize,
-    end: usize,
-) -> bool {
+fn is_copied(alloc: Global, buf: &Buf, units: &[u16], begin: usize, end: usize) -> bool {
     let mut out = Vec::new(alloc);
     let is_made = out.resize(units.len().saturating_add(1), UNWRITTEN).is_ok();
     is_made && is_copied_to(buf, units, begin, end, &mut out)
 }
 
 /// Whether `slice_units` and `starts_with_units_at` find the units from index `begin` to before index `end`.
-fn has_slice<A: Allocator>(buf: &IndexedBuf<A>, units: &[u16], begin: usize, end: usize) -> bool {
+fn has_slice(buf: &Buf, units: &[u16], begin: usize, end: usize) -> bool {
     if begin > end || end > buf.unit_len() || end > units.len() {
         return false;
     }
@@ -69,7 +58,7 @@ fn has_slice<A: Allocator>(buf: &IndexedBuf<A>, units: &[u16], begin: usize, end
 }
 
 /// Whether `units_from` has the units from index `begin` on.
-fn has_units_from<A: Allocator>(buf: &IndexedBuf<A>, units: &[u16], begin: usize) -> bool {
+fn has_units_from(buf: &Buf, units: &[u16], begin: usize) -> bool {
     if begin > buf.unit_len() || begin > units.len() {
         return false;
     }
@@ -77,13 +66,7 @@ fn has_units_from<A: Allocator>(buf: &IndexedBuf<A>, units: &[u16], begin: usize
 }
 
 /// Whether the part from index `begin` to before index `end` is found by each call, if these are in order.
-fn has_part<A: Allocator>(
-    alloc: Global,
-    buf: &IndexedBuf<A>,
-    units: &[u16],
-    begin: usize,
-    end: usize,
-) -> bool {
+fn has_part(alloc: Global, buf: &Buf, units: &[u16], begin: usize, end: usize) -> bool {
     if begin > end {
         return true;
     }
@@ -93,7 +76,7 @@ fn has_part<A: Allocator>(
 }
 
 /// Whether the buffer has `units`, in whole and in each part, and the bytes of `dump`.
-fn has_all<A: Allocator>(alloc: Global, buf: &IndexedBuf<A>, units: &[u16], dump: &str) -> bool {
+fn has_all(alloc: Global, buf: &Buf, units: &[u16], dump: &str) -> bool {
     for end in 0..=units.len() {
         for begin in 0..=end {
             if !has_part(alloc, buf, units, begin, end) {
@@ -107,8 +90,8 @@ fn has_all<A: Allocator>(alloc: Global, buf: &IndexedBuf<A>, units: &[u16], dump
 /// Units and their bytes: of each length, in pairs, and lone.
 static TEXTS: [(&[u16], &str); 11] = [
     (&[], ""),
-    (&[0x0061, 0x0000, 0x007F], "61 00 7F"),
-    (&[0x0080, 0x00E9, 0x07FF], "C2 80 C3 A9 DF BF"),
+    (&[0x61, 0x00, 0x7F], "61 00 7F"),
+    (&[0x80, 0xE9, 0x07FF], "C2 80 C3 A9 DF BF"),
     (&[0x0800, 0x3042, 0xFFFF], "E0 A0 80 E3 81 82 EF BF BF"),
     (&[0xD83D, 0xDCA9], "F0 9F 92 A9"),
     (&[0xD83D], "ED A0 BD"),
@@ -120,13 +103,13 @@ static TEXTS: [(&[u16], &str); 11] = [
         "F0 9F 92 A9 F0 90 80 80 F4 8F BF BF",
     ),
     (
-        &[0x0061, 0xD83D, 0xDCA9, 0x00E9, 0xD800],
+        &[0x61, 0xD83D, 0xDCA9, 0xE9, 0xD800],
         "61 F0 9F 92 A9 C3 A9 ED A0 80",
     ),
 ];
 
 /// The buffer of the units, pushed one by one to an empty one.
-fn pushed_each(alloc: Global, units: &[u16]) -> IndexedBuf<Global> {
+fn pushed_each(alloc: Global, units: &[u16]) -> Buf {
     let mut buf = IndexedBuf::new(alloc);
     push_each(&mut buf, units);
     buf
@@ -134,7 +117,7 @@ fn pushed_each(alloc: Global, units: &[u16]) -> IndexedBuf<Global> {
 
 /// The buffer of the units, pushed at once to one with room for 40 bytes and with marks kept; an empty one if memory is
 /// refused.
-fn pushed_at_once(alloc: Global, units: &[u16]) -> IndexedBuf<Global> {
+fn pushed_at_once(alloc: Global, units: &[u16]) -> Buf {
     let mut buf = with_room(alloc, 40);
     buf.mark_units(alloc);
     let _ = buf.push_units(units);
@@ -142,7 +125,7 @@ fn pushed_at_once(alloc: Global, units: &[u16]) -> IndexedBuf<Global> {
 }
 
 /// The buffer that takes over the string of the units, or an empty one if memory is refused.
-fn taken_over(alloc: Global, units: &[u16]) -> IndexedBuf<Global> {
+fn taken_over(alloc: Global, units: &[u16]) -> Buf {
     match Wtf8Buf::from_ill_formed_utf16(alloc, units) {
         Ok(text) => IndexedBuf::from_buf(text),
         Err(_) => IndexedBuf::new(alloc),
@@ -150,7 +133,7 @@ fn taken_over(alloc: Global, units: &[u16]) -> IndexedBuf<Global> {
 }
 
 /// The buffer of the units, with marks kept or without.
-fn marked(alloc: Global, units: &[u16], is_marked: bool) -> IndexedBuf<Global> {
+fn marked(alloc: Global, units: &[u16], is_marked: bool) -> Buf {
     let mut buf = buf_of(alloc, units);
     if is_marked {
         buf.mark_units(alloc);
@@ -159,23 +142,12 @@ fn marked(alloc: Global, units: &[u16], is_marked: bool) -> IndexedBuf<Global> {
 }
 
 /// Whether the buffer has room for `capacity` bytes, and has the units and the bytes.
-fn is_all(
-    alloc: Global,
-    buf: IndexedBuf<Global>,
-    capacity: usize,
-    units: &[u16],
-    dump: &str,
-) -> bool {
+fn is_all(alloc: Global, buf: Buf, capacity: usize, units: &[u16], dump: &str) -> bool {
     buf.capacity() >= capacity && has_all(alloc, &buf, units, dump)
 }
 
 /// Whether a copy of the buffer was made, and has the units and the bytes.
-fn is_copy(
-    alloc: Global,
-    copy: Result<IndexedBuf<Global>, AllocError>,
-    units: &[u16],
-    dump: &str,
-) -> bool {
+fn is_copy(alloc: Global, copy: Result<Buf, AllocError>, units: &[u16], dump: &str) -> bool {
     match copy {
         Ok(buf) => has_all(alloc, &buf, units, dump),
         Err(_) => false,
@@ -183,14 +155,14 @@ fn is_copy(
 }
 
 /// Whether the buffer has the units and the bytes, without marks and with them, and its copy too.
-fn has_all_marked(alloc: Global, buf: &mut IndexedBuf<Global>, units: &[u16], dump: &str) -> bool {
+fn has_all_marked(alloc: Global, buf: &mut Buf, units: &[u16], dump: &str) -> bool {
     let has_all_unmarked = has_all(alloc, buf, units, dump);
     buf.mark_units(alloc);
     has_all_unmarked && has_all(alloc, buf, units, dump) && is_copy(alloc, buf.clone(), units, dump)
 }
 
 /// Whether the string of the buffer has the bytes.
-fn has_string(alloc: Global, buf: IndexedBuf<Global>, dump: &str) -> bool {
+fn has_string(alloc: Global, buf: Buf, dump: &str) -> bool {
     has_bytes(alloc, buf.into_buf().as_wtf8(), dump)
 }
 
@@ -244,177 +216,102 @@ fn is_made_each_way(alloc: Global, units: &[u16], dump: &str) -> bool {
         && is_all(alloc, pushed_at_once(alloc, units), 40, units, dump)
 }
 
-/// Whether buffers of each of these lists of units have the units and the bytes.
-fn are_made(alloc: Global) -> bool {
-    for (units, dump) in &TEXTS {
-        if !is_made_each_way(alloc, units, dump) {
-            return false;
-        }
-    }
-    true
-}
-
 #[test]
 fn a_buffer_has_the_units_that_it_is_made_of(rt: HostRuntime) {
-    assert!(rt; are_made(rt.alloc()));
+    for (units, dump) in &TEXTS {
+        assert!(rt; is_made_each_way(rt.alloc(), units, dump));
+    }
 }
 
-/// A call that appends to the buffer of the units `front`, and the units and bytes after it.
-#[derive(Clone, Copy)]
-struct Row {
-    front: &'static [u16],
-    push: Push,
-    units: &'static [u16],
-    dump: &'static str,
-}
+/// The units of a buffer and a call that appends to it, and the units and bytes after it.
+type Row = ((&'static [u16], Push), (&'static [u16], &'static str));
 
 /// Code points, units and characters that are pushed, then strings and lists of units, and then slices: with the trail
 /// of a pair in front, which the lead at the end of a string meets or not, with a lead at the end, with both, and
 /// without any unit.
 static PUSHES: [Row; 19] = [
-    Row {
-        front: &[0x0061],
-        push: Push::Point(0xE9),
-        units: &[0x0061, 0x00E9],
-        dump: "61 C3 A9",
-    },
-    Row {
-        front: &[0xD83D],
-        push: Push::Point(0xDCA9),
-        units: &[0xD83D, 0xDCA9],
-        dump: "F0 9F 92 A9",
-    },
-    Row {
-        front: &[],
-        push: Push::Point(0x10_FFFF),
-        units: &[0xDBFF, 0xDFFF],
-        dump: "F4 8F BF BF",
-    },
-    Row {
-        front: &[0xD83D],
-        push: Push::Unit(0xDCA9),
-        units: &[0xD83D, 0xDCA9],
-        dump: "F0 9F 92 A9",
-    },
-    Row {
-        front: &[0xDCA9],
-        push: Push::Unit(0xD83D),
-        units: &[0xDCA9, 0xD83D],
-        dump: "ED B2 A9 ED A0 BD",
-    },
-    Row {
-        front: &[0x0061],
-        push: Push::Char('あ'),
-        units: &[0x0061, 0x3042],
-        dump: "61 E3 81 82",
-    },
-    Row {
-        front: &[0xD83D],
-        push: Push::Char('💩'),
-        units: &[0xD83D, 0xD83D, 0xDCA9],
-        dump: "ED A0 BD F0 9F 92 A9",
-    },
-    Row {
-        front: &[0x0061],
-        push: Push::Str(""),
-        units: &[0x0061],
-        dump: "61",
-    },
-    Row {
-        front: &[0xD83D],
-        push: Push::Str("aé💩"),
-        units: &[0xD83D, 0x0061, 0x00E9, 0xD83D, 0xDCA9],
-        dump: "ED A0 BD 61 C3 A9 F0 9F 92 A9",
-    },
-    Row {
-        front: &[0xD83D],
-        push: Push::Units(&[]),
-        units: &[0xD83D],
-        dump: "ED A0 BD",
-    },
-    Row {
-        front: &[0x0061, 0xD83D],
-        push: Push::Units(&[0xDCA9, 0xDCA9]),
-        units: &[0x0061, 0xD83D, 0xDCA9, 0xDCA9],
-        dump: "61 F0 9F 92 A9 ED B2 A9",
-    },
-    Row {
-        front: &[0xD83D],
-        push: Push::View(&[]),
-        units: &[0xD83D],
-        dump: "ED A0 BD",
-    },
-    Row {
-        front: &[0x0061, 0xD83D],
-        push: Push::View(&[0xDCA9, 0x00E9]),
-        units: &[0x0061, 0xD83D, 0xDCA9, 0x00E9],
-        dump: "61 F0 9F 92 A9 C3 A9",
-    },
-    Row {
-        front: &[0x0061],
-        push: Push::View(&[0xDCA9, 0xD83D]),
-        units: &[0x0061, 0xDCA9, 0xD83D],
-        dump: "61 ED B2 A9 ED A0 BD",
-    },
-    Row {
-        front: &[0x0061, 0xD83D],
-        push: Push::Slice(&[0xD83D, 0xDCA9, 0x00E9], 1, 3),
-        units: &[0x0061, 0xD83D, 0xDCA9, 0x00E9],
-        dump: "61 F0 9F 92 A9 C3 A9",
-    },
-    Row {
-        front: &[0x0061],
-        push: Push::Slice(&[0xD83D, 0xDCA9, 0x00E9], 1, 3),
-        units: &[0x0061, 0xDCA9, 0x00E9],
-        dump: "61 ED B2 A9 C3 A9",
-    },
-    Row {
-        front: &[0x0061],
-        push: Push::Slice(&[0x00E9, 0xD83D, 0xDCA9], 0, 2),
-        units: &[0x0061, 0x00E9, 0xD83D],
-        dump: "61 C3 A9 ED A0 BD",
-    },
-    Row {
-        front: &[0xD83D],
-        push: Push::Slice(&[0xD83D, 0xDCA9, 0xD83D, 0xDCA9], 1, 3),
-        units: &[0xD83D, 0xDCA9, 0xD83D],
-        dump: "F0 9F 92 A9 ED A0 BD",
-    },
-    Row {
-        front: &[0xD83D],
-        push: Push::Slice(&[0xD83D, 0xDCA9], 1, 1),
-        units: &[0xD83D],
-        dump: "ED A0 BD",
-    },
+    ((&[0x61], Point(0xE9)), (&[0x61, 0xE9], "61 C3 A9")),
+    (
+        (&[0xD83D], Point(0xDCA9)),
+        (&[0xD83D, 0xDCA9], "F0 9F 92 A9"),
+    ),
+    ((&[], Point(0x10_FFFF)), (&[0xDBFF, 0xDFFF], "F4 8F BF BF")),
+    (
+        (&[0xD83D], Unit(0xDCA9)),
+        (&[0xD83D, 0xDCA9], "F0 9F 92 A9"),
+    ),
+    (
+        (&[0xDCA9], Unit(0xD83D)),
+        (&[0xDCA9, 0xD83D], "ED B2 A9 ED A0 BD"),
+    ),
+    ((&[0x61], Char('あ')), (&[0x61, 0x3042], "61 E3 81 82")),
+    (
+        (&[0xD83D], Char('💩')),
+        (&[0xD83D, 0xD83D, 0xDCA9], "ED A0 BD F0 9F 92 A9"),
+    ),
+    ((&[0x61], Str("")), (&[0x61], "61")),
+    (
+        (&[0xD83D], Str("aé💩")),
+        (
+            &[0xD83D, 0x61, 0xE9, 0xD83D, 0xDCA9],
+            "ED A0 BD 61 C3 A9 F0 9F 92 A9",
+        ),
+    ),
+    ((&[0xD83D], Units(&[])), (&[0xD83D], "ED A0 BD")),
+    (
+        (&[0x61, 0xD83D], Units(&[0xDCA9, 0xDCA9])),
+        (&[0x61, 0xD83D, 0xDCA9, 0xDCA9], "61 F0 9F 92 A9 ED B2 A9"),
+    ),
+    ((&[0xD83D], View(&[])), (&[0xD83D], "ED A0 BD")),
+    (
+        (&[0x61, 0xD83D], View(&[0xDCA9, 0xE9])),
+        (&[0x61, 0xD83D, 0xDCA9, 0xE9], "61 F0 9F 92 A9 C3 A9"),
+    ),
+    (
+        (&[0x61], View(&[0xDCA9, 0xD83D])),
+        (&[0x61, 0xDCA9, 0xD83D], "61 ED B2 A9 ED A0 BD"),
+    ),
+    (
+        (&[0x61, 0xD83D], Slice(&[0xD83D, 0xDCA9, 0xE9], 1, 3)),
+        (&[0x61, 0xD83D, 0xDCA9, 0xE9], "61 F0 9F 92 A9 C3 A9"),
+    ),
+    (
+        (&[0x61], Slice(&[0xD83D, 0xDCA9, 0xE9], 1, 3)),
+        (&[0x61, 0xDCA9, 0xE9], "61 ED B2 A9 C3 A9"),
+    ),
+    (
+        (&[0x61], Slice(&[0xE9, 0xD83D, 0xDCA9], 0, 2)),
+        (&[0x61, 0xE9, 0xD83D], "61 C3 A9 ED A0 BD"),
+    ),
+    (
+        (&[0xD83D], Slice(&[0xD83D, 0xDCA9, 0xD83D, 0xDCA9], 1, 3)),
+        (&[0xD83D, 0xDCA9, 0xD83D], "F0 9F 92 A9 ED A0 BD"),
+    ),
+    (
+        (&[0xD83D], Slice(&[0xD83D, 0xDCA9], 1, 1)),
+        (&[0xD83D], "ED A0 BD"),
+    ),
 ];
 
 /// Whether the row's call appends its units, with marks kept or without.
-fn is_pushed(alloc: Global, row: &Row, is_marked: bool) -> bool {
-    let mut buf = marked(alloc, row.front, is_marked);
-    push_to(alloc, &mut buf, row.push).is_ok() && has_all(alloc, &buf, row.units, row.dump)
-}
-
-/// Whether each row's call appends its units, with marks kept and without.
-fn are_pushed(alloc: Global) -> bool {
-    for row in &PUSHES {
-        if !is_pushed(alloc, row, false) || !is_pushed(alloc, row, true) {
-            return false;
-        }
-    }
-    true
+fn is_pushed(alloc: Global, &((front, push), (units, dump)): &Row, is_marked: bool) -> bool {
+    let mut buf = marked(alloc, front, is_marked);
+    push_to(alloc, &mut buf, push).is_ok() && has_all(alloc, &buf, units, dump)
 }
 
 #[test]
 fn each_call_that_pushes_appends_its_units(rt: HostRuntime) {
-    assert!(rt; are_pushed(rt.alloc()));
+    for row in &PUSHES {
+        assert!(rt; is_pushed(rt.alloc(), row, false) && is_pushed(rt.alloc(), row, true));
+    }
 }
 
 /// Lists of units in the order of their code points, which is that of their bytes: a pair is after U+FFFF.
 static ORDERED: [&[u16]; 8] = [
     &[],
-    &[0x0061],
-    &[0x0061, 0x0061],
-    &[0x00E9],
+    &[0x61],
+    &[0x61, 0x61],
+    &[0xE9],
     &[0xD83D],
     &[0xDCA9],
     &[0xFFFF],
@@ -422,14 +319,14 @@ static ORDERED: [&[u16]; 8] = [
 ];
 
 /// The hash of a buffer.
-fn hash_of(buf: &IndexedBuf<Global>) -> u64 {
+fn hash_of(buf: &Buf) -> u64 {
     let mut hasher = DefaultHasher::new();
     buf.hash(&mut hasher);
     hasher.finish()
 }
 
 /// Whether the buffers compare as `order` says. Both have the same hash if equal.
-fn are_ordered(buf: &IndexedBuf<Global>, other: &IndexedBuf<Global>, order: Ordering) -> bool {
+fn are_ordered(buf: &Buf, other: &Buf, order: Ordering) -> bool {
     let is_equal = order == Ordering::Equal;
     let is_less = order == Ordering::Less;
     buf.cmp(other) == order
@@ -452,23 +349,22 @@ fn is_order(alloc: Global, units: &[u16], others: &[u16], order: Ordering) -> bo
 
 /// Whether the buffer of the units, which have this number in the list, compares with all others as the number does.
 fn is_ordered(alloc: Global, units: &[u16], number: usize) -> bool {
-    let mut other_number = 0usize;
-    for others in &ORDERED {
+    for other_number in 0..ORDERED.len() {
         let order = number.cmp(&other_number);
-        if !is_order(alloc, units, others, order) {
+        if !is_order(alloc, units, &ORDERED[other_number], order) {
             return false;
         }
-        other_number = other_number.wrapping_add(1);
     }
     true
 }
 
 #[test]
 fn buffers_compare_by_code_points(rt: HostRuntime) {
-    let mut number = 0usize;
-    for units in &ORDERED {
-        assert!(rt; is_ordered(rt.alloc(), units, number), "list {number}");
-        number = number.wrapping_add(1);
+    for number in 0..ORDERED.len() {
+        assert!(rt;
+            is_ordered(rt.alloc(), &ORDERED[number], number),
+            "list {number}"
+        );
     }
 }
 
@@ -480,20 +376,16 @@ static POSITIONS: [usize; 6] = [0, 1, 1, 5, 7, 10];
 static BEFORE: [usize; 12] = [0, 1, 1, 1, 1, 3, 3, 4, 4, 4, 5, 5];
 
 /// Whether the buffer has the positions of `POSITIONS` and `BEFORE`.
-fn is_mapped<A: Allocator>(buf: &IndexedBuf<A>) -> bool {
-    let mut i = 0usize;
-    for position in &POSITIONS {
-        if i > buf.unit_len() || buf.position_at(i) != *position {
+fn is_mapped(buf: &Buf) -> bool {
+    for i in 0..POSITIONS.len() {
+        if i > buf.unit_len() || buf.position_at(i) != POSITIONS[i] {
             return false;
         }
-        i = i.wrapping_add(1);
     }
-    let mut position = 0usize;
-    for units in &BEFORE {
-        if buf.unit_before(position) != *units {
+    for position in 0..BEFORE.len() {
+        if buf.unit_before(position) != BEFORE[position] {
             return false;
         }
-        position = position.wrapping_add(1);
     }
     buf.unit_before(usize::MAX) == 5
         && buf.starts_with_units_at(usize::MAX, &[])
@@ -501,22 +393,18 @@ fn is_mapped<A: Allocator>(buf: &IndexedBuf<A>) -> bool {
         && !buf.starts_with_units_at(2, &[0xDCA9, 0xD800])
 }
 
-/// Whether the buffer has the positions, without marks and with them.
-fn is_mapped_each_way(alloc: Global) -> bool {
-    let mut buf = buf_of(alloc, &[0x0061, 0xD83D, 0xDCA9, 0x00E9, 0xD800]);
-    let is_mapped_unmarked = is_mapped(&buf);
-    buf.mark_units(alloc);
-    is_mapped_unmarked && is_mapped(&buf)
-}
-
 #[test]
 fn positions_of_a_buffer_are_rounded_down(rt: HostRuntime) {
-    assert!(rt; is_mapped_each_way(rt.alloc()));
+    let alloc = rt.alloc();
+    let mut buf = buf_of(alloc, &[0x61, 0xD83D, 0xDCA9, 0xE9, 0xD800]);
+    let is_mapped_unmarked = is_mapped(&buf);
+    buf.mark_units(alloc);
+    assert!(rt; is_mapped_unmarked && is_mapped(&buf));
 }
 
 #[test]
 fn a_buffer_has_56_bytes(rt: HostRuntime) {
-    assert!(rt; size_of::<IndexedBuf<Global>>() <= 56);
+    assert!(rt; size_of::<Buf>() <= 56);
 }
 
 /// The number of units of a long buffer.
@@ -550,7 +438,7 @@ fn first_unit(kind: Kind) -> u16 {
     match kind {
         Kind::Ascii => 0,
         Kind::Wide => 0x4E00,
-        Kind::Pairs => 0x0061,
+        Kind::Pairs => 0x61,
     }
 }
 
@@ -589,7 +477,7 @@ fn units_before(kind: Kind, position: usize) -> usize {
 static INDEXES: [usize; 13] = [0, 1, 2, 126, 127, 128, 129, 130, 255, 256, 257, 300, 301];
 
 /// Whether `position_at` and `unit_before` agree with the kind, near the marks and at the end.
-fn has_positions<A: Allocator>(buf: &IndexedBuf<A>, kind: Kind) -> bool {
+fn has_positions(buf: &Buf, kind: Kind) -> bool {
     for i in &INDEXES {
         let i = *i;
         let position = position_of(kind, i);
@@ -607,7 +495,7 @@ fn has_positions<A: Allocator>(buf: &IndexedBuf<A>, kind: Kind) -> bool {
 }
 
 /// Whether the buffer has the units of its kind, by each call.
-fn has_long<A: Allocator>(alloc: Global, buf: &IndexedBuf<A>, units: &[u16], kind: Kind) -> bool {
+fn has_long(alloc: Global, buf: &Buf, units: &[u16], kind: Kind) -> bool {
     for end in &INDEXES {
         for begin in &INDEXES {
             if !has_part(alloc, buf, units, *begin, *end) {
@@ -619,16 +507,12 @@ fn has_long<A: Allocator>(alloc: Global, buf: &IndexedBuf<A>, units: &[u16], kin
 }
 
 /// Whether the buffer has the units of its kind.
-fn is_long(alloc: Global, buf: IndexedBuf<Global>, units: &[u16], kind: Kind) -> bool {
+fn is_long(alloc: Global, buf: Buf, units: &[u16], kind: Kind) -> bool {
     has_long(alloc, &buf, units, kind)
 }
 
 /// Appends a string, as a text if `is_str`. Fails if it is then no text.
-fn push_string(
-    buf: &mut IndexedBuf<Global>,
-    text: Wtf8<'_>,
-    is_str: bool,
-) -> Result<(), AllocError> {
+fn push_string(buf: &mut Buf, text: Wtf8<'_>, is_str: bool) -> Result<(), AllocError> {
     match text.as_str() {
         Some(value) if is_str => buf.push_str(value),
         None if is_str => Err(AllocError),
@@ -638,7 +522,7 @@ fn push_string(
 
 /// The buffer of a string, pushed at once to an empty one with marks kept, as a text if `is_str`. The empty one if that
 /// fails.
-fn pushed_string(alloc: Global, text: Wtf8<'_>, is_str: bool) -> IndexedBuf<Global> {
+fn pushed_string(alloc: Global, text: Wtf8<'_>, is_str: bool) -> Buf {
     let mut buf = IndexedBuf::new(alloc);
     buf.mark_units(alloc);
     let _ = push_string(&mut buf, text, is_str);
@@ -658,28 +542,14 @@ fn is_pushed_string(alloc: Global, units: &[u16], kind: Kind) -> bool {
     let Ok(text) = Wtf8Buf::from_ill_formed_utf16(alloc, units) else {
         return false;
     };
-    is_pushed_counted(alloc, text.as_wtf8(), units, kind)
-        && is_long(
-            alloc,
-            pushed_string(alloc, text.as_wtf8(), false),
-            units,
-            kind,
-        )
-        && is_long(
-            alloc,
-            pushed_string(alloc, text.as_wtf8(), true),
-            units,
-            kind,
-        )
+    let view = text.as_wtf8();
+    is_pushed_counted(alloc, view, units, kind)
+        && is_long(alloc, pushed_string(alloc, view, false), units, kind)
+        && is_long(alloc, pushed_string(alloc, view, true), units, kind)
 }
 
 /// Whether a copy was made and has the units of its kind.
-fn is_long_copy(
-    alloc: Global,
-    copy: Result<IndexedBuf<Global>, AllocError>,
-    units: &[u16],
-    kind: Kind,
-) -> bool {
+fn is_long_copy(alloc: Global, copy: Result<Buf, AllocError>, units: &[u16], kind: Kind) -> bool {
     match copy {
         Ok(buf) => has_long(alloc, &buf, units, kind),
         Err(_) => false,
@@ -688,7 +558,7 @@ fn is_long_copy(
 
 /// Whether the buffer has the units of its kind, without marks or with those that it keeps, then with marks, and its
 /// copy too.
-fn is_long_again(alloc: Global, buf: IndexedBuf<Global>, units: &[u16], kind: Kind) -> bool {
+fn is_long_again(alloc: Global, buf: Buf, units: &[u16], kind: Kind) -> bool {
     let mut buf = buf;
     let is_right = has_long(alloc, &buf, units, kind)
         && is_long_copy(alloc, buf.clone(), units, kind);
@@ -703,13 +573,7 @@ fn is_long_each_way(alloc: Global, units: &[u16], kind: Kind) -> bool {
 }
 
 /// Whether a buffer that was cut to its first `n` units has these alone, and all again once the others are pushed.
-fn is_regrown<A: Allocator>(
-    alloc: Global,
-    buf: &mut IndexedBuf<A>,
-    units: &[u16],
-    kind: Kind,
-    n: usize,
-) -> bool {
+fn is_regrown(alloc: Global, buf: &mut Buf, units: &[u16], kind: Kind, n: usize) -> bool {
     let (front, back) = units.split_at(n.min(units.len()));
     buf_has_units(buf, front)
         && has_units_from(buf, front, n / 2)
@@ -718,13 +582,7 @@ fn is_regrown<A: Allocator>(
 }
 
 /// Cuts a buffer to its first `n` units. Whether it has these alone, and all again once the others are pushed.
-fn is_cut<A: Allocator>(
-    alloc: Global,
-    buf: &mut IndexedBuf<A>,
-    units: &[u16],
-    kind: Kind,
-    n: usize,
-) -> bool {
+fn is_cut(alloc: Global, buf: &mut Buf, units: &[u16], kind: Kind, n: usize) -> bool {
     if buf.unit_len() < n {
         return false;
     }
@@ -736,13 +594,7 @@ fn is_cut<A: Allocator>(
 static LAST_INDEXES: [usize; 6] = [172, 173, 174, 298, 299, 300];
 
 /// Whether a buffer has its units and position from index `i` on, and if it is cut there.
-fn is_right_from<A: Allocator>(
-    alloc: Global,
-    buf: &mut IndexedBuf<A>,
-    units: &[u16],
-    kind: Kind,
-    i: usize,
-) -> bool {
+fn is_right_from(alloc: Global, buf: &mut Buf, units: &[u16], kind: Kind, i: usize) -> bool {
     if i > buf.unit_len() || buf.position_at(i) != position_of(kind, i) {
         return false;
     }
@@ -763,13 +615,7 @@ fn is_right_at_end(alloc: Global, units: &[u16], kind: Kind) -> bool {
 
 /// Cuts a buffer at the byte position of index `n`, or of its pair. Whether it has the units before alone, and all again
 /// once the others are pushed.
-fn is_cut_at_position<A: Allocator>(
-    alloc: Global,
-    buf: &mut IndexedBuf<A>,
-    units: &[u16],
-    kind: Kind,
-    n: usize,
-) -> bool {
+fn is_cut_at_position(alloc: Global, buf: &mut Buf, units: &[u16], kind: Kind, n: usize) -> bool {
     let position = position_of(kind, n);
     if !buf.as_wtf8().is_code_point_boundary(position) {
         return false;
@@ -780,13 +626,7 @@ fn is_cut_at_position<A: Allocator>(
 
 /// Cuts a buffer at the mark of index `n`, or of its pair. Whether it has the units before alone, and all again once the
 /// others are pushed.
-fn is_cut_at_mark<A: Allocator>(
-    alloc: Global,
-    buf: &mut IndexedBuf<A>,
-    units: &[u16],
-    kind: Kind,
-    n: usize,
-) -> bool {
+fn is_cut_at_mark(alloc: Global, buf: &mut Buf, units: &[u16], kind: Kind, n: usize) -> bool {
     if buf.unit_len() < n {
         return false;
     }
@@ -797,12 +637,7 @@ fn is_cut_at_mark<A: Allocator>(
 }
 
 /// Empties a buffer. Whether it is empty, with the same capacity, and has the units again once they are pushed.
-fn is_cleared<A: Allocator>(
-    alloc: Global,
-    buf: &mut IndexedBuf<A>,
-    units: &[u16],
-    kind: Kind,
-) -> bool {
+fn is_cleared(alloc: Global, buf: &mut Buf, units: &[u16], kind: Kind) -> bool {
     let capacity = buf.capacity();
     buf.clear();
     let is_empty = has_buf(alloc, buf, &[], "") && buf.capacity() == capacity;
@@ -811,12 +646,7 @@ fn is_cleared<A: Allocator>(
 }
 
 /// Whether a long buffer, cut at each of `INDEXES` or emptied, has its units again once they are pushed.
-fn is_shortened<A: Allocator>(
-    alloc: Global,
-    buf: &mut IndexedBuf<A>,
-    units: &[u16],
-    kind: Kind,
-) -> bool {
+fn is_shortened(alloc: Global, buf: &mut Buf, units: &[u16], kind: Kind) -> bool {
     for n in &INDEXES {
         if !is_cut(alloc, buf, units, kind, *n)
             || !is_cut_at_position(alloc, buf, units, kind, *n)
@@ -840,7 +670,7 @@ fn is_shortened_each_way(alloc: Global, units: &[u16], kind: Kind) -> bool {
 }
 
 /// Releases the spare capacity of a buffer. Whether none is left, and the buffer has its units.
-fn is_shrunk(alloc: Global, buf: IndexedBuf<Global>, units: &[u16], kind: Kind) -> bool {
+fn is_shrunk(alloc: Global, buf: Buf, units: &[u16], kind: Kind) -> bool {
     let mut buf = buf;
     buf.shrink_to_fit();
     buf.capacity() == buf.as_wtf8().len() && has_long(alloc, &buf, units, kind)
@@ -938,19 +768,11 @@ fn is_text_in_parts(alloc: Global, units: &[u16], dump: &str, cut: usize) -> boo
         && is_text_copied(alloc, &text, units, dump)
 }
 
-/// Whether texts of each of these lists of units, pushed in two parts, wherever they are cut, have the units and bytes.
-fn are_texts_in_parts(alloc: Global) -> bool {
-    for (units, dump) in &TEXTS {
-        for cut in 0..units.len().saturating_add(1) {
-            if !is_text_in_parts(alloc, units, dump, cut) {
-                return false;
-            }
-        }
-    }
-    true
-}
-
 #[test]
 fn a_text_is_pushed_in_parts_and_copied(rt: HostRuntime) {
-    assert!(rt; are_texts_in_parts(rt.alloc()));
+    for (units, dump) in &TEXTS {
+        for cut in 0..=units.len() {
+            assert!(rt; is_text_in_parts(rt.alloc(), units, dump, cut));
+        }
+    }
 }

@@ -1,5 +1,6 @@
 // Requests for memory of buffers that find their code units, each refused in turn.
 use crate::memory::{Append, Appended, Made, MakeText, are_appended, are_right};
+use crate::shared::Push::{Char, Point, Slice, Str, Unit, Units, View};
 use crate::shared::{
     Push, buf_has_units, buf_of, has_buf, has_bytes, push_each, push_to, with_room,
 };
@@ -8,145 +9,80 @@ use std::alloc::{AllocError, Allocator, Global};
 use unit_text::IndexedBuf;
 
 /// "a" and a lone lead, and their four bytes.
-const FRONT: [u16; 2] = [0x0061, 0xD83D];
+const FRONT: [u16; 2] = [0x61, 0xD83D];
 
 const FRONT_DUMP: &str = "61 ED A0 BD";
 
 /// "a" and a pair, and their five bytes.
-const PAIR: [u16; 3] = [0x0061, 0xD83D, 0xDCA9];
+const PAIR: [u16; 3] = [0x61, 0xD83D, 0xDCA9];
 
 const PAIR_DUMP: &str = "61 F0 9F 92 A9";
 
-/// A call that appends to `FRONT`.
-#[derive(Clone, Copy)]
-struct Row {
-    push: Push,
-    /// The units and the bytes after the call.
-    units: &'static [u16],
-    dump: &'static str,
-    /// The number of bytes by which the string grows.
-    growth: usize,
-    /// The number of requests without spare capacity. `push_units` first reserves a byte for each unit, and then what
-    /// its units need.
-    requests: u64,
-}
+/// A call that appends to `FRONT`, and after it the units and the bytes; the number of bytes by which the string grows, and
+/// of requests without spare capacity. `push_units` first reserves a byte for each unit, and then what its units need.
+type Row = (Push, (&'static [u16], &'static str), (usize, u64));
 
 /// Calls that append one code point, or nothing, then several code points, and then slices whose trail in front
 /// completes the pair, alone or before other code points, that have a lead at the end, or that are empty. Each part of
 /// a slice is appended separately, and a growth is at least to twice the capacity, which is four bytes at first.
 static PUSHES: [Row; 16] = [
-    Row {
-        push: Push::Point(0xDCA9),
-        units: &PAIR,
-        dump: PAIR_DUMP,
-        growth: 1,
-        requests: 1,
-    },
-    Row {
-        push: Push::Unit(0xDCA9),
-        units: &PAIR,
-        dump: PAIR_DUMP,
-        growth: 1,
-        requests: 1,
-    },
-    Row {
-        push: Push::Unit(0x00E9),
-        units: &[0x0061, 0xD83D, 0x00E9],
-        dump: "61 ED A0 BD C3 A9",
-        growth: 2,
-        requests: 1,
-    },
-    Row {
-        push: Push::Char('💩'),
-        units: &[0x0061, 0xD83D, 0xD83D, 0xDCA9],
-        dump: "61 ED A0 BD F0 9F 92 A9",
-        growth: 4,
-        requests: 1,
-    },
-    Row {
-        push: Push::Units(&[0xDCA9]),
-        units: &PAIR,
-        dump: PAIR_DUMP,
-        growth: 1,
-        requests: 1,
-    },
-    Row {
-        push: Push::Str(""),
-        units: &FRONT,
-        dump: FRONT_DUMP,
-        growth: 0,
-        requests: 0,
-    },
-    Row {
-        push: Push::Units(&[]),
-        units: &FRONT,
-        dump: FRONT_DUMP,
-        growth: 0,
-        requests: 0,
-    },
-    Row {
-        push: Push::View(&[]),
-        units: &FRONT,
-        dump: FRONT_DUMP,
-        growth: 0,
-        requests: 0,
-    },
-    Row {
-        push: Push::Str("aé💩"),
-        units: &[0x0061, 0xD83D, 0x0061, 0x00E9, 0xD83D, 0xDCA9],
-        dump: "61 ED A0 BD 61 C3 A9 F0 9F 92 A9",
-        growth: 7,
-        requests: 1,
-    },
-    Row {
-        push: Push::Units(&[0xDCA9, 0xE000, 0xE000]),
-        units: &[0x0061, 0xD83D, 0xDCA9, 0xE000, 0xE000],
-        dump: "61 F0 9F 92 A9 EE 80 80 EE 80 80",
-        growth: 7,
-        requests: 2,
-    },
-    Row {
-        push: Push::View(&[0xDCA9, 0x00E9]),
-        units: &[0x0061, 0xD83D, 0xDCA9, 0x00E9],
-        dump: "61 F0 9F 92 A9 C3 A9",
-        growth: 3,
-        requests: 1,
-    },
-    Row {
-        push: Push::Slice(&[0xD83D, 0xDCA9], 1, 2),
-        units: &PAIR,
-        dump: PAIR_DUMP,
-        growth: 1,
-        requests: 1,
-    },
-    Row {
-        push: Push::Slice(&[0xD83D, 0xDCA9, 0x00E9], 1, 3),
-        units: &[0x0061, 0xD83D, 0xDCA9, 0x00E9],
-        dump: "61 F0 9F 92 A9 C3 A9",
-        growth: 3,
-        requests: 1,
-    },
-    Row {
-        push: Push::Slice(&[0xD83D, 0xDCA9, 0xE000, 0xD83D, 0xDCA9], 1, 4),
-        units: &[0x0061, 0xD83D, 0xDCA9, 0xE000, 0xD83D],
-        dump: "61 F0 9F 92 A9 EE 80 80 ED A0 BD",
-        growth: 7,
-        requests: 2,
-    },
-    Row {
-        push: Push::Slice(&[0x00E9, 0xD83D, 0xDCA9], 0, 2),
-        units: &[0x0061, 0xD83D, 0x00E9, 0xD83D],
-        dump: "61 ED A0 BD C3 A9 ED A0 BD",
-        growth: 5,
-        requests: 2,
-    },
-    Row {
-        push: Push::Slice(&[0xD83D, 0xDCA9], 1, 1),
-        units: &FRONT,
-        dump: FRONT_DUMP,
-        growth: 0,
-        requests: 0,
-    },
+    (Point(0xDCA9), (&PAIR, PAIR_DUMP), (1, 1)),
+    (Unit(0xDCA9), (&PAIR, PAIR_DUMP), (1, 1)),
+    (
+        Unit(0xE9),
+        (&[0x61, 0xD83D, 0xE9], "61 ED A0 BD C3 A9"),
+        (2, 1),
+    ),
+    (
+        Char('💩'),
+        (&[0x61, 0xD83D, 0xD83D, 0xDCA9], "61 ED A0 BD F0 9F 92 A9"),
+        (4, 1),
+    ),
+    (Units(&[0xDCA9]), (&PAIR, PAIR_DUMP), (1, 1)),
+    (Str(""), (&FRONT, FRONT_DUMP), (0, 0)),
+    (Units(&[]), (&FRONT, FRONT_DUMP), (0, 0)),
+    (View(&[]), (&FRONT, FRONT_DUMP), (0, 0)),
+    (
+        Str("aé💩"),
+        (
+            &[0x61, 0xD83D, 0x61, 0xE9, 0xD83D, 0xDCA9],
+            "61 ED A0 BD 61 C3 A9 F0 9F 92 A9",
+        ),
+        (7, 1),
+    ),
+    (
+        Units(&[0xDCA9, 0xE000, 0xE000]),
+        (
+            &[0x61, 0xD83D, 0xDCA9, 0xE000, 0xE000],
+            "61 F0 9F 92 A9 EE 80 80 EE 80 80",
+        ),
+        (7, 2),
+    ),
+    (
+        View(&[0xDCA9, 0xE9]),
+        (&[0x61, 0xD83D, 0xDCA9, 0xE9], "61 F0 9F 92 A9 C3 A9"),
+        (3, 1),
+    ),
+    (Slice(&[0xD83D, 0xDCA9], 1, 2), (&PAIR, PAIR_DUMP), (1, 1)),
+    (
+        Slice(&[0xD83D, 0xDCA9, 0xE9], 1, 3),
+        (&[0x61, 0xD83D, 0xDCA9, 0xE9], "61 F0 9F 92 A9 C3 A9"),
+        (3, 1),
+    ),
+    (
+        Slice(&[0xD83D, 0xDCA9, 0xE000, 0xD83D, 0xDCA9], 1, 4),
+        (
+            &[0x61, 0xD83D, 0xDCA9, 0xE000, 0xD83D],
+            "61 F0 9F 92 A9 EE 80 80 ED A0 BD",
+        ),
+        (7, 2),
+    ),
+    (
+        Slice(&[0xE9, 0xD83D, 0xDCA9], 0, 2),
+        (&[0x61, 0xD83D, 0xE9, 0xD83D], "61 ED A0 BD C3 A9 ED A0 BD"),
+        (5, 2),
+    ),
+    (Slice(&[0xD83D, 0xDCA9], 1, 1), (&FRONT, FRONT_DUMP), (0, 0)),
 ];
 
 /// The buffer of `FRONT` with `spare` bytes of spare capacity.
@@ -163,9 +99,14 @@ fn has_front<A: Allocator>(alloc: Global, buf: &IndexedBuf<A>) -> bool {
 }
 
 /// Whether the buffer has the units and bytes after the row's call if `is_pushed`, and else those of `FRONT`.
-fn has_row<A: Allocator>(alloc: Global, buf: &IndexedBuf<A>, row: &Row, is_pushed: bool) -> bool {
+fn has_row<A: Allocator>(
+    alloc: Global,
+    buf: &IndexedBuf<A>,
+    &(_, (units, dump), _): &Row,
+    is_pushed: bool,
+) -> bool {
     if is_pushed {
-        return has_buf(alloc, buf, row.units, row.dump);
+        return has_buf(alloc, buf, units, dump);
     }
     has_front(alloc, buf)
 }
@@ -177,51 +118,40 @@ fn is_right<A: Allocator>(
     heap: Lent<'_>,
     buf: &mut IndexedBuf<A>,
     row: &Row,
-    (is_pushed, requests): (bool, u64),
+    (is_pushed, requests): Outcome,
 ) -> bool {
-    push_to(alloc, buf, row.push).is_ok() == is_pushed
+    push_to(alloc, buf, row.0).is_ok() == is_pushed
         && heap.requests() == requests
         && has_row(alloc, buf, row, is_pushed)
 }
 
-/// How the buffer of `FRONT` is made to which a row's call appends, and which of the call's requests are refused.
-#[derive(Clone, Copy)]
-struct Setup {
-    spare: usize,
-    is_marked: bool,
-    granted: u64,
-    refusal: Refusal,
-}
+/// The spare capacity of the buffer of `FRONT` to which a row's call appends, whether it has marks, the number of the call's
+/// requests that are granted, and which are refused after them.
+type Setup = (usize, bool, u64, Refusal);
+
+/// Whether a call succeeds, and the number of its requests.
+type Outcome = (bool, u64);
 
 /// Whether the row's call does what `is_right` requires.
-fn is_right_after(
-    alloc: Global,
-    heap: Lent<'_>,
-    row: &Row,
-    setup: Setup,
-    outcome: (bool, u64),
-) -> bool {
-    let mut buf = with_spare(heap, setup.spare);
-    if setup.is_marked {
+fn is_right_after(alloc: Global, heap: Lent<'_>, row: &Row, setup: Setup, end: Outcome) -> bool {
+    let (spare, is_marked, granted, refusal) = setup;
+    let mut buf = with_spare(heap, spare);
+    if is_marked {
         heap.grant(1);
         buf.mark_units(heap);
     }
-    heap.refuse_after(setup.granted, setup.refusal);
-    is_right(alloc, heap, &mut buf, row, outcome)
+    heap.refuse_after(granted, refusal);
+    is_right(alloc, heap, &mut buf, row, end)
 }
 
 /// Whether the row's call, with every request refused, appends its units without a request if their bytes fit, and else
 /// changes nothing: at each spare capacity, up to one byte more than the row's call needs, with marks and without.
 fn is_right_in_each_room(alloc: Global, heap: Lent<'_>, row: &Row) -> bool {
-    for spare in 0..=row.growth.saturating_add(1) {
-        let is_pushed = row.growth <= spare;
+    let growth = row.2.0;
+    for spare in 0..=growth.saturating_add(1) {
+        let is_pushed = growth <= spare;
         for is_marked in [false, true] {
-            let setup = Setup {
-                spare,
-                is_marked,
-                granted: 0,
-                refusal: Refusal::ForGood,
-            };
+            let setup = (spare, is_marked, 0, Refusal::ForGood);
             if !is_right_after(alloc, heap, row, setup, (is_pushed, u64::from(!is_pushed))) {
                 return false;
             }
@@ -233,21 +163,15 @@ fn is_right_in_each_room(alloc: Global, heap: Lent<'_>, row: &Row) -> bool {
 /// Whether the row's call, without spare capacity, makes its requests if all are granted, and fails and changes nothing
 /// at each that is refused.
 fn is_each_refused(alloc: Global, heap: Lent<'_>, row: &Row) -> bool {
-    let mut setup = Setup {
-        spare: 0,
-        is_marked: false,
-        granted: 9,
-        refusal: Refusal::ForGood,
-    };
-    if !is_right_after(alloc, heap, row, setup, (true, row.requests)) {
+    let count = row.2.1;
+    let setup = (0, false, 9, Refusal::ForGood);
+    if !is_right_after(alloc, heap, row, setup, (true, count)) {
         return false;
     }
     for refusal in REFUSALS {
-        for granted in 0..row.requests {
-            setup.granted = granted;
-            setup.refusal = refusal;
-            let outcome = (false, granted.wrapping_add(1));
-            if !is_right_after(alloc, heap, row, setup, outcome) {
+        for granted in 0..count {
+            let setup = (0, false, granted, refusal);
+            if !is_right_after(alloc, heap, row, setup, (false, granted.wrapping_add(1))) {
                 return false;
             }
         }
@@ -258,6 +182,9 @@ fn is_each_refused(alloc: Global, heap: Lent<'_>, row: &Row) -> bool {
 /// The number of units of three bytes before `FRONT` in a long buffer. The unit after `FRONT` has index 256, where the
 /// second mark is, or one unit before if that index splits a pair.
 const WIDE: usize = 254;
+
+/// The allocators of a buffer's bytes and of its marks.
+type Heaps<'a> = (Lent<'a>, Lent<'a>);
 
 /// The number of bytes of the long buffer that `FRONT` ends.
 const LONG_FRONT_LEN: usize = 254 * 3 + 4;
@@ -274,8 +201,7 @@ fn after_wide(alloc: Global, units: &[u16]) -> Vec<u16> {
 /// needs, by two requests of `marks`: for the box of the marks' vector and for the mark.
 fn long_with_spare<'a>(
     alloc: Global,
-    heap: Lent<'a>,
-    marks: Lent<'a>,
+    (heap, marks): Heaps<'a>,
     spare: usize,
 ) -> IndexedBuf<Lent<'a>> {
     let mut buf = with_room(heap, spare.saturating_add(LONG_FRONT_LEN));
@@ -287,15 +213,14 @@ fn long_with_spare<'a>(
 /// Pushes "a" to the buffer of the units with all requests granted. Whether one is made for the mark that is missing,
 /// and the buffer has the units and "a".
 fn has_one_more<A: Allocator>(
-    heap: Lent<'_>,
-    marks: Lent<'_>,
+    (heap, marks): Heaps<'_>,
     buf: &mut IndexedBuf<A>,
     units: &mut Vec<u16>,
 ) -> bool {
     heap.grant(9);
     marks.grant(9);
-    buf.push_unit(0x0061).is_ok()
-        && units.push(0x0061).is_ok()
+    buf.push_unit(0x61).is_ok()
+        && units.push(0x61).is_ok()
         && marks.requests() == 1
         && buf_has_units(buf, units)
 }
@@ -303,33 +228,31 @@ fn has_one_more<A: Allocator>(
 /// Whether a long buffer that ends with `units` has all its units, and a later call adds the mark that is missing.
 fn is_ended<A: Allocator>(
     alloc: Global,
-    heap: Lent<'_>,
-    marks: Lent<'_>,
+    (heap, marks): Heaps<'_>,
     buf: &mut IndexedBuf<A>,
     units: &[u16],
 ) -> bool {
     let mut all = after_wide(alloc, units);
-    buf_has_units(buf, &all) && has_one_more(heap, marks, buf, &mut all)
+    buf_has_units(buf, &all) && has_one_more((heap, marks), buf, &mut all)
 }
 
 /// Makes the row's call with every request refused. If its bytes fit, whether it appends its units, though a mark is
 /// refused. Else whether it changes nothing and asks for no mark. A later call has to add the mark that is then missing.
 fn is_unmarked<A: Allocator>(
     alloc: Global,
-    heap: Lent<'_>,
-    marks: Lent<'_>,
+    (heap, marks): Heaps<'_>,
     buf: &mut IndexedBuf<A>,
-    row: &Row,
+    &(push, (units, _), (growth, _)): &Row,
     is_fitting: bool,
 ) -> bool {
-    let is_pushed = push_to(alloc, buf, row.push).is_ok();
-    let growth = if is_fitting { row.growth } else { 0 };
-    let units = if is_fitting { row.units } else { &FRONT };
+    let is_pushed = push_to(alloc, buf, push).is_ok();
+    let growth = if is_fitting { growth } else { 0 };
+    let units = if is_fitting { units } else { &FRONT };
     is_pushed == is_fitting
         && (heap.requests() == 0) == is_fitting
         && marks.requests() == u64::from(growth > 0)
         && buf.as_wtf8().len() == LONG_FRONT_LEN.saturating_add(growth)
-        && is_ended(alloc, heap, marks, buf, units)
+        && is_ended(alloc, (heap, marks), buf, units)
 }
 
 /// Whether the row's call does what `is_unmarked` requires on a long buffer with marks and `spare` bytes of spare
@@ -337,10 +260,10 @@ fn is_unmarked<A: Allocator>(
 fn is_right_on_long(alloc: Global, row: &Row, spare: usize) -> bool {
     let heap = Refusing::new(alloc, 1);
     let marks = Refusing::new(alloc, 2);
-    let mut buf = long_with_spare(alloc, &heap, &marks, spare);
+    let mut buf = long_with_spare(alloc, (&heap, &marks), spare);
     heap.grant(0);
     marks.grant(0);
-    is_unmarked(alloc, &heap, &marks, &mut buf, row, row.growth <= spare)
+    is_unmarked(alloc, (&heap, &marks), &mut buf, row, row.2.0 <= spare)
 }
 
 /// What is required of each row's call.
@@ -358,11 +281,12 @@ enum Check {
 
 /// Whether the row's call does what `check` requires.
 fn is_checked(alloc: Global, heap: Lent<'_>, row: &Row, check: Check) -> bool {
+    let growth = row.2.0;
     match check {
         Check::Room => is_right_in_each_room(alloc, heap, row),
         Check::Refusals => is_each_refused(alloc, heap, row),
-        Check::Marks => is_right_on_long(alloc, row, row.growth),
-        Check::TooLong => is_right_on_long(alloc, row, row.growth.saturating_sub(1)),
+        Check::Marks => is_right_on_long(alloc, row, growth),
+        Check::TooLong => is_right_on_long(alloc, row, growth.saturating_sub(1)),
     }
 }
 
@@ -403,8 +327,7 @@ const LONG_LEN: usize = 254 * 3 + 5;
 /// Releases the spare capacity of the long buffer of `PAIR`, which is 100 bytes. Whether that makes a request for the
 /// bytes and one for the marks, and the capacity is the length if `is_granted` and else as before.
 fn is_shrunk<A: Allocator>(
-    heap: Lent<'_>,
-    marks: Lent<'_>,
+    (heap, marks): Heaps<'_>,
     buf: &mut IndexedBuf<A>,
     is_granted: bool,
 ) -> bool {
@@ -417,8 +340,7 @@ fn is_shrunk<A: Allocator>(
 /// third mark, with each request for a mark refused. Whether the last push alone makes one, if `is_full`: else the list
 /// of marks has room.
 fn has_next_mark<A: Allocator>(
-    heap: Lent<'_>,
-    marks: Lent<'_>,
+    (heap, marks): Heaps<'_>,
     buf: &mut IndexedBuf<A>,
     is_full: bool,
 ) -> bool {
@@ -429,7 +351,7 @@ fn has_next_mark<A: Allocator>(
 }
 
 /// Empties a buffer. Whether it then releases all its memory without a request.
-fn is_released<A: Allocator>(heap: Lent<'_>, marks: Lent<'_>, buf: &mut IndexedBuf<A>) -> bool {
+fn is_released<A: Allocator>((heap, marks): Heaps<'_>, buf: &mut IndexedBuf<A>) -> bool {
     heap.grant(0);
     marks.grant(0);
     buf.clear();
@@ -440,18 +362,17 @@ fn is_released<A: Allocator>(heap: Lent<'_>, marks: Lent<'_>, buf: &mut IndexedB
 /// Whether a long buffer has its units after its spare capacity is released, and after each push that follows, and
 /// releases all its memory once it is emptied. `units` are its units.
 fn is_right_shrunk<A: Allocator>(
-    heap: Lent<'_>,
-    marks: Lent<'_>,
+    (heap, marks): Heaps<'_>,
     buf: &mut IndexedBuf<A>,
     (is_granted, is_full): (bool, bool),
     units: &mut Vec<u16>,
 ) -> bool {
-    is_shrunk(heap, marks, buf, is_granted)
+    is_shrunk((heap, marks), buf, is_granted)
         && buf_has_units(buf, units)
-        && has_next_mark(heap, marks, buf, is_full)
+        && has_next_mark((heap, marks), buf, is_full)
         && units.resize(WIDE + 131, 0x3042).is_ok()
         && buf_has_units(buf, units)
-        && is_released(heap, marks, buf)
+        && is_released((heap, marks), buf)
 }
 
 /// Whether `shrink_to_fit` of the long buffer of `PAIR`, with 100 bytes of spare capacity and with its two marks in a
@@ -459,13 +380,13 @@ fn is_right_shrunk<A: Allocator>(
 fn is_each_shrunk(alloc: Global, granted: (bool, bool), refusal: Refusal) -> bool {
     let heap = Refusing::new(alloc, 1);
     let marks = Refusing::new(alloc, 2);
-    let mut buf = long_with_spare(alloc, &heap, &marks, 101);
+    let mut buf = long_with_spare(alloc, (&heap, &marks), 101);
     marks.grant(1);
     push_each(&mut buf, &[0xDCA9]);
     heap.refuse_after(u64::from(granted.0), refusal);
     marks.refuse_after(u64::from(granted.1), refusal);
     let mut units = after_wide(alloc, &PAIR);
-    is_right_shrunk(&heap, &marks, &mut buf, granted, &mut units)
+    is_right_shrunk((&heap, &marks), &mut buf, granted, &mut units)
 }
 
 #[test]
@@ -528,20 +449,19 @@ static MAKES: [(Make, u64); 8] = [
     (Make::Units(&[0xE000; 17]), 1),
     (
         Make::Units(&[
-            0x0061, 0x0061, 0x0061, 0x0061, 0x0061, 0x0061, 0x0061, 0x0061, 0x0061, 0x0061, 0x0061,
-            0x0061, 0x0061, 0x0061, 0x0061, 0x0061, 0x0061, 0x0061, 0x0061, 0x0061, 0x0061, 0x0061,
-            0x0061, 0x0061, 0x0061, 0x0061, 0x0061, 0x0061, 0x0061, 0x0061, 0x0061, 0x0061, 0xE000,
+            0x61, 0x61, 0x61, 0x61, 0x61, 0x61, 0x61, 0x61, 0x61, 0x61, 0x61, 0x61, 0x61, 0x61,
+            0x61, 0x61, 0x61, 0x61, 0x61, 0x61, 0x61, 0x61, 0x61, 0x61, 0x61, 0x61, 0x61, 0x61,
+            0x61, 0x61, 0x61, 0x61, 0xE000,
         ]),
         1,
     ),
     (
         Make::Units(&[
-            0x0061, 0x0061, 0x0061, 0x0061, 0x0061, 0x0061, 0x0061, 0x0061, 0x0061, 0x0061, 0x0061,
-            0x0061, 0x0061, 0x0061, 0x0061, 0x0061, 0x0061, 0x0061, 0x0061, 0x0061, 0x0061, 0x0061,
-            0x0061, 0x0061, 0x0061, 0x0061, 0x0061, 0x0061, 0x0061, 0x0061, 0x0061, 0x0061, 0x0061,
-            0x0061, 0x0061, 0x0061, 0x0061, 0x0061, 0x0061, 0x0061, 0x0061, 0x0061, 0x0061, 0x0061,
-            0x0061, 0x0061, 0x0061, 0x0061, 0x0061, 0x0061, 0x0061, 0x0061, 0x0061, 0x0061, 0x0061,
-            0x0061, 0x0061, 0x0061, 0x0061, 0x0061, 0x0061, 0x0061, 0x0061, 0x0061, 0xE000,
+            0x61, 0x61, 0x61, 0x61, 0x61, 0x61, 0x61, 0x61, 0x61, 0x61, 0x61, 0x61, 0x61, 0x61,
+            0x61, 0x61, 0x61, 0x61, 0x61, 0x61, 0x61, 0x61, 0x61, 0x61, 0x61, 0x61, 0x61, 0x61,
+            0x61, 0x61, 0x61, 0x61, 0x61, 0x61, 0x61, 0x61, 0x61, 0x61, 0x61, 0x61, 0x61, 0x61,
+            0x61, 0x61, 0x61, 0x61, 0x61, 0x61, 0x61, 0x61, 0x61, 0x61, 0x61, 0x61, 0x61, 0x61,
+            0x61, 0x61, 0x61, 0x61, 0x61, 0x61, 0x61, 0x61, 0xE000,
         ]),
         2,
     ),
@@ -566,7 +486,7 @@ fn is_make<'a>(
     heap: Lent<'a>,
     other: &IndexedBuf<Lent<'a>>,
     make: Make,
-    (is_made, requests): (bool, u64),
+    (is_made, requests): Outcome,
 ) -> bool {
     make_buf(heap, other, make).is_ok() == is_made && heap.requests() == requests
 }
@@ -591,16 +511,12 @@ fn is_each_made<'a>(heap: Lent<'a>, other: &IndexedBuf<Lent<'a>>) -> bool {
     true
 }
 
-/// Whether `is_each_made` holds with the buffer of `FRONT`, which the calls leave as it was.
-fn is_front_kept(alloc: Global) -> bool {
-    let heap = Refusing::new(alloc, 9);
-    let other = with_spare(&heap, 0);
-    is_each_made(&heap, &other) && has_front(alloc, &other)
-}
-
 #[test]
 fn a_buffer_is_made_of_the_memory_that_it_needs(rt: HostRuntime) {
-    assert!(rt; is_front_kept(rt.alloc()));
+    let alloc = rt.alloc();
+    let heap = Refusing::new(alloc, 9);
+    let other = with_spare(&heap, 0);
+    assert!(rt; is_each_made(&heap, &other) && has_front(alloc, &other));
 }
 
 /// Reserves `additional` bytes in the buffer of `FRONT`, which has two bytes of spare capacity. Whether that succeeds
@@ -610,7 +526,7 @@ fn is_reserve<A: Allocator>(
     heap: Lent<'_>,
     buf: &mut IndexedBuf<A>,
     additional: usize,
-    (is_reserved, requests): (bool, u64),
+    (is_reserved, requests): Outcome,
 ) -> bool {
     let is_ok = buf.reserve(additional).is_ok();
     let most = if is_ok { additional.max(2) } else { 2 };
@@ -621,29 +537,23 @@ fn is_reserve<A: Allocator>(
 }
 
 /// Whether `is_reserve` holds with `granted` requests granted.
-fn is_right_reserve(
-    alloc: Global,
-    (additional, granted): (usize, u64),
-    outcome: (bool, u64),
-) -> bool {
+fn is_right_reserve(alloc: Global, (additional, granted): (usize, u64), outcome: Outcome) -> bool {
     let heap = Refusing::new(alloc, 1);
     let mut buf = with_spare(&heap, 2);
     heap.grant(granted);
     is_reserve(alloc, &heap, &mut buf, additional, outcome)
 }
 
-/// Whether reserves within the spare capacity make no request, and others one.
-fn is_reserved_once(alloc: Global) -> bool {
-    is_right_reserve(alloc, (0, 0), (true, 0))
-        && is_right_reserve(alloc, (2, 0), (true, 0))
-        && is_right_reserve(alloc, (3, 0), (false, 1))
-        && is_right_reserve(alloc, (3, 1), (true, 1))
-        && is_right_reserve(alloc, (300, 1), (true, 1))
-}
-
 #[test]
 fn spare_capacity_is_reserved_once(rt: HostRuntime) {
-    assert!(rt; is_reserved_once(rt.alloc()));
+    let alloc = rt.alloc();
+    assert!(rt;
+        is_right_reserve(alloc, (0, 0), (true, 0))
+            && is_right_reserve(alloc, (2, 0), (true, 0))
+            && is_right_reserve(alloc, (3, 0), (false, 1))
+            && is_right_reserve(alloc, (3, 1), (true, 1))
+            && is_right_reserve(alloc, (300, 1), (true, 1))
+    );
 }
 
 /// Cuts the buffer of `PAIR` inside the pair and empties it. Whether it has the right bytes before and after each call.
@@ -669,51 +579,32 @@ fn is_new_empty<A: Allocator + Drop>(alloc: Global, heap: A) -> bool {
     has_bytes(alloc, empty.as_wtf8(), "")
 }
 
-/// Whether calls that append nothing make no request.
-fn is_unasked(alloc: Global) -> bool {
+#[test]
+fn calls_that_append_nothing_make_no_request(rt: HostRuntime) {
+    let alloc = rt.alloc();
     let heap = Refusing::new(alloc, 9);
     let buf = buf_of(&heap, &PAIR);
     heap.grant(0);
-    is_made_again(alloc, buf) && is_new_empty(alloc, &heap) && heap.requests() == 0
-}
-
-#[test]
-fn calls_that_append_nothing_make_no_request(rt: HostRuntime) {
-    assert!(rt; is_unasked(rt.alloc()));
+    assert!(rt; is_made_again(alloc, buf) && is_new_empty(alloc, &heap) && heap.requests() == 0);
 }
 
 /// A copy of a text.
-static COPY: [Made; 1] = [Made {
-    units: &[0x0061, 0xD83D],
-    text: FRONT_DUMP,
-    make: MakeText::Clone,
-    dump: FRONT_DUMP,
-    requests: 1,
-    bytes: 4,
-}];
+static COPY: [Made; 1] = [((&FRONT, FRONT_DUMP), MakeText::Clone, (FRONT_DUMP, 1, 4))];
 
 /// Units pushed to a text with a capacity of eight bytes, which need more than twice that, and no units.
 static PUSHED: [Appended; 2] = [
-    Appended {
-        units: &[0x0061, 0xD83D],
-        dump: FRONT_DUMP,
-        append: Append::Units(&[0xE000; 6]),
-        unit_len: 8,
-        front: 3,
-        front_dump: "61 ED A0 BD EE 80 80",
-        requests: 1,
-        bytes: 22,
-    },
-    Appended {
-        units: &[0x0061, 0xD83D],
-        dump: FRONT_DUMP,
-        append: Append::Units(&[]),
-        unit_len: 2,
-        front: 2,
-        front_dump: FRONT_DUMP,
-        requests: 0,
-        bytes: 0,
-    },
+    (
+        (&FRONT, FRONT_DUMP),
+        Append::Units(&[0xE000; 6]),
+        (8, 3, "61 ED A0 BD EE 80 80"),
+        (1, 22),
+    ),
+    (
+        (&FRONT, FRONT_DUMP),
+        Append::Units(&[]),
+        (2, 2, FRONT_DUMP),
+        (0, 0),
+    ),
 ];
 
 #[test]

@@ -3,29 +3,10 @@ use crate::shared::{slice_of, text_of};
 use refusing::{Lent, Refusing};
 use std::alloc::Global;
 use unit_text::UnitText;
-
-/// Eight units that repeat in a text: of one kind alone, or mixed.
-static KINDS: [[u16; 8]; 5] = [
-    [0x0061; 8],
-    [0x3042; 8],
-    [0xDCA9; 8],
-    [
-        0xD83D, 0xDCA9, 0xD83D, 0xDCA9, 0xD83D, 0xDCA9, 0xD83D, 0xDCA9,
-    ],
-    [
-        0x0061, 0x00E9, 0x3042, 0xD83D, 0xDCA9, 0xDCA9, 0x0020, 0xD83D,
-    ],
-];
+use wtf8_tests::room::{ABOUT_POWERS, KINDS, NO_ROOM, Room};
 
 /// Lengths in units to try besides each length from 0 to 300.
 static LONG: [usize; 4] = [1000, 5000, 20_000, 70_000];
-
-/// A unit, and lengths in units at which a text of it has about 4,096 or 65,536 bytes.
-static ABOUT_POWERS: [(u16, &[usize]); 3] = [
-    (0x0061, &[4095, 4096, 4097, 65_535, 65_536, 65_537]),
-    (0x00E9, &[2047, 2048, 2049, 32_767, 32_768, 32_769]),
-    (0x3042, &[1365, 1366, 21_845, 21_846]),
-];
 
 /// `length` units that repeat `kind`; fewer if memory is refused.
 fn units_of(alloc: Global, kind: &[u16; 8], length: usize) -> Vec<u16> {
@@ -34,29 +15,6 @@ fn units_of(alloc: Global, kind: &[u16; 8], length: usize) -> Vec<u16> {
         let _ = units.push(kind[at % 8]);
     }
     units
-}
-
-/// A model of the memory of a growing text: its length and capacity in bytes, and the number of requests and of the
-/// bytes in them. It grows to the greatest of eight bytes, twice its capacity and what is needed.
-#[derive(Clone, Copy)]
-struct Room {
-    len: usize,
-    capacity: usize,
-    requests: u64,
-    bytes: usize,
-}
-
-impl Room {
-    /// Appends `count` bytes at once.
-    fn append(&mut self, count: usize) {
-        self.len = self.len.wrapping_add(count);
-        if self.len <= self.capacity {
-            return;
-        }
-        self.capacity = self.capacity.saturating_mul(2).max(self.len).max(8);
-        self.requests = self.requests.wrapping_add(1);
-        self.bytes = self.bytes.wrapping_add(self.capacity);
-    }
 }
 
 /// The number of bytes of a lone surrogate, 3, if unit index `index` splits a surrogate pair, else 0.
@@ -72,12 +30,7 @@ fn half_at(kind: &[u16; 8], length: usize, index: usize) -> usize {
 
 /// The memory that a slice of `len` bytes requests: for a split-off trail, for whole code points, and for a lead.
 fn room_between(kind: &[u16; 8], length: usize, begin: usize, end: usize, len: usize) -> Room {
-    let mut room = Room {
-        len: 0,
-        capacity: 0,
-        requests: 0,
-        bytes: 0,
-    };
+    let mut room = NO_ROOM;
     if begin == end {
         return room;
     }

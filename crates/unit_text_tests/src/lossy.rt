@@ -6,44 +6,29 @@ use std::alloc::Global;
 use unit_text::IndexedBuf;
 
 /// Bytes, their units, the number of bytes before an unfinished code point at the end, and the units of these bytes.
-struct Row {
-    bytes: &'static [u8],
-    units: &'static [u16],
-    used: usize,
-    part: &'static [u16],
-}
+type Row = (&'static [u8], &'static [u16], usize, &'static [u16]);
 
 static ROWS: [Row; 5] = [
-    Row {
-        bytes: b"\xFF",
-        units: &[0xFFFD],
-        used: 1,
-        part: &[0xFFFD],
-    },
-    Row {
-        bytes: b"a\xE4\xB8\xAD\xF0\x9F\x92b\xF0\x9F\x92\xA9",
-        units: &[0x0061, 0x4E2D, 0xFFFD, 0x0062, 0xD83D, 0xDCA9],
-        used: 12,
-        part: &[0x0061, 0x4E2D, 0xFFFD, 0x0062, 0xD83D, 0xDCA9],
-    },
-    Row {
-        bytes: b"\xC3\xA9\xED\xA0\x80",
-        units: &[0x00E9, 0xFFFD, 0xFFFD, 0xFFFD],
-        used: 5,
-        part: &[0x00E9, 0xFFFD, 0xFFFD, 0xFFFD],
-    },
-    Row {
-        bytes: b"abc\xE2\x82",
-        units: &[0x0061, 0x0062, 0x0063, 0xFFFD],
-        used: 3,
-        part: &[0x0061, 0x0062, 0x0063],
-    },
-    Row {
-        bytes: b"\xF0\x9F\x92",
-        units: &[0xFFFD],
-        used: 0,
-        part: &[],
-    },
+    (b"\xFF", &[0xFFFD], 1, &[0xFFFD]),
+    (
+        b"a\xE4\xB8\xAD\xF0\x9F\x92b\xF0\x9F\x92\xA9",
+        &[0x61, 0x4E2D, 0xFFFD, 0x62, 0xD83D, 0xDCA9],
+        12,
+        &[0x61, 0x4E2D, 0xFFFD, 0x62, 0xD83D, 0xDCA9],
+    ),
+    (
+        b"\xC3\xA9\xED\xA0\x80",
+        &[0xE9, 0xFFFD, 0xFFFD, 0xFFFD],
+        5,
+        &[0xE9, 0xFFFD, 0xFFFD, 0xFFFD],
+    ),
+    (
+        b"abc\xE2\x82",
+        &[0x61, 0x62, 0x63, 0xFFFD],
+        3,
+        &[0x61, 0x62, 0x63],
+    ),
+    (b"\xF0\x9F\x92", &[0xFFFD], 0, &[]),
 ];
 
 /// How often the bytes are appended, so that units are found by marks.
@@ -59,27 +44,27 @@ fn repeated(alloc: Global, units: &[u16]) -> Vec<u16> {
 }
 
 /// Whether the buffer has the units of all bytes that were appended.
-fn is_whole(alloc: Global, row: &Row) -> bool {
+fn is_whole(alloc: Global, &(bytes, units, ..): &Row) -> bool {
     let mut buf = IndexedBuf::new(alloc);
     buf.mark_units(alloc);
     for _ in 0..TIMES {
-        if buf.push_utf8_lossy(row.bytes).is_err() {
+        if buf.push_utf8_lossy(bytes).is_err() {
             return false;
         }
     }
-    buf_has_units(&buf, &repeated(alloc, row.units))
+    buf_has_units(&buf, &repeated(alloc, units))
 }
 
 /// The same of all bytes but the unfinished ones.
-fn is_part(alloc: Global, row: &Row) -> bool {
+fn is_part(alloc: Global, &(bytes, _, used, part): &Row) -> bool {
     let mut buf = IndexedBuf::new(alloc);
     buf.mark_units(alloc);
     for _ in 0..TIMES {
-        if buf.push_utf8_lossy_part(row.bytes) != Ok(row.used) {
+        if buf.push_utf8_lossy_part(bytes) != Ok(used) {
             return false;
         }
     }
-    buf_has_units(&buf, &repeated(alloc, row.part))
+    buf_has_units(&buf, &repeated(alloc, part))
 }
 
 #[test]

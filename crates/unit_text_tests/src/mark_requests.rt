@@ -94,8 +94,9 @@ fn a_growing_text_asks_for_room_for_marks(rt: HostRuntime) {
     }
 }
 
-/// Grows a text for whose marks a box was refused. Whether that requests nothing for marks, though it would be granted.
-fn is_grown_without_marks(alloc: Global) -> bool {
+#[test]
+fn a_text_whose_box_of_marks_was_refused_asks_for_none(rt: HostRuntime) {
+    let alloc = rt.alloc();
     let heap = Refusing::new(alloc, u64::MAX);
     let marks = Refusing::new(alloc, 0);
     let mut text = UnitText::new(&heap);
@@ -103,10 +104,5 @@ fn is_grown_without_marks(alloc: Global) -> bool {
     let is_refused = marks.requests() == 1;
     marks.grant(u64::MAX);
     push_units(&mut text, 129, false);
-    is_refused && text.unit_len() == 129 && marks.requests() == 0
-}
-
-#[test]
-fn a_text_whose_box_of_marks_was_refused_asks_for_none(rt: HostRuntime) {
-    assert!(rt; is_grown_without_marks(rt.alloc()));
+    assert!(rt; is_refused && text.unit_len() == 129 && marks.requests() == 0);
 }

@@ -1,4 +1,5 @@
 // Requests for memory of calls on a text: their number, the bytes in them, and what a refused one leaves.
+use crate::memory::MakeText::{FromUnits, Slice};
 use crate::shared::{has_bytes, has_text, slice_of, text_of};
 use refusing::{Lent, REFUSALS, Refusal, Refusing};
 use std::alloc::{AllocError, Allocator, Global};
@@ -15,18 +16,13 @@ pub enum MakeText {
     Clone,
 }
 
-/// A call on the text of `units`, which has the bytes of `text`, that makes a text of the bytes of `dump`.
-#[derive(Clone, Copy)]
-pub struct Made {
-    pub units: &'static [u16],
-    pub text: &'static str,
-    pub make: MakeText,
-    pub dump: &'static str,
-    /// The number of requests, and of the bytes in them. A growth is to the greatest of eight bytes, twice the capacity
-    /// and what is needed.
-    pub requests: u64,
-    pub bytes: usize,
-}
+/// The units of a text and its bytes, a call on it that makes a text, and of that the bytes, the number of requests, and the
+/// number of bytes in them. A growth is to the greatest of eight bytes, twice the capacity and what is needed.
+pub type Made = (
+    (&'static [u16], &'static str),
+    MakeText,
+    (&'static str, u64, usize),
+);
 
 /// Makes the call. Fails too if a `Slice` has no range of the text's units.
 fn make<A: Allocator + Clone + Drop>(
@@ -43,11 +39,15 @@ fn make<A: Allocator + Clone + Drop>(
 }
 
 /// Refuses each request of the row's call in turn. Whether the call fails and makes no more requests.
-fn is_unmade<'a>(heap: Lent<'a>, text: &UnitText<Lent<'a>>, row: Made) -> bool {
+fn is_unmade<'a>(
+    heap: Lent<'a>,
+    text: &UnitText<Lent<'a>>,
+    (_, call, (_, requests, _)): Made,
+) -> bool {
     for refusal in REFUSALS {
-        for granted in 0..row.requests {
+        for granted in 0..requests {
             heap.refuse_after(granted, refusal);
-            if make(heap, text, row.make).is_ok() || heap.requests() != granted.wrapping_add(1) {
+            if make(heap, text, call).is_ok() || heap.requests() != granted.wrapping_add(1) {
                 return false;
             }
         }
@@ -60,13 +60,13 @@ fn is_made<'a>(
     alloc: Global,
     heap: Lent<'a>,
     made: Result<UnitText<Lent<'a>>, AllocError>,
-    row: Made,
+    (_, _, (dump, requests, bytes)): Made,
 ) -> bool {
     match made {
         Ok(made) => {
-            heap.requests() == row.requests
-                && heap.bytes() == row.bytes
-                && has_bytes(alloc, made.as_wtf8(), row.dump)
+            heap.requests() == requests
+                && heap.bytes() == bytes
+                && has_bytes(alloc, made.as_wtf8(), dump)
         }
         Err(_) => false,
     }
@@ -75,17 +75,18 @@ fn is_made<'a>(
 /// Whether the row's call fails at each of its requests that is refused, makes its text if `grants` requests are
 /// granted, and leaves the text of its units as it was.
 fn is_right_make(alloc: Global, row: Made, grants: u64) -> bool {
+    let ((units, bytes), call, _) = row;
     let heap = Refusing::new(alloc, 9);
-    let text = text_of(&heap, row.units);
+    let text = text_of(&heap, units);
     let is_refused = is_unmade(&heap, &text, row);
     heap.grant(grants);
-    let made = make(&heap, &text, row.make);
-    is_made(alloc, &heap, made, row) && is_refused && has_text(alloc, &text, row.units, row.text)
+    let made = make(&heap, &text, call);
+    is_made(alloc, &heap, made, row) && is_refused && has_text(alloc, &text, units, bytes)
 }
 
 /// Whether `is_right_make` holds with just the requests granted that the row's call makes, and with more.
 pub fn is_right(alloc: Global, row: Made) -> bool {
-    is_right_make(alloc, row, row.requests) && is_right_make(alloc, row, 9)
+    is_right_make(alloc, row, row.2.1) && is_right_make(alloc, row, 9)
 }
 
 /// Whether `is_right` holds of each row.
@@ -98,24 +99,13 @@ pub fn are_right(alloc: Global, rows: &[Made]) -> bool {
     true
 }
 
+/// The bytes of six times U+E000.
+const SIX_DUMP: &str = "EE 80 80 EE 80 80 EE 80 80 EE 80 80 EE 80 80 EE 80 80";
+
 /// No units, and no slice of them.
 static NO_UNITS: [Made; 2] = [
-    Made {
-        units: &[],
-        text: "",
-        make: MakeText::FromUnits(&[]),
-        dump: "",
-        requests: 0,
-        bytes: 0,
-    },
-    Made {
-        units: &[],
-        text: "",
-        make: MakeText::Slice(0, 0),
-        dump: "",
-        requests: 0,
-        bytes: 0,
-    },
+    ((&[], ""), FromUnits(&[]), ("", 0, 0)),
+    ((&[], ""), Slice(0, 0), ("", 0, 0)),
 ];
 
 #[test]
@@ -124,14 +114,7 @@ fn no_units_ask_for_no_memory(rt: HostRuntime) {
 }
 
 /// The empty slice inside a pair.
-static EMPTY_SLICE: Made = Made {
-    units: &[0xD83D, 0xDCA9],
-    text: "F0 9F 92 A9",
-    make: MakeText::Slice(1, 1),
-    dump: "",
-    requests: 0,
-    bytes: 0,
-};
+static EMPTY_SLICE: Made = ((&[0xD83D, 0xDCA9], "F0 9F 92 A9"), Slice(1, 1), ("", 0, 0));
 
 #[test]
 fn an_empty_slice_asks_for_no_memory(rt: HostRuntime) {
@@ -140,93 +123,55 @@ fn an_empty_slice_asks_for_no_memory(rt: HostRuntime) {
 
 /// Slices of units of three bytes, and slices that split surrogate pairs.
 static SLICES: [Made; 7] = [
-    Made {
-        units: &[0xE000; 6],
-        text: "EE 80 80 EE 80 80 EE 80 80 EE 80 80 EE 80 80 EE 80 80",
-        make: MakeText::Slice(0, 6),
-        dump: "EE 80 80 EE 80 80 EE 80 80 EE 80 80 EE 80 80 EE 80 80",
-        requests: 1,
-        bytes: 18,
-    },
-    Made {
-        units: &[0xE000; 6],
-        text: "EE 80 80 EE 80 80 EE 80 80 EE 80 80 EE 80 80 EE 80 80",
-        make: MakeText::Slice(3, 6),
-        dump: "EE 80 80 EE 80 80 EE 80 80",
-        requests: 1,
-        bytes: 9,
-    },
-    Made {
-        units: &[0xE000; 6],
-        text: "EE 80 80 EE 80 80 EE 80 80 EE 80 80 EE 80 80 EE 80 80",
-        make: MakeText::Slice(2, 3),
-        dump: "EE 80 80",
-        requests: 1,
-        bytes: 8,
-    },
-    Made {
-        units: &[0xE000; 6],
-        text: "EE 80 80 EE 80 80 EE 80 80 EE 80 80 EE 80 80 EE 80 80",
-        make: MakeText::Slice(3, 3),
-        dump: "",
-        requests: 0,
-        bytes: 0,
-    },
-    Made {
-        units: &[0xD83D, 0xDCA9],
-        text: "F0 9F 92 A9",
-        make: MakeText::Slice(1, 2),
-        dump: "ED B2 A9",
-        requests: 1,
-        bytes: 8,
-    },
-    Made {
-        units: &[0xD83D, 0xDCA9, 0xD83D, 0xDCA9],
-        text: "F0 9F 92 A9 F0 9F 92 A9",
-        make: MakeText::Slice(1, 3),
-        dump: "ED B2 A9 ED A0 BD",
-        requests: 1,
-        bytes: 8,
-    },
-    Made {
-        units: &[
-            0xD83D, 0xDCA9, 0xD83D, 0xDCA9, 0xD83D, 0xDCA9, 0xD83D, 0xDCA9,
-        ],
-        text: "F0 9F 92 A9 F0 9F 92 A9 F0 9F 92 A9 F0 9F 92 A9",
-        make: MakeText::Slice(1, 7),
-        dump: "ED B2 A9 F0 9F 92 A9 F0 9F 92 A9 ED A0 BD",
-        requests: 2,
-        bytes: 8 + 16,
-    },
+    ((&[0xE000; 6], SIX_DUMP), Slice(0, 6), (SIX_DUMP, 1, 18)),
+    (
+        (&[0xE000; 6], SIX_DUMP),
+        Slice(3, 6),
+        ("EE 80 80 EE 80 80 EE 80 80", 1, 9),
+    ),
+    ((&[0xE000; 6], SIX_DUMP), Slice(2, 3), ("EE 80 80", 1, 8)),
+    ((&[0xE000; 6], SIX_DUMP), Slice(3, 3), ("", 0, 0)),
+    (
+        (&[0xD83D, 0xDCA9], "F0 9F 92 A9"),
+        Slice(1, 2),
+        ("ED B2 A9", 1, 8),
+    ),
+    (
+        (&[0xD83D, 0xDCA9, 0xD83D, 0xDCA9], "F0 9F 92 A9 F0 9F 92 A9"),
+        Slice(1, 3),
+        ("ED B2 A9 ED A0 BD", 1, 8),
+    ),
+    (
+        (
+            &[
+                0xD83D, 0xDCA9, 0xD83D, 0xDCA9, 0xD83D, 0xDCA9, 0xD83D, 0xDCA9,
+            ],
+            "F0 9F 92 A9 F0 9F 92 A9 F0 9F 92 A9 F0 9F 92 A9",
+        ),
+        Slice(1, 7),
+        ("ED B2 A9 F0 9F 92 A9 F0 9F 92 A9 ED A0 BD", 2, 8 + 16),
+    ),
 ];
 
 #[test]
 fn a_slice_asks_for_what_it_needs(rt: HostRuntime) {
-    let mut index = 0usize;
-    for row in &SLICES {
-        assert!(rt; is_right(rt.alloc(), *row), "row {index}");
-        index = index.wrapping_add(1);
+    for index in 0..SLICES.len() {
+        assert!(rt; is_right(rt.alloc(), SLICES[index]), "row {index}");
     }
 }
 
 /// Texts of units, whose bytes are requested at once.
 static TEXTS: [Made; 2] = [
-    Made {
-        units: &[],
-        text: "",
-        make: MakeText::FromUnits(&[0xE000; 6]),
-        dump: "EE 80 80 EE 80 80 EE 80 80 EE 80 80 EE 80 80 EE 80 80",
-        requests: 1,
-        bytes: 18,
-    },
-    Made {
-        units: &[],
-        text: "",
-        make: MakeText::FromUnits(&[0xE000; 17]),
-        dump: "EE 80 80 EE 80 80 EE 80 80 EE 80 80 EE 80 80 EE 80 80 EE 80 80 EE 80 80 EE 80 80 EE 80 80 EE 80 80 EE 80 80 EE 80 80 EE 80 80 EE 80 80 EE 80 80 EE 80 80",
-        requests: 1,
-        bytes: 51,
-    },
+    ((&[], ""), FromUnits(&[0xE000; 6]), (SIX_DUMP, 1, 18)),
+    (
+        (&[], ""),
+        FromUnits(&[0xE000; 17]),
+        (
+            "EE 80 80 EE 80 80 EE 80 80 EE 80 80 EE 80 80 EE 80 80 EE 80 80 EE 80 80 EE 80 80 EE 80 80 EE 80 80 EE 80 80 EE 80 80 EE 80 80 EE 80 80 EE 80 80 EE 80 80",
+            1,
+            51,
+        ),
+    ),
 ];
 
 #[test]
@@ -245,20 +190,14 @@ pub enum Append {
     Concat(&'static [u16]),
 }
 
-/// A call that appends to the text of `units`, which has the bytes of `dump`.
-#[derive(Clone, Copy)]
-pub struct Appended {
-    pub units: &'static [u16],
-    pub dump: &'static str,
-    pub append: Append,
-    /// The number of units after the call, and the bytes of the first `front` of them.
-    pub unit_len: usize,
-    pub front: usize,
-    pub front_dump: &'static str,
-    /// The number of requests, and of the bytes in them.
-    pub requests: u64,
-    pub bytes: usize,
-}
+/// The units of a text and its bytes, and a call that appends to it; after it the number of units, a number of units at the
+/// front, and their bytes; and the number of requests, and of the bytes in them.
+pub type Appended = (
+    (&'static [u16], &'static str),
+    Append,
+    (usize, usize, &'static str),
+    (u64, usize),
+);
 
 /// The units of the text that the call appends, if it does.
 fn piece_of(append: Append) -> &'static [u16] {
@@ -283,22 +222,30 @@ fn append_to<A: Allocator>(
 }
 
 /// Whether the text has the units and the bytes that the row's call leaves.
-fn is_end<'a>(alloc: Global, heap: Lent<'a>, text: &UnitText<Lent<'a>>, row: Appended) -> bool {
+fn is_end<'a>(
+    alloc: Global,
+    heap: Lent<'a>,
+    text: &UnitText<Lent<'a>>,
+    (_, _, (unit_len, n, dump), _): Appended,
+) -> bool {
     heap.grant(9);
-    match slice_of(heap, text, 0, row.front) {
-        Ok(front) => {
-            text.unit_len() == row.unit_len && has_bytes(alloc, front.as_wtf8(), row.front_dump)
-        }
+    match slice_of(heap, text, 0, n) {
+        Ok(front) => { text.unit_len() == unit_len && has_bytes(alloc, front.as_wtf8(), dump) }
         Err(_) => false,
     }
 }
 
 /// Whether the row's call, after `granted` requests, made all of its own if `is_granted`, and else one more than these.
-fn is_counted(heap: Lent<'_>, row: Appended, granted: u64, is_granted: bool) -> bool {
+fn is_counted(
+    heap: Lent<'_>,
+    (_, _, _, (requests, bytes)): Appended,
+    granted: u64,
+    is_granted: bool,
+) -> bool {
     if is_granted {
-        return heap.requests() == row.requests && heap.bytes() == row.bytes;
+        return heap.requests() == requests && heap.bytes() == bytes;
     }
-    heap.requests() == granted.wrapping_add(1) && (row.requests > 1 || heap.bytes() == row.bytes)
+    heap.requests() == granted.wrapping_add(1) && (requests > 1 || heap.bytes() == bytes)
 }
 
 /// Makes the row's call. Whether it appends its units if its requests are all granted, and else changes nothing, makes no
@@ -310,27 +257,29 @@ fn is_right_call<'a>(
     (row, granted): (Appended, u64),
     piece: &UnitText<Lent<'a>>,
 ) -> bool {
-    let is_granted = row.requests <= granted;
-    if append_to(text, row.append, piece).is_ok() != is_granted
+    let ((units, dump), call, _, (requests, _)) = row;
+    let is_granted = requests <= granted;
+    if append_to(text, call, piece).is_ok() != is_granted
         || !is_counted(heap, row, granted, is_granted)
     {
         return false;
     }
     if !is_granted {
-        let is_kept = has_text(alloc, text, row.units, row.dump);
+        let is_kept = has_text(alloc, text, units, dump);
         heap.grant(9);
-        if !is_kept || append_to(text, row.append, piece).is_err() {
+        if !is_kept || append_to(text, call, piece).is_err() {
             return false;
         }
     }
-    piece.unit_len() == piece_of(row.append).len() && is_end(alloc, heap, text, row)
+    piece.unit_len() == piece_of(call).len() && is_end(alloc, heap, text, row)
 }
 
 /// Whether `is_right_call` holds with `granted` requests granted, and the following ones, or the next one alone, refused.
 fn is_right_append(alloc: Global, row: Appended, granted: u64, refusal: Refusal) -> bool {
+    let ((units, _), call, ..) = row;
     let heap = Refusing::new(alloc, 9);
-    let mut text = text_of(&heap, row.units);
-    let piece = text_of(&heap, piece_of(row.append));
+    let mut text = text_of(&heap, units);
+    let piece = text_of(&heap, piece_of(call));
     heap.refuse_after(granted, refusal);
     is_right_call(alloc, &heap, &mut text, (row, granted), &piece)
 }
@@ -340,7 +289,7 @@ fn is_right_append(alloc: Global, row: Appended, granted: u64, refusal: Refusal)
 pub fn are_appended(alloc: Global, rows: &[Appended]) -> bool {
     for row in rows {
         for refusal in REFUSALS {
-            for granted in 0..=row.requests {
+            for granted in 0..=row.3.0 {
                 if !is_right_append(alloc, *row, granted, refusal) {
                     return false;
                 }
@@ -354,16 +303,12 @@ pub fn are_appended(alloc: Global, rows: &[Appended]) -> bool {
 }
 
 /// The empty text, appended to a lead.
-static NOTHING: [Appended; 1] = [Appended {
-    units: &[0xD83D],
-    dump: "ED A0 BD",
-    append: Append::Concat(&[]),
-    unit_len: 1,
-    front: 1,
-    front_dump: "ED A0 BD",
-    requests: 0,
-    bytes: 0,
-}];
+static NOTHING: [Appended; 1] = [(
+    (&[0xD83D], "ED A0 BD"),
+    Append::Concat(&[]),
+    (1, 1, "ED A0 BD"),
+    (0, 0),
+)];
 
 #[test]
 fn the_empty_text_asks_for_no_memory(rt: HostRuntime) {
@@ -371,16 +316,12 @@ fn the_empty_text_asks_for_no_memory(rt: HostRuntime) {
 }
 
 /// 100 trail surrogates after "a" and a lead, which need 302 bytes.
-static TRAILS: [Appended; 1] = [Appended {
-    units: &[0x0061, 0xD83D],
-    dump: "61 ED A0 BD",
-    append: Append::Concat(&[0xDCA9; 100]),
-    unit_len: 102,
-    front: 3,
-    front_dump: "61 F0 9F 92 A9",
-    requests: 1,
-    bytes: 302,
-}];
+static TRAILS: [Appended; 1] = [(
+    (&[0x61, 0xD83D], "61 ED A0 BD"),
+    Append::Concat(&[0xDCA9; 100]),
+    (102, 3, "61 F0 9F 92 A9"),
+    (1, 302),
+)];
 
 #[test]
 fn a_refused_text_is_not_appended(rt: HostRuntime) {

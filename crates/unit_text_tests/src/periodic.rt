@@ -1,51 +1,29 @@
 // Lists of units that repeat, found in texts that repeat, where a search keeps most of what it has compared.
-use crate::shared::buf_of;
-use std::alloc::{Allocator, Global};
-use unit_text::IndexedBuf;
+use crate::shared::{Buf, buf_of};
+use std::alloc::Global;
 
 /// How a text of two units goes on: after the list that begins it come, for each of its units from index 1 on, `first`
 /// if that is the first unit of all, else `other`.
-struct Rule {
-    first: &'static [u16],
-    other: &'static [u16],
-}
+type Rule = (&'static [u16], &'static [u16]);
 
 /// One unit alone, two by turns, Fibonacci's word of letters and of surrogates, surrogates by turns, and the word of Thue
 /// and Morse.
 static RULES: [Rule; 6] = [
-    Rule {
-        first: &[0x0061, 0x0061],
-        other: &[0x0061],
-    },
-    Rule {
-        first: &[0x0061, 0x0062],
-        other: &[0x0061, 0x0062],
-    },
-    Rule {
-        first: &[0x0061, 0x0062],
-        other: &[0x0061],
-    },
-    Rule {
-        first: &[0xD83D, 0xDCA9],
-        other: &[0xD83D],
-    },
-    Rule {
-        first: &[0xDCA9, 0xD83D],
-        other: &[0xDCA9, 0xD83D],
-    },
-    Rule {
-        first: &[0x3042, 0x0061],
-        other: &[0x0061, 0x3042],
-    },
+    (&[0x61, 0x61], &[0x61]),
+    (&[0x61, 0x62], &[0x61, 0x62]),
+    (&[0x61, 0x62], &[0x61]),
+    (&[0xD83D, 0xDCA9], &[0xD83D]),
+    (&[0xDCA9, 0xD83D], &[0xDCA9, 0xD83D]),
+    (&[0x3042, 0x61], &[0x61, 0x3042]),
 ];
 
 /// The first `n` units by a rule; fewer if memory is refused.
-fn word(alloc: Global, rule: &Rule, n: usize) -> Vec<u16> {
+fn word(alloc: Global, &(first, other): &Rule, n: usize) -> Vec<u16> {
     let mut units = Vec::new(alloc);
-    let _ = units.extend_from_slice(rule.first);
+    let _ = units.extend_from_slice(first);
     for index in 1..n {
-        let is_first = units.get(index) == rule.first.first();
-        let next = if is_first { rule.first } else { rule.other };
+        let is_first = units.get(index) == first.first();
+        let next = if is_first { first } else { other };
         let _ = units.extend_from_slice(next);
     }
     units.truncate(n);
@@ -136,12 +114,7 @@ fn is_entry(found: Option<usize>, at: usize) -> bool {
 }
 
 /// Whether each call finds these units where entries `at` to `at + 3` of the table say.
-fn are_entries<A: Allocator, B: Allocator>(
-    buf: &IndexedBuf<A>,
-    units: &[u16],
-    other: &IndexedBuf<B>,
-    at: usize,
-) -> bool {
+fn are_entries(buf: &Buf, units: &[u16], other: &Buf, at: usize) -> bool {
     let second = at.wrapping_add(1);
     let third = at.wrapping_add(2);
     let last = at.wrapping_add(3);
@@ -156,26 +129,19 @@ fn are_entries<A: Allocator, B: Allocator>(
 }
 
 /// Whether `n` units of the word from `begin` on, without and with "b" after them, are found as the table says.
-fn are_found(
-    alloc: Global,
-    buf: &IndexedBuf<Global>,
-    word: &[u16],
-    begin: usize,
-    n: usize,
-    at: usize,
-) -> bool {
+fn are_found(alloc: Global, buf: &Buf, word: &[u16], begin: usize, n: usize, at: usize) -> bool {
     let Some(part) = word.get(begin..begin.saturating_add(n)) else {
         return false;
     };
     let mut units = Vec::new(alloc);
     units.extend_from_slice(part).is_ok()
         && are_entries(buf, &units, &buf_of(alloc, &units), at)
-        && units.push(0x0062).is_ok()
+        && units.push(0x62).is_ok()
         && are_entries(buf, &units, &buf_of(alloc, &units), at.wrapping_add(4))
 }
 
 /// Whether all is found in the text of a rule as the table says from entry `at` on.
-fn is_rule_right(alloc: Global, buf: &IndexedBuf<Global>, word: &[u16], at: usize) -> bool {
+fn is_rule_right(alloc: Global, buf: &Buf, word: &[u16], at: usize) -> bool {
     let mut at = at;
     for n in &LENGTHS {
         for begin in &BEGINS {
@@ -189,10 +155,10 @@ fn is_rule_right(alloc: Global, buf: &IndexedBuf<Global>, word: &[u16], at: usiz
 }
 
 /// The text of a rule.
-fn text_of_word(alloc: Global, word: &[u16]) -> IndexedBuf<Global> {
+fn text_of_word(alloc: Global, word: &[u16]) -> Buf {
     let mut text = Vec::new(alloc);
     let _ = text.extend_from_slice(word);
-    let _ = text.push(0x0062);
+    let _ = text.push(0x62);
     let _ = text.extend_from_slice(word.get(..100).unwrap_or(&[]));
     buf_of(alloc, &text)
 }

@@ -5,7 +5,7 @@ use std::alloc::{Allocator, Global};
 use unit_text::UnitText;
 
 /// "a", a surrogate pair, "é" and a lone lead surrogate: in bytes 61, F0 9F 92 A9, C3 A9 and ED A0 80.
-static UNITS: [u16; 5] = [0x0061, 0xD83D, 0xDCA9, 0x00E9, 0xD800];
+static UNITS: [u16; 5] = [0x61, 0xD83D, 0xDCA9, 0xE9, 0xD800];
 
 /// The byte positions of the indexes from 0 to 5 of `UNITS`. Index 2 is inside the pair, which begins at position 1.
 static POSITIONS: [usize; 6] = [0, 1, 1, 5, 7, 10];
@@ -15,31 +15,22 @@ static BEFORE: [usize; 12] = [0, 1, 1, 1, 1, 3, 3, 4, 4, 4, 5, 5];
 
 /// Whether the units have these byte positions, by both calls.
 fn is_mapped<A: Allocator>(text: &UnitText<A>) -> bool {
-    let mut i = 0usize;
-    for position in &POSITIONS {
-        if i > text.unit_len() || text.position_at(i) != *position {
+    for i in 0..POSITIONS.len() {
+        if i > text.unit_len() || text.position_at(i) != POSITIONS[i] {
             return false;
         }
-        i = i.wrapping_add(1);
     }
-    let mut position = 0usize;
-    for units in &BEFORE {
-        if text.unit_before(position) != *units {
+    for position in 0..BEFORE.len() {
+        if text.unit_before(position) != BEFORE[position] {
             return false;
         }
-        position = position.wrapping_add(1);
     }
     text.unit_before(usize::MAX) == 5
 }
 
-/// Whether the text of `UNITS` has their byte positions.
-fn are_rounded_down(alloc: Global) -> bool {
-    is_mapped(&text_of(alloc, &UNITS))
-}
-
 #[test]
 fn positions_are_rounded_down(rt: HostRuntime) {
-    assert!(rt; are_rounded_down(rt.alloc()));
+    assert!(rt; is_mapped(&text_of(rt.alloc(), &UNITS)));
 }
 
 /// Whether a pair of `units` is split after `i` units.
@@ -126,18 +117,13 @@ fn is_cut_to_two<A: Allocator>(text: &mut UnitText<A>) -> bool {
         return false;
     }
     text.truncate_units(2);
-    has_units(text, &[0x0061, 0xD83D])
-}
-
-/// Whether `is_cut_to_two` holds of the text of `UNITS` without a request.
-fn is_unasked(alloc: Global) -> bool {
-    let heap = Refusing::new(alloc, u64::MAX);
-    let mut text = text_of(&heap, &UNITS);
-    heap.grant(0);
-    is_cut_to_two(&mut text) && heap.requests() == 0
+    has_units(text, &[0x61, 0xD83D])
 }
 
 #[test]
 fn positions_and_shorter_texts_request_no_memory(rt: HostRuntime) {
-    assert!(rt; is_unasked(rt.alloc()));
+    let heap = Refusing::new(rt.alloc(), u64::MAX);
+    let mut text = text_of(&heap, &UNITS);
+    heap.grant(0);
+    assert!(rt; is_cut_to_two(&mut text) && heap.requests() == 0);
 }

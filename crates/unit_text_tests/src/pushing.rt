@@ -5,54 +5,16 @@ use std::alloc::{Allocator, Global};
 use unit_text::UnitText;
 
 /// A text to which 300 units are pushed.
-#[derive(Clone, Copy)]
-struct Row {
-    /// Six units that repeat in it.
-    kind: [u16; 6],
-    is_marked: bool,
-    /// The number of requests for its bytes, whose capacity is eight and then doubles, and for its marks.
-    growths: u64,
-    marks: u64,
-}
+type Row = ([u16; 6], bool, u64, u64);
 
 /// If the units begin with a trail, every even index but 0 splits a surrogate pair.
 static ROWS: [Row; 6] = [
-    Row {
-        kind: [0x0061; 6],
-        is_marked: true,
-        growths: 7,
-        marks: 0,
-    },
-    Row {
-        kind: [0x3042; 6],
-        is_marked: false,
-        growths: 8,
-        marks: 0,
-    },
-    Row {
-        kind: [0x3042; 6],
-        is_marked: true,
-        growths: 8,
-        marks: 1,
-    },
-    Row {
-        kind: [0xDCA9, 0xD83D, 0xDCA9, 0xD83D, 0xDCA9, 0xD83D],
-        is_marked: true,
-        growths: 8,
-        marks: 1,
-    },
-    Row {
-        kind: [0x00E9, 0xD83D, 0xDCA9, 0x00E9, 0xD83D, 0xDCA9],
-        is_marked: true,
-        growths: 8,
-        marks: 1,
-    },
-    Row {
-        kind: [0x0061, 0x3042, 0xDCA9, 0xD83D, 0xDCA9, 0xD83D],
-        is_marked: false,
-        growths: 8,
-        marks: 0,
-    },
+    ([0x61; 6], true, 7, 0),
+    ([0x3042; 6], false, 8, 0),
+    ([0x3042; 6], true, 8, 1),
+    ([0xDCA9, 0xD83D, 0xDCA9, 0xD83D, 0xDCA9, 0xD83D], true, 8, 1),
+    ([0xE9, 0xD83D, 0xDCA9, 0xE9, 0xD83D, 0xDCA9], true, 8, 1),
+    ([0x61, 0x3042, 0xDCA9, 0xD83D, 0xDCA9, 0xD83D], false, 8, 0),
 ];
 
 /// The number of units to push.
@@ -108,22 +70,28 @@ fn refused_of<'a>(
 /// Pushes units that repeat `kind` to an empty text, with `granted` requests granted, and the following ones, or the
 /// next one alone, refused. Returns the number of refused pushes, or None unless the text has the units of all other
 /// pushes.
-fn refused_after(alloc: Global, row: &Row, granted: u64, refusal: Refusal) -> Option<u64> {
+fn refused_after(
+    alloc: Global,
+    &(kind, is_marked, ..): &Row,
+    granted: u64,
+    refusal: Refusal,
+) -> Option<u64> {
     // One request is granted, for the box of the marks' vector.
     let heap = Refusing::new(alloc, 1);
     let mut text = UnitText::new(&heap);
-    if row.is_marked {
+    if is_marked {
         text.mark_units(&heap);
     }
     heap.refuse_after(granted, refusal);
-    refused_of(alloc, &heap, &mut text, &row.kind)
+    refused_of(alloc, &heap, &mut text, &kind)
 }
 
 /// Refuses each request of the pushes in turn. Whether a refused growth refuses one push, and a refused mark none.
 fn is_each_refused(alloc: Global, row: &Row) -> bool {
+    let (.., growths, marks) = *row;
     let mut refused = 0u64;
     // None is refused if all requests are granted.
-    for granted in 0..=row.growths.wrapping_add(row.marks) {
+    for granted in 0..=growths.wrapping_add(marks) {
         if refused_after(alloc, row, granted, Refusal::ForGood).is_none() {
             return false;
         }
@@ -132,14 +100,12 @@ fn is_each_refused(alloc: Global, row: &Row) -> bool {
             None => return false,
         }
     }
-    refused == row.growths
+    refused == growths
 }
 
 #[test]
 fn pushed_units_are_found(rt: HostRuntime) {
-    let mut index = 0usize;
-    for row in &ROWS {
-        assert!(rt; is_each_refused(rt.alloc(), row), "row {index}");
-        index = index.wrapping_add(1);
+    for index in 0..ROWS.len() {
+        assert!(rt; is_each_refused(rt.alloc(), &ROWS[index]), "row {index}");
     }
 }

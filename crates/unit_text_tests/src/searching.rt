@@ -1,293 +1,82 @@
 // Where code units and strings occur in buffers, short and long, by `find`, `rfind` and `divides_pair`.
-use crate::shared::{KINDS, buf_of, units_of};
-use std::alloc::{Allocator, Global};
-use unit_text::{IndexedBuf, UnitText};
+use crate::shared::{Buf, KINDS, buf_of, units_of};
+use std::alloc::Global;
+use unit_text::UnitText;
 
 /// "ab", two surrogate pairs, "a", a lone trail and a lone lead surrogate, "é", U+3042 and "a".
-static UNITS: [u16; 12] = [
-    0x0061, 0x0062, 0xD83D, 0xDCA9, 0xD83D, 0xDCA9, 0x0061, 0xDCA9, 0xD83D, 0x00E9, 0x3042, 0x0061,
+const ALL: [u16; 12] = [
+    0x61, 0x62, 0xD83D, 0xDCA9, 0xD83D, 0xDCA9, 0x61, 0xDCA9, 0xD83D, 0xE9, 0x3042, 0x61,
 ];
 
+static UNITS: [u16; 12] = ALL;
+
 /// What is found of `units` in `UNITS` from `index` on, and at or before it.
-struct Row {
-    index: usize,
-    units: &'static [u16],
-    first: Option<usize>,
-    last: Option<usize>,
-}
+type Row = (usize, &'static [u16], Option<usize>, Option<usize>);
 
 /// As JavaScript's `indexOf` and `lastIndexOf` return them, but for no units past the end, where `indexOf` returns the
 /// length.
 static ROWS: [Row; 40] = [
-    Row {
-        index: 0,
-        units: &[],
-        first: Some(0),
-        last: Some(0),
-    },
-    Row {
-        index: 3,
-        units: &[],
-        first: Some(3),
-        last: Some(3),
-    },
-    Row {
-        index: 12,
-        units: &[],
-        first: Some(12),
-        last: Some(12),
-    },
-    Row {
-        index: 13,
-        units: &[],
-        first: None,
-        last: Some(12),
-    },
-    Row {
-        index: 0,
-        units: &[0x0061],
-        first: Some(0),
-        last: Some(0),
-    },
-    Row {
-        index: 1,
-        units: &[0x0061],
-        first: Some(6),
-        last: Some(0),
-    },
-    Row {
-        index: 6,
-        units: &[0x0061],
-        first: Some(6),
-        last: Some(6),
-    },
-    Row {
-        index: 7,
-        units: &[0x0061],
-        first: Some(11),
-        last: Some(6),
-    },
-    Row {
-        index: 11,
-        units: &[0x0061],
-        first: Some(11),
-        last: Some(11),
-    },
-    Row {
-        index: 12,
-        units: &[0x0061],
-        first: None,
-        last: Some(11),
-    },
-    Row {
-        index: 0,
-        units: &[0x0061, 0x0062],
-        first: Some(0),
-        last: Some(0),
-    },
-    Row {
-        index: 1,
-        units: &[0x0061, 0x0062],
-        first: None,
-        last: Some(0),
-    },
-    Row {
-        index: 0,
-        units: &[0x0062, 0xD83D],
-        first: Some(1),
-        last: None,
-    },
-    Row {
-        index: 2,
-        units: &[0x0062, 0xD83D],
-        first: None,
-        last: Some(1),
-    },
-    Row {
-        index: 0,
-        units: &[0xD83D],
-        first: Some(2),
-        last: None,
-    },
-    Row {
-        index: 3,
-        units: &[0xD83D],
-        first: Some(4),
-        last: Some(2),
-    },
-    Row {
-        index: 2,
-        units: &[0xDCA9],
-        first: Some(3),
-        last: None,
-    },
-    Row {
-        index: 3,
-        units: &[0xDCA9],
-        first: Some(3),
-        last: Some(3),
-    },
-    Row {
-        index: 4,
-        units: &[0xDCA9],
-        first: Some(5),
-        last: Some(3),
-    },
-    Row {
-        index: 8,
-        units: &[0xDCA9],
-        first: None,
-        last: Some(7),
-    },
-    Row {
-        index: 0,
-        units: &[0xD83D, 0xDCA9],
-        first: Some(2),
-        last: None,
-    },
-    Row {
-        index: 3,
-        units: &[0xD83D, 0xDCA9],
-        first: Some(4),
-        last: Some(2),
-    },
-    Row {
-        index: 5,
-        units: &[0xD83D, 0xDCA9],
-        first: None,
-        last: Some(4),
-    },
-    Row {
-        index: 0,
-        units: &[0xDCA9, 0xD83D],
-        first: Some(3),
-        last: None,
-    },
-    Row {
-        index: 4,
-        units: &[0xDCA9, 0xD83D],
-        first: Some(7),
-        last: Some(3),
-    },
-    Row {
-        index: 0,
-        units: &[0xDCA9, 0xD83D, 0xDCA9],
-        first: Some(3),
-        last: None,
-    },
-    Row {
-        index: 0,
-        units: &[0xDCA9, 0x0061],
-        first: Some(5),
-        last: None,
-    },
-    Row {
-        index: 12,
-        units: &[0xD83D, 0xDCA9, 0x0061],
-        first: None,
-        last: Some(4),
-    },
-    Row {
-        index: 7,
-        units: &[0xDCA9, 0x0061, 0xDCA9],
-        first: None,
-        last: Some(5),
-    },
-    Row {
-        index: 0,
-        units: &[0xD83D, 0x00E9],
-        first: Some(8),
-        last: None,
-    },
-    Row {
-        index: 0,
-        units: &[0x3042, 0x0061],
-        first: Some(10),
-        last: None,
-    },
-    Row {
-        index: 12,
-        units: &[0x3042, 0x0061],
-        first: None,
-        last: Some(10),
-    },
-    Row {
-        index: 0,
-        units: &[0x0061, 0x0061],
-        first: None,
-        last: None,
-    },
-    Row {
-        index: 12,
-        units: &[0x3042, 0x0061, 0x0061],
-        first: None,
-        last: None,
-    },
-    Row {
-        index: 12,
-        units: &[0x0063],
-        first: None,
-        last: None,
-    },
-    Row {
-        index: 0,
-        units: &[0x0063],
-        first: None,
-        last: None,
-    },
-    Row {
-        index: 0,
-        units: &[
-            0x0061, 0x0062, 0xD83D, 0xDCA9, 0xD83D, 0xDCA9, 0x0061, 0xDCA9, 0xD83D, 0x00E9, 0x3042,
-            0x0061,
+    (0, &[], Some(0), Some(0)),
+    (3, &[], Some(3), Some(3)),
+    (12, &[], Some(12), Some(12)),
+    (13, &[], None, Some(12)),
+    (0, &[0x61], Some(0), Some(0)),
+    (1, &[0x61], Some(6), Some(0)),
+    (6, &[0x61], Some(6), Some(6)),
+    (7, &[0x61], Some(11), Some(6)),
+    (11, &[0x61], Some(11), Some(11)),
+    (12, &[0x61], None, Some(11)),
+    (0, &[0x61, 0x62], Some(0), Some(0)),
+    (1, &[0x61, 0x62], None, Some(0)),
+    (0, &[0x62, 0xD83D], Some(1), None),
+    (2, &[0x62, 0xD83D], None, Some(1)),
+    (0, &[0xD83D], Some(2), None),
+    (3, &[0xD83D], Some(4), Some(2)),
+    (2, &[0xDCA9], Some(3), None),
+    (3, &[0xDCA9], Some(3), Some(3)),
+    (4, &[0xDCA9], Some(5), Some(3)),
+    (8, &[0xDCA9], None, Some(7)),
+    (0, &[0xD83D, 0xDCA9], Some(2), None),
+    (3, &[0xD83D, 0xDCA9], Some(4), Some(2)),
+    (5, &[0xD83D, 0xDCA9], None, Some(4)),
+    (0, &[0xDCA9, 0xD83D], Some(3), None),
+    (4, &[0xDCA9, 0xD83D], Some(7), Some(3)),
+    (0, &[0xDCA9, 0xD83D, 0xDCA9], Some(3), None),
+    (0, &[0xDCA9, 0x61], Some(5), None),
+    (12, &[0xD83D, 0xDCA9, 0x61], None, Some(4)),
+    (7, &[0xDCA9, 0x61, 0xDCA9], None, Some(5)),
+    (0, &[0xD83D, 0xE9], Some(8), None),
+    (0, &[0x3042, 0x61], Some(10), None),
+    (12, &[0x3042, 0x61], None, Some(10)),
+    (0, &[0x61, 0x61], None, None),
+    (12, &[0x3042, 0x61, 0x61], None, None),
+    (12, &[0x63], None, None),
+    (0, &[0x63], None, None),
+    (0, &ALL, Some(0), Some(0)),
+    (1, &ALL, None, Some(0)),
+    (12, &ALL, None, Some(0)),
+    (
+        0,
+        &[
+            0x61, 0x62, 0xD83D, 0xDCA9, 0xD83D, 0xDCA9, 0x61, 0xDCA9, 0xD83D, 0xE9, 0x3042, 0x61,
+            0x61,
         ],
-        first: Some(0),
-        last: Some(0),
-    },
-    Row {
-        index: 1,
-        units: &[
-            0x0061, 0x0062, 0xD83D, 0xDCA9, 0xD83D, 0xDCA9, 0x0061, 0xDCA9, 0xD83D, 0x00E9, 0x3042,
-            0x0061,
-        ],
-        first: None,
-        last: Some(0),
-    },
-    Row {
-        index: 12,
-        units: &[
-            0x0061, 0x0062, 0xD83D, 0xDCA9, 0xD83D, 0xDCA9, 0x0061, 0xDCA9, 0xD83D, 0x00E9, 0x3042,
-            0x0061,
-        ],
-        first: None,
-        last: Some(0),
-    },
-    Row {
-        index: 0,
-        units: &[
-            0x0061, 0x0062, 0xD83D, 0xDCA9, 0xD83D, 0xDCA9, 0x0061, 0xDCA9, 0xD83D, 0x00E9, 0x3042,
-            0x0061, 0x0061,
-        ],
-        first: None,
-        last: None,
-    },
+        None,
+        None,
+    ),
 ];
 
 /// Whether both calls of both directions return what the row says.
-fn is_found<A: Allocator, B: Allocator>(
-    buf: &IndexedBuf<A>,
-    other: &IndexedBuf<B>,
-    row: &Row,
-) -> bool {
-    buf.find_units(row.index, row.units) == row.first
-        && buf.find(row.index, other) == row.first
-        && buf.rfind_units(row.index, row.units) == row.last
-        && buf.rfind(row.index, other) == row.last
+fn is_found(buf: &Buf, other: &Buf, &(index, units, first, last): &Row) -> bool {
+    buf.find_units(index, units) == first
+        && buf.find(index, other) == first
+        && buf.rfind_units(index, units) == last
+        && buf.rfind(index, other) == last
 }
 
 /// Whether the row holds of the buffer of `UNITS`, with marks and without.
 fn is_row_right(alloc: Global, row: &Row) -> bool {
-    let other = buf_of(alloc, row.units);
+    let other = buf_of(alloc, row.1);
     let mut buf = buf_of(alloc, &UNITS);
     if !is_found(&buf, &other, row) {
         return false;
@@ -297,22 +86,20 @@ fn is_row_right(alloc: Global, row: &Row) -> bool {
 }
 
 /// Whether the row holds of the text of `UNITS`.
-fn is_row_right_of_text(alloc: Global, row: &Row) -> bool {
+fn is_row_right_of_text(alloc: Global, &(index, units, first, last): &Row) -> bool {
     let text = UnitText::from_wtf8(buf_of(alloc, &UNITS).into_buf());
-    let other = UnitText::from_wtf8(buf_of(alloc, row.units).into_buf());
-    text.find(row.index, &other) == row.first && text.rfind(row.index, &other) == row.last
+    let other = UnitText::from_wtf8(buf_of(alloc, units).into_buf());
+    text.find(index, &other) == first && text.rfind(index, &other) == last
 }
 
 #[test]
 fn units_and_strings_are_found(rt: HostRuntime) {
-    let mut number = 0usize;
-    for row in &ROWS {
-        assert!(rt; is_row_right(rt.alloc(), row), "row {number}");
+    for number in 0..ROWS.len() {
+        assert!(rt; is_row_right(rt.alloc(), &ROWS[number]), "row {number}");
         assert!(rt;
-            is_row_right_of_text(rt.alloc(), row),
+            is_row_right_of_text(rt.alloc(), &ROWS[number]),
             "row {number} of a text"
         );
-        number = number.wrapping_add(1);
     }
 }
 
@@ -324,12 +111,10 @@ static DIVIDED: [bool; 14] = [
 /// Whether the indexes of the buffer of `UNITS` divide a pair, or none.
 fn are_divided(alloc: Global) -> bool {
     let buf = buf_of(alloc, &UNITS);
-    let mut index = 0usize;
-    for is_divided in &DIVIDED {
-        if buf.divides_pair(index) != *is_divided {
+    for index in 0..DIVIDED.len() {
+        if buf.divides_pair(index) != DIVIDED[index] {
             return false;
         }
-        index = index.wrapping_add(1);
     }
     !buf.divides_pair(usize::MAX)
 }
@@ -348,12 +133,7 @@ static LENGTHS: [usize; 18] = [
 static BEFORE: [usize; 6] = [0, 1, 5, 62, 63, 70];
 
 /// Whether these units, which occur at `index` alone, are found there from both ends, and not after or before it.
-fn is_found_once<A: Allocator, B: Allocator>(
-    buf: &IndexedBuf<A>,
-    units: &[u16],
-    other: &IndexedBuf<B>,
-    index: usize,
-) -> bool {
+fn is_found_once(buf: &Buf, units: &[u16], other: &Buf, index: usize) -> bool {
     let before = index.checked_sub(1);
     let after = index.saturating_add(1);
     let at = Some(index);
@@ -387,7 +167,7 @@ fn are_all_found(alloc: Global, text: &[u16], n: usize) -> bool {
 fn is_found_between(alloc: Global, kind: &[u16; 6], n: usize) -> bool {
     let mut text = units_of(alloc, kind, n);
     let after = units_of(alloc, kind, n.saturating_add(2));
-    text.push(0x0062).is_ok()
+    text.push(0x62).is_ok()
         && text.extend_from_slice(&after).is_ok()
         && are_all_found(alloc, &text, n)
 }

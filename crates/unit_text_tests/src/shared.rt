@@ -4,6 +4,8 @@ use unit_text::{IndexedBuf, UnitText};
 use wtf8::{CodePoint, IllFormedUtf16CodeUnits, Wtf8, Wtf8Buf};
 use wtf8_tests::wrong::expect_bytes;
 
+pub type Buf = IndexedBuf<Global>;
+
 /// The text of the units, or the empty one if memory is refused.
 pub fn text_of<A: Allocator + Copy + Drop>(alloc: A, units: &[u16]) -> UnitText<A> {
     match UnitText::from_units(alloc, units) {
@@ -48,11 +50,11 @@ pub fn has_bytes(alloc: Global, text: Wtf8<'_>, dump: &str) -> bool {
 
 /// Six units that repeat in a text.
 pub static KINDS: [[u16; 6]; 5] = [
-    [0x0061; 6],
+    [0x61; 6],
     [0x3042; 6],
     [0xD83D, 0xDCA9, 0xD83D, 0xDCA9, 0xD83D, 0xDCA9],
-    [0x00E9, 0xD83D, 0xDCA9, 0x00E9, 0xD83D, 0xDCA9],
-    [0x0061, 0x3042, 0xDCA9, 0xD83D, 0xDCA9, 0xD83D],
+    [0xE9, 0xD83D, 0xDCA9, 0xE9, 0xD83D, 0xDCA9],
+    [0x61, 0x3042, 0xDCA9, 0xD83D, 0xDCA9, 0xD83D],
 ];
 
 /// `length` units that repeat `kind`; fewer if memory is refused.
