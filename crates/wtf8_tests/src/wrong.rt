@@ -52,14 +52,6 @@ impl From<AllocError> for Failed {
     }
 }
 
-/// The value of a call that allocates.
-pub fn made<T>(returned: Result<T, AllocError>) -> Result<T, Failed> {
-    match returned {
-        Ok(value) => Ok(value),
-        Err(_) => Err(Failed::by(Wrong::Memory)),
-    }
-}
-
 /// Fails with `wrong` unless `is_right`.
 pub fn expect(is_right: bool, wrong: Wrong) -> Check {
     if is_right {

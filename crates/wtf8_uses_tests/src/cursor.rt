@@ -1,6 +1,6 @@
 // Places in a text of "a", a surrogate pair and "é", which take bytes 0, 1 to 4 and 5 to 6.
 use wtf8::Wtf8;
-use wtf8_tests::wrong::{Failed, Wrong, expect, in_row};
+use wtf8_tests::wrong::{Check, Wrong, assert_row, expect};
 use wtf8_uses::cursor::{Cursor, there_and_back};
 
 const TEXT: &str = "a\u{1F4A9}\u{E9}";
@@ -30,13 +30,11 @@ static ROWS: [Row; 7] = [
 ];
 
 #[test]
-fn places_are_at_boundaries() -> Result<(), Failed> {
+fn places_are_at_boundaries() -> Check {
     for row in &ROWS {
         let (position, place) = *row;
         let is_there = moved(position) == place;
-        if let Err(failed) = expect(is_there, Wrong::Outcome) {
-            return in_row(position, Err(failed));
-        }
+        assert_row!(position, expect(is_there, Wrong::Outcome));
     }
     Ok(())
 }
@@ -47,12 +45,10 @@ fn comes_back(text: Wtf8<'_>, position: usize) -> bool {
 }
 
 #[test]
-fn boundaries_are_found_again() -> Result<(), Failed> {
+fn boundaries_are_found_again() -> Check {
     for position in [0, 1, 5, 7] {
         let is_found = comes_back(Wtf8::from_str(TEXT), position);
-        if let Err(failed) = expect(is_found, Wrong::Outcome) {
-            return in_row(position, Err(failed));
-        }
+        assert_row!(position, expect(is_found, Wrong::Outcome));
     }
     Ok(())
 }

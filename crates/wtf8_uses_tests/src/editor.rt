@@ -1,9 +1,10 @@
 // An editor's text and cursor after scripts of steps, and after refused requests for memory. Expected values are worked out
 // by hand, and a model in Python that keeps whole copies of the text has the same.
+use crate::editor::Step::{AtStart, Back, Insert, MoveTo, Replace, Unchanged, Undo};
 use crate::shared::{LEAD, TRAIL, has_units};
 use refusing::{Lent, Refusing};
 use std::alloc::{Allocator, Global};
-use wtf8_tests::wrong::{Failed, Wrong, expect, in_row};
+use wtf8_tests::wrong::{Check, Failed, Wrong, each_row, expect, made};
 use wtf8_uses::editor::{Editor, replace_and_undo, undo_twice};
 
 /// A step, which fails if it returns otherwise than its comment says.
@@ -24,123 +25,82 @@ enum Step {
 }
 
 /// A text, the steps, and the text and cursor after them, all in code units.
-struct Script {
-    text: &'static [u16],
-    steps: &'static [Step],
-    units: &'static [u16],
-    cursor: usize,
-}
+type Script = ((&'static [u16], &'static [Step]), (&'static [u16], usize));
 
 static SCRIPTS: [Script; 14] = [
-    Script {
-        text: &[0x61],
-        steps: &[Step::Unchanged, Step::AtStart, Step::Unchanged],
-        units: &[0x61],
-        cursor: 0,
-    },
-    Script {
-        text: &[0x61, 0x62],
-        steps: &[Step::MoveTo(1), Step::Insert(&[0x63, 0x64])],
-        units: &[0x61, 0x63, 0x64, 0x62],
-        cursor: 3,
-    },
-    Script {
-        text: &[0x61, 0x62],
-        steps: &[
-            Step::MoveTo(1),
-            Step::Insert(&[0x63, 0x64]),
-            Step::MoveTo(4),
-            Step::Undo,
-        ],
-        units: &[0x61, 0x62],
-        cursor: 1,
-    },
+    ((&[0x61], &[Unchanged, AtStart, Unchanged]), (&[0x61], 0)),
+    (
+        (&[0x61, 0x62], &[MoveTo(1), Insert(&[0x63, 0x64])]),
+        (&[0x61, 0x63, 0x64, 0x62], 3),
+    ),
+    (
+        (
+            &[0x61, 0x62],
+            &[MoveTo(1), Insert(&[0x63, 0x64]), MoveTo(4), Undo],
+        ),
+        (&[0x61, 0x62], 1),
+    ),
     // What was moved to before `undo` is where the redone text has its cursor.
-    Script {
-        text: &[0x61, 0x62],
-        steps: &[
-            Step::MoveTo(1),
-            Step::Insert(&[0x63, 0x64]),
-            Step::MoveTo(4),
-            Step::Undo,
-            Step::MoveTo(0),
-            Step::Undo,
-        ],
-        units: &[0x61, 0x63, 0x64, 0x62],
-        cursor: 4,
-    },
+    (
+        (
+            &[0x61, 0x62],
+            &[
+                MoveTo(1),
+                Insert(&[0x63, 0x64]),
+                MoveTo(4),
+                Undo,
+                MoveTo(0),
+                Undo,
+            ],
+        ),
+        (&[0x61, 0x63, 0x64, 0x62], 4),
+    ),
     // Both surrogates of a pair are removed, and come back.
-    Script {
-        text: &[0x61, LEAD, TRAIL, 0x62],
-        steps: &[Step::MoveTo(3), Step::Back],
-        units: &[0x61, 0x62],
-        cursor: 1,
-    },
-    Script {
-        text: &[0x61, LEAD, TRAIL, 0x62],
-        steps: &[Step::MoveTo(3), Step::Back, Step::Back, Step::Undo],
-        units: &[0x61, 0x62],
-        cursor: 1,
-    },
+    (
+        (&[0x61, LEAD, TRAIL, 0x62], &[MoveTo(3), Back]),
+        (&[0x61, 0x62], 1),
+    ),
+    (
+        (&[0x61, LEAD, TRAIL, 0x62], &[MoveTo(3), Back, Back, Undo]),
+        (&[0x61, 0x62], 1),
+    ),
     // Of a lone trail and a lone lead one unit each.
-    Script {
-        text: &[TRAIL, LEAD],
-        steps: &[Step::MoveTo(2), Step::Back],
-        units: &[TRAIL],
-        cursor: 1,
-    },
-    Script {
-        text: &[LEAD, LEAD, TRAIL, TRAIL],
-        steps: &[Step::MoveTo(4), Step::Back, Step::Back, Step::Back],
-        units: &[],
-        cursor: 0,
-    },
+    ((&[TRAIL, LEAD], &[MoveTo(2), Back]), (&[TRAIL], 1)),
+    (
+        (&[LEAD, LEAD, TRAIL, TRAIL], &[MoveTo(4), Back, Back, Back]),
+        (&[], 0),
+    ),
     // Within a pair there is no cursor.
-    Script {
-        text: &[0x61, LEAD, TRAIL],
-        steps: &[Step::MoveTo(2), Step::Insert(&[0x62])],
-        units: &[0x61, 0x62, LEAD, TRAIL],
-        cursor: 2,
-    },
+    (
+        (&[0x61, LEAD, TRAIL], &[MoveTo(2), Insert(&[0x62])]),
+        (&[0x61, 0x62, LEAD, TRAIL], 2),
+    ),
     // A lead before a trail completes a pair, before which the cursor is.
-    Script {
-        text: &[0x61, TRAIL],
-        steps: &[Step::MoveTo(1), Step::Insert(&[LEAD])],
-        units: &[0x61, LEAD, TRAIL],
-        cursor: 1,
-    },
-    Script {
-        text: &[LEAD, 0x61, TRAIL],
-        steps: &[Step::MoveTo(2), Step::Back, Step::Undo],
-        units: &[LEAD, 0x61, TRAIL],
-        cursor: 2,
-    },
+    (
+        (&[0x61, TRAIL], &[MoveTo(1), Insert(&[LEAD])]),
+        (&[0x61, LEAD, TRAIL], 1),
+    ),
+    (
+        (&[LEAD, 0x61, TRAIL], &[MoveTo(2), Back, Undo]),
+        (&[LEAD, 0x61, TRAIL], 2),
+    ),
     // A trail after a lead completes a pair, after which the cursor is.
-    Script {
-        text: &[LEAD],
-        steps: &[Step::MoveTo(1), Step::Insert(&[TRAIL])],
-        units: &[LEAD, TRAIL],
-        cursor: 2,
-    },
+    (
+        (&[LEAD], &[MoveTo(1), Insert(&[TRAIL])]),
+        (&[LEAD, TRAIL], 2),
+    ),
     // Two pairs are cut, and each half stays.
-    Script {
-        text: &[LEAD, TRAIL, 0x61, LEAD, TRAIL],
-        steps: &[Step::Replace(1, 4, &[0x62])],
-        units: &[LEAD, 0x62, TRAIL],
-        cursor: 2,
-    },
-    Script {
-        text: &[LEAD, TRAIL, 0x61, LEAD, TRAIL],
-        steps: &[
-            Step::Replace(1, 4, &[0x62]),
-            Step::Undo,
-            Step::Undo,
-            Step::Replace(0, 1, &[]),
-            Step::Undo,
-        ],
-        units: &[LEAD, 0x62, TRAIL],
-        cursor: 2,
-    },
+    (
+        (&[LEAD, TRAIL, 0x61, LEAD, TRAIL], &[Replace(1, 4, &[0x62])]),
+        (&[LEAD, 0x62, TRAIL], 2),
+    ),
+    (
+        (
+            &[LEAD, TRAIL, 0x61, LEAD, TRAIL],
+            &[Replace(1, 4, &[0x62]), Undo, Undo, Replace(0, 1, &[]), Undo],
+        ),
+        (&[LEAD, 0x62, TRAIL], 2),
+    ),
 ];
 
 /// Whether the step returns what its comment says.
@@ -170,29 +130,19 @@ fn shows<A: Allocator + Copy>(editor: &Editor<A>, units: &[u16], cursor: usize) 
 }
 
 /// Fails unless the steps leave the text and cursor of the script.
-fn expect_script(alloc: Global, script: &Script) -> Result<(), Failed> {
-    let Ok(mut editor) = Editor::from_units(alloc, script.text) else {
-        return Err(Failed::by(Wrong::Memory));
-    };
-    for step in script.steps {
+fn expect_script(alloc: Global, ((text, steps), (units, cursor)): Script) -> Check {
+    let mut editor = made!(Editor::from_units(alloc, text));
+    for step in steps {
         if !is_taken(&mut editor, *step) {
             return Err(Failed::by(Wrong::Outcome));
         }
     }
-    expect(shows(&editor, script.units, script.cursor), Wrong::Units)
+    expect(shows(&editor, units, cursor), Wrong::Units)
 }
 
 #[test]
-fn scripts_leave_their_texts_and_cursors(rt: HostRuntime) -> Result<(), Failed> {
-    let alloc = rt.alloc();
-    let mut row = 0usize;
-    for script in &SCRIPTS {
-        if let Err(failed) = expect_script(alloc, script) {
-            return in_row(row, Err(failed));
-        }
-        row = row.wrapping_add(1);
-    }
-    Ok(())
+fn scripts_leave_their_texts_and_cursors(rt: HostRuntime) -> Check {
+    each_row!(script in SCRIPTS => expect_script(rt.alloc(), script))
 }
 
 /// "b" sixteen times.
@@ -209,17 +159,15 @@ fn is_kept(heap: Lent<'_>, editor: &mut Editor<Lent<'_>>, grants: u64) -> bool {
 }
 
 /// Fails unless both requests of an insertion are granted.
-fn expect_granted(heap: Lent<'_>, editor: &mut Editor<Lent<'_>>) -> Result<(), Failed> {
+fn expect_granted(heap: Lent<'_>, editor: &mut Editor<Lent<'_>>) -> Check {
     heap.grant(2);
     let is_inserted = editor.insert(&SIXTEEN).is_ok() && editor.cursor() == 17;
     expect(is_inserted, Wrong::Requests)
 }
 
 /// Fails unless the new units and the longer text are refused, and then granted.
-fn expect_kept(heap: Lent<'_>) -> Result<(), Failed> {
-    let Ok(mut editor) = Editor::from_units(heap, &[0x63]) else {
-        return Err(Failed::by(Wrong::Memory));
-    };
+fn expect_kept(heap: Lent<'_>) -> Check {
+    let mut editor = made!(Editor::from_units(heap, &[0x63]));
     if editor.insert(&[0x61]).is_err() {
         return Err(Failed::by(Wrong::Memory));
     }
@@ -231,9 +179,7 @@ fn expect_kept(heap: Lent<'_>) -> Result<(), Failed> {
 }
 
 #[test]
-fn a_refused_change_leaves_the_text_the_cursor_and_the_change_before(
-    rt: HostRuntime,
-) -> Result<(), Failed> {
+fn a_refused_change_leaves_the_text_the_cursor_and_the_change_before(rt: HostRuntime) -> Check {
     let heap = Refusing::new(rt.alloc(), 9);
     expect_kept(&heap)
 }
@@ -246,10 +192,8 @@ fn are_same(editor: &mut Editor<Global>) -> bool {
 }
 
 #[test]
-fn a_change_is_undone_and_redone(rt: HostRuntime) -> Result<(), Failed> {
-    let Ok(mut editor) = Editor::from_units(rt.alloc(), &[LEAD, TRAIL, 0x61]) else {
-        return Err(Failed::by(Wrong::Memory));
-    };
+fn a_change_is_undone_and_redone(rt: HostRuntime) -> Check {
+    let mut editor = made!(Editor::from_units(rt.alloc(), &[LEAD, TRAIL, 0x61]));
     if 2 <= editor.text().unit_len() {
         editor.move_to(2);
     }

@@ -4,32 +4,30 @@ use crate::shared::{LEAD, TRAIL, has_units, string_of};
 use refusing::Refusing;
 use std::alloc::{Allocator, Global};
 use wtf8::Wtf8;
-use wtf8_tests::wrong::{Failed, Wrong, expect, in_row};
+use wtf8_tests::wrong::{Check, Wrong, each_row, expect, made};
 use wtf8_uses::json_reader::{JsonCause, JsonError, read_json_string};
 
 /// A text, the units of the JSON string at its front, and the text after it.
 static STRINGS: [(&str, &[u16], &str); 11] = [
     ("\"\"", &[], ""),
-    ("\"a/é💩\" \"", &[0x0061, 0x002F, 0x00E9, LEAD, TRAIL], " \""),
+    ("\"a/é💩\" \"", &[0x61, 0x2F, 0xE9, LEAD, TRAIL], " \""),
     (
         "\"\\\"\\\\\\/\\b\\f\\n\\r\\t\"",
-        &[
-            0x0022, 0x005C, 0x002F, 0x0008, 0x000C, 0x000A, 0x000D, 0x0009,
-        ],
+        &[0x22, 0x5C, 0x2F, 0x08, 0x0C, 0x0A, 0x0D, 0x09],
         "",
     ),
     (
         "\"\\u0000\\u001f\\u0020\\u00Ff\\uABCD\\uefEF\"",
-        &[0x0000, 0x001F, 0x0020, 0x00FF, 0xABCD, 0xEFEF],
+        &[0x00, 0x1F, 0x20, 0xFF, 0xABCD, 0xEFEF],
         "",
     ),
     ("\"\\ud83d\\udca9\"", &[LEAD, TRAIL], ""),
     ("\"\\udca9\\ud83d\"", &[TRAIL, LEAD], ""),
-    ("\"\\uD83Dx\\uDca9\"", &[LEAD, 0x0078, TRAIL], ""),
+    ("\"\\uD83Dx\\uDca9\"", &[LEAD, 0x78, TRAIL], ""),
     ("\"💩\\udca9\"", &[LEAD, TRAIL, TRAIL], ""),
-    ("\" \u{7F}\u{2028}\"", &[0x0020, 0x007F, 0x2028], ""),
-    ("\"\\\\\"\"", &[0x005C], "\""),
-    ("\"\\u0041B\"é", &[0x0041, 0x0042], "é"),
+    ("\" \u{7F}\u{2028}\"", &[0x20, 0x7F, 0x2028], ""),
+    ("\"\\\\\"\"", &[0x5C], "\""),
+    ("\"\\u0041B\"é", &[0x41, 0x42], "é"),
 ];
 
 /// A text, the byte at which it is malformed, and the cause.
@@ -92,41 +90,26 @@ fn is_refused(alloc: Global, text: &str, position: usize, cause: JsonCause) -> b
 }
 
 /// Fails unless each row of `STRINGS` is read.
-fn expect_all_read(alloc: Global) -> Result<(), Failed> {
-    let mut row = 0usize;
-    for (text, units, rest) in &STRINGS {
-        let is_read = is_read(alloc, Wtf8::from_str(text), units, rest);
-        if let Err(failed) = expect(is_read, Wrong::Outcome) {
-            return in_row(row, Err(failed));
-        }
-        row = row.wrapping_add(1);
-    }
-    Ok(())
+fn expect_all_read(alloc: Global) -> Check {
+    each_row!((text, units, rest) in STRINGS => {
+        expect(is_read(alloc, Wtf8::from_str(text), units, rest), Wrong::Outcome)
+    })
 }
 
 #[test]
-fn strings_are_read_as_an_engine_does(rt: HostRuntime) -> Result<(), Failed> {
+fn strings_are_read_as_an_engine_does(rt: HostRuntime) -> Check {
     let alloc = rt.alloc();
     expect_all_read(alloc)?;
-    let Ok(lone) = string_of(alloc, &[0x0022, TRAIL, LEAD, 0x0022]) else {
-        return Err(Failed::by(Wrong::Memory));
-    };
+    let lone = made!(string_of(alloc, &[0x22, TRAIL, LEAD, 0x22]));
     let is_read = is_read(alloc, lone.as_wtf8(), &[TRAIL, LEAD], "");
     expect(is_read, Wrong::Outcome)
 }
 
 #[test]
-fn malformed_strings_are_refused(rt: HostRuntime) -> Result<(), Failed> {
-    let alloc = rt.alloc();
-    let mut row = 0usize;
-    for (text, position, cause) in &MALFORMED {
-        let is_refused = is_refused(alloc, text, *position, *cause);
-        if let Err(failed) = expect(is_refused, Wrong::Outcome) {
-            return in_row(row, Err(failed));
-        }
-        row = row.wrapping_add(1);
-    }
-    Ok(())
+fn malformed_strings_are_refused(rt: HostRuntime) -> Check {
+    each_row!((text, position, cause) in MALFORMED => {
+        expect(is_refused(rt.alloc(), text, position, cause), Wrong::Outcome)
+    })
 }
 
 /// The number of requests for a string that grows to twenty bytes.
@@ -141,7 +124,7 @@ fn is_out_of_memory<A: Allocator>(alloc: A) -> bool {
 }
 
 #[test]
-fn each_refused_request_is_told(rt: HostRuntime) -> Result<(), Failed> {
+fn each_refused_request_is_told(rt: HostRuntime) -> Check {
     let heap = Refusing::new(rt.alloc(), 0);
     for grants in 0..REQUESTS {
         heap.grant(grants);

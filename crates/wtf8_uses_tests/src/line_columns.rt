@@ -1,8 +1,8 @@
 // Lines and columns of a string of four lines, the third empty, and byte positions.
 use refusing::Refusing;
-use std::alloc::{AllocError, Allocator, Global};
+use std::alloc::{Allocator, Global};
 use wtf8::Wtf8;
-use wtf8_tests::wrong::{Failed, Wrong, expect};
+use wtf8_tests::wrong::{Check, Made, Wrong, expect, made};
 use wtf8_uses::line_columns::{LineColumns, line_column_at, lines_of, mark_at_column};
 
 /// In bytes 61 0A, F0 9F 92 A9 62 0A, 0A and C3 A9. The second line begins with a surrogate pair.
@@ -69,16 +69,14 @@ fn has_positions(lines: &LineColumns<'_, Global>) -> bool {
 }
 
 /// Whether the lines of the text are as expected, both ways.
-fn is_mapped(alloc: Global) -> Result<bool, AllocError> {
+fn is_mapped(alloc: Global) -> Made<bool> {
     let lines = lines_of(alloc, Wtf8::from_str(TEXT))?;
     Ok(has_columns(&lines) && has_positions(&lines))
 }
 
 #[test]
-fn columns_count_units(rt: HostRuntime) -> Result<(), Failed> {
-    let Ok(is_mapped) = is_mapped(rt.alloc()) else {
-        return Err(Failed::by(Wrong::Memory));
-    };
+fn columns_count_units(rt: HostRuntime) -> Check {
+    let is_mapped = made!(is_mapped(rt.alloc()));
     expect(is_mapped, Wrong::Outcome)
 }
 
@@ -88,7 +86,7 @@ fn is_out_of_memory<A: Allocator>(alloc: A) -> bool {
 }
 
 #[test]
-fn each_refused_request_is_told(rt: HostRuntime) -> Result<(), Failed> {
+fn each_refused_request_is_told(rt: HostRuntime) -> Check {
     let heap = Refusing::new(rt.alloc(), 0);
     for grants in 0..REQUESTS {
         heap.grant(grants);

@@ -3,7 +3,7 @@ use std::alloc::{Allocator, Global};
 use std::io;
 use std::io::{ErrorKind, Read};
 use wtf8::Wtf8Buf;
-use wtf8_tests::wrong::{Failed, Wrong, expect, expect_bytes, in_row};
+use wtf8_tests::wrong::{Check, Wrong, each_row, expect, expect_bytes};
 use wtf8_uses::reading::{ReadError, read_utf16};
 
 /// Returns at most `most` bytes a read. Fails once, when at most `failing` bytes are left; later reads succeed.
@@ -47,7 +47,7 @@ fn expect_told<A: Allocator>(
     alloc: Global,
     returned: Result<Wtf8Buf<A>, ReadError>,
     expected: &str,
-) -> Result<(), Failed> {
+) -> Check {
     match returned {
         Ok(string) => expect_bytes(alloc, string.as_wtf8(), expected),
         Err(error) => expect(name_of(error) == expected, Wrong::Outcome),
@@ -65,13 +65,7 @@ static ROWS: [(&[u8], &str); 6] = [
 ];
 
 /// Fails unless reading pieces of at most `most` bytes, with one interruption, gives `expected` in `calls` calls.
-fn expect_read(
-    alloc: Global,
-    bytes: &[u8],
-    most: usize,
-    calls: usize,
-    expected: &str,
-) -> Result<(), Failed> {
+fn expect_read(alloc: Global, bytes: &[u8], most: usize, calls: usize, expected: &str) -> Check {
     let mut reader = Pieces {
         rest: bytes,
         most,
@@ -84,7 +78,7 @@ fn expect_read(
 }
 
 /// Fails unless reading pieces of each size from 1 to 7 gives `expected`.
-fn expect_read_in_pieces(alloc: Global, bytes: &[u8], expected: &str) -> Result<(), Failed> {
+fn expect_read_in_pieces(alloc: Global, bytes: &[u8], expected: &str) -> Check {
     for most in 1..8 {
         // One call for each piece, one for the interruption and one for the end.
         let calls = bytes.len().div_ceil(most).wrapping_add(2);
@@ -94,16 +88,8 @@ fn expect_read_in_pieces(alloc: Global, bytes: &[u8], expected: &str) -> Result<
 }
 
 #[test]
-fn pieces_of_any_size_are_one_input(rt: HostRuntime) -> Result<(), Failed> {
-    let alloc = rt.alloc();
-    let mut row = 0usize;
-    for (bytes, expected) in &ROWS {
-        if let Err(failed) = expect_read_in_pieces(alloc, bytes, expected) {
-            return in_row(row, Err(failed));
-        }
-        row = row.wrapping_add(1);
-    }
-    Ok(())
+fn pieces_of_any_size_are_one_input(rt: HostRuntime) -> Check {
+    each_row!((bytes, expected) in ROWS => expect_read_in_pieces(rt.alloc(), bytes, expected))
 }
 
 /// Whether the reader's error is returned, with its kind and this error number of the system.
@@ -135,7 +121,7 @@ fn expect_handed_on(
     error: io::Error,
     number: Option<i32>,
     row: (usize, u32, &str),
-) -> Result<(), Failed> {
+) -> Check {
     let (failing, calls, left) = row;
     let mut reader = Pieces {
         rest: b"\x61\x00\x62\x00\x63\x00",
@@ -151,23 +137,12 @@ fn expect_handed_on(
 }
 
 /// Fails unless the error is returned in each of `FAILING_ROWS`.
-fn expect_all_handed_on(
-    alloc: Global,
-    error: io::Error,
-    number: Option<i32>,
-) -> Result<(), Failed> {
-    let mut index = 0usize;
-    for row in &FAILING_ROWS {
-        if let Err(failed) = expect_handed_on(alloc, error, number, *row) {
-            return in_row(index, Err(failed));
-        }
-        index = index.wrapping_add(1);
-    }
-    Ok(())
+fn expect_all_handed_on(alloc: Global, error: io::Error, number: Option<i32>) -> Check {
+    each_row!(row in FAILING_ROWS => expect_handed_on(alloc, error, number, row))
 }
 
 /// Fails unless an error of each kind is handed on.
-fn expect_kinds_handed_on(alloc: Global) -> Result<(), Failed> {
+fn expect_kinds_handed_on(alloc: Global) -> Check {
     for kind in [
         ErrorKind::BrokenPipe,
         ErrorKind::WouldBlock,
@@ -181,7 +156,7 @@ fn expect_kinds_handed_on(alloc: Global) -> Result<(), Failed> {
 }
 
 #[test]
-fn an_error_is_handed_on(rt: HostRuntime) -> Result<(), Failed> {
+fn an_error_is_handed_on(rt: HostRuntime) -> Check {
     let alloc = rt.alloc();
     expect_kinds_handed_on(alloc)?;
     for number in [5, 32] {

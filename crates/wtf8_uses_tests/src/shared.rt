@@ -1,7 +1,7 @@
 // Strings and checks that several test modules use.
-use std::alloc::{AllocError, Global};
+use std::alloc::Global;
 use wtf8::{Wtf8, Wtf8Buf};
-use wtf8_tests::wrong::{Failed, Wrong, expect_bytes, made};
+use wtf8_tests::wrong::{Check, Failed, Made, expect_bytes, made};
 
 /// The code units of U+1F4A9; `PAIR_DUMP` is its bytes.
 pub const LEAD: u16 = 0xD83D;
@@ -12,18 +12,12 @@ pub const PAIR_DUMP: &str = "F0 9F 92 A9";
 
 /// The string of these units.
 pub fn string_of(alloc: Global, units: &[u16]) -> Result<Wtf8Buf<Global>, Failed> {
-    made(Wtf8Buf::from_ill_formed_utf16(alloc, units))
+    Ok(made!(Wtf8Buf::from_ill_formed_utf16(alloc, units)))
 }
 
 /// Fails unless a string was made, and has the bytes of `dump`.
-pub fn expect_made(
-    alloc: Global,
-    returned: Result<Wtf8Buf<Global>, AllocError>,
-    dump: &str,
-) -> Result<(), Failed> {
-    let Ok(string) = returned else {
-        return Err(Failed::by(Wrong::Memory));
-    };
+pub fn expect_made(alloc: Global, returned: Made<Wtf8Buf<Global>>, dump: &str) -> Check {
+    let string = made!(returned);
     expect_bytes(alloc, string.as_wtf8(), dump)
 }
 

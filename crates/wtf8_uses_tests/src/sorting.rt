@@ -3,26 +3,22 @@ ghost use Rattle.std.specs.Prelude.{IfOk};
 ghost use Rattle.wtf8_uses.specs.Sorted.{AreInPointOrder};
 
 use crate::shared::{LEAD, TRAIL, string_of};
-use std::alloc::{AllocError, Global};
+use std::alloc::Global;
 use std::collections::HashMap;
 use std::hash::{BuildHasherDefault, FoldHasher};
 use wtf8::{Wtf8, Wtf8Buf};
-use wtf8_tests::wrong::{Failed, Wrong, expect, expect_bytes};
+use wtf8_tests::wrong::{Check, Failed, Made, Wrong, expect, expect_bytes, made};
 use wtf8_uses::{joining, maps, sorting, table};
 
 /// Fails unless two views have the bytes of U+E000 and U+10000, which are in code point order. By code units the order
 /// is the other way round.
-fn expect_in_order(alloc: Global, first: Wtf8<'_>, second: Wtf8<'_>) -> Result<(), Failed> {
+fn expect_in_order(alloc: Global, first: Wtf8<'_>, second: Wtf8<'_>) -> Check {
     expect_bytes(alloc, first, "EE 80 80")?;
     expect_bytes(alloc, second, "F0 90 80 80")
 }
 
 /// Two views, sorted.
-fn sorted_views<'a>(
-    alloc: Global,
-    first: Wtf8<'a>,
-    second: Wtf8<'a>,
-) -> Result<Vec<Wtf8<'a>>, AllocError> {
+fn sorted_views<'a>(alloc: Global, first: Wtf8<'a>, second: Wtf8<'a>) -> Made<Vec<Wtf8<'a>>> {
     let mut views = Vec::new(alloc);
     views.push(first)?;
     views.push(second)?;
@@ -31,10 +27,8 @@ fn sorted_views<'a>(
 }
 
 /// Fails unless the two views, sorted, are as `expect_in_order` requires.
-fn expect_sorted(alloc: Global, first: Wtf8<'_>, second: Wtf8<'_>) -> Result<(), Failed> {
-    let Ok(views) = sorted_views(alloc, first, second) else {
-        return Err(Failed::by(Wrong::Memory));
-    };
+fn expect_sorted(alloc: Global, first: Wtf8<'_>, second: Wtf8<'_>) -> Check {
+    let views = made!(sorted_views(alloc, first, second));
     match views.as_slice() {
         [first, second] => expect_in_order(alloc, *first, *second),
         _ => Err(Failed::by(Wrong::Outcome)),
@@ -42,29 +36,21 @@ fn expect_sorted(alloc: Global, first: Wtf8<'_>, second: Wtf8<'_>) -> Result<(),
 }
 
 #[test]
-fn views_are_sorted(rt: HostRuntime) -> Result<(), Failed> {
+fn views_are_sorted(rt: HostRuntime) -> Check {
     let alloc = rt.alloc();
-    let Ok(first) = string_of(alloc, &[0xD800, 0xDC00]) else {
-        return Err(Failed::by(Wrong::Memory));
-    };
-    let Ok(second) = string_of(alloc, &[0xE000]) else {
-        return Err(Failed::by(Wrong::Memory));
-    };
+    let first = made!(string_of(alloc, &[0xD800, 0xDC00]));
+    let second = made!(string_of(alloc, &[0xE000]));
     expect_sorted(alloc, first.as_wtf8(), second.as_wtf8())
 }
 
 /// Appends the string of `units`.
-fn push_string(
-    alloc: Global,
-    strings: &mut Vec<Wtf8Buf<Global>>,
-    units: &[u16],
-) -> Result<(), AllocError> {
+fn push_string(alloc: Global, strings: &mut Vec<Wtf8Buf<Global>>, units: &[u16]) -> Made<()> {
     strings.push(Wtf8Buf::from_ill_formed_utf16(alloc, units)?)?;
     Ok(())
 }
 
 /// The strings of U+10000 and U+E000, sorted.
-fn sorted(alloc: Global) -> Result<Vec<Wtf8Buf<Global>>, AllocError>
+fn sorted(alloc: Global) -> Made<Vec<Wtf8Buf<Global>>>
     ensures { IfOk result (λ strings. AreInPointOrder strings.items) }
 {
     let mut strings = Vec::new(alloc);
@@ -75,7 +61,7 @@ fn sorted(alloc: Global) -> Result<Vec<Wtf8Buf<Global>>, AllocError>
 }
 
 /// Fails unless the strings are as `expect_in_order` requires.
-fn expect_strings(alloc: Global, strings: &[Wtf8Buf<Global>]) -> Result<(), Failed> {
+fn expect_strings(alloc: Global, strings: &[Wtf8Buf<Global>]) -> Check {
     match strings {
         [first, second] => expect_in_order(alloc, first.as_wtf8(), second.as_wtf8()),
         _ => Err(Failed::by(Wrong::Outcome)),
@@ -88,12 +74,10 @@ fn expect_index(
     table: &[Wtf8Buf<Global>],
     units: &[u16],
     index: Result<usize, usize>,
-) -> Result<(), Failed>
+) -> Check
     requires { AreInPointOrder table.now }
 {
-    let Ok(string) = string_of(alloc, units) else {
-        return Err(Failed::by(Wrong::Memory));
-    };
+    let string = made!(string_of(alloc, units));
     let by_view = table::search_table_for_view(table, string.as_wtf8());
     let is_found = table::search_table(table, &string) == index && by_view == index;
     expect(is_found, Wrong::Outcome)
@@ -101,26 +85,24 @@ fn expect_index(
 
 /// Fails unless the strings of U+10000, U+F000 and U+0061 are found in the sorted table, or the index to insert them
 /// at.
-fn expect_found(alloc: Global, table: &[Wtf8Buf<Global>]) -> Result<(), Failed>
+fn expect_found(alloc: Global, table: &[Wtf8Buf<Global>]) -> Check
     requires { AreInPointOrder table.now }
 {
     expect_index(alloc, table, &[0xD800, 0xDC00], Ok(1))?;
     expect_index(alloc, table, &[0xF000], Err(1))?;
-    expect_index(alloc, table, &[0x0061], Err(0))?;
+    expect_index(alloc, table, &[0x61], Err(0))?;
     expect_strings(alloc, table)
 }
 
 #[test]
-fn strings_are_sorted_and_found(rt: HostRuntime) -> Result<(), Failed> {
+fn strings_are_sorted_and_found(rt: HostRuntime) -> Check {
     let alloc = rt.alloc();
-    match sorted(alloc) {
-        Ok(strings) => expect_found(alloc, strings.as_slice()),
-        Err(_) => Err(Failed::by(Wrong::Memory)),
-    }
+    let strings = made!(sorted(alloc));
+    expect_found(alloc, strings.as_slice())
 }
 
 /// The strings of these texts.
-fn strings_of(alloc: Global, texts: &[&str]) -> Result<Vec<Wtf8Buf<Global>>, AllocError> {
+fn strings_of(alloc: Global, texts: &[&str]) -> Made<Vec<Wtf8Buf<Global>>> {
     let mut strings = Vec::new(alloc);
     for text in texts {
         strings.push(Wtf8Buf::from_str(alloc, text)?)?;
@@ -144,16 +126,14 @@ fn are_texts(strings: &[Wtf8Buf<Global>], texts: &[&str]) -> bool {
 }
 
 #[test]
-fn repeated_strings_are_dropped(rt: HostRuntime) -> Result<(), Failed> {
-    let Ok(mut strings) = strings_of(rt.alloc(), &["b", "b", "a", "", "", "", "b"]) else {
-        return Err(Failed::by(Wrong::Memory));
-    };
+fn repeated_strings_are_dropped(rt: HostRuntime) -> Check {
+    let mut strings = made!(strings_of(rt.alloc(), &["b", "b", "a", "", "", "", "b"]));
     sorting::drop_repeated(&mut strings);
     expect(are_texts(&strings, &["b", "a", "", "b"]), Wrong::Bytes)
 }
 
 /// Whether a map finds the value of a pair's string by `same`.
-fn is_found(alloc: Global, same: &Wtf8Buf<Global>) -> Result<bool, AllocError> {
+fn is_found(alloc: Global, same: &Wtf8Buf<Global>) -> Made<bool> {
     let mut map = HashMap::new(alloc);
     let key = joining::joined(alloc, &[LEAD], &[TRAIL])?;
     let found = maps::insert_and_get(&mut map, key, same, 7)?;
@@ -167,14 +147,10 @@ fn are_alike(same: &Wtf8Buf<Global>) -> bool {
 }
 
 #[test]
-fn a_map_finds_equal_strings(rt: HostRuntime) -> Result<(), Failed> {
+fn a_map_finds_equal_strings(rt: HostRuntime) -> Check {
     let alloc = rt.alloc();
-    let Ok(same) = Wtf8Buf::from_str(alloc, "💩") else {
-        return Err(Failed::by(Wrong::Memory));
-    };
+    let same = made!(Wtf8Buf::from_str(alloc, "💩"));
     expect(are_alike(&same), Wrong::Outcome)?;
-    let Ok(is_found) = is_found(alloc, &same) else {
-        return Err(Failed::by(Wrong::Memory));
-    };
+    let is_found = made!(is_found(alloc, &same));
     expect(is_found, Wrong::Outcome)
 }
