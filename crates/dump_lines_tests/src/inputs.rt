@@ -1,17 +1,12 @@
 // Lines and inputs of each length, inputs without a last newline, a line with a newline inside, and the faults' statuses and
 // texts. The program's stored run has the other lines.
-use crate::wrong::{Failed, Wrong, expect};
 use dump_lines::{Fault, dump_line, run};
 use refusing::Refusing;
-use std::alloc::{AllocError, Global};
+use std::alloc::Global;
+use wtf8_tests::wrong::{Check, Failed, Made, Wrong, each_row, expect, in_row, made};
 
 /// `bytes` repeated `times` times, then `end`.
-pub fn repeated(
-    alloc: Global,
-    bytes: &[u8],
-    times: usize,
-    end: &[u8],
-) -> Result<Vec<u8>, AllocError> {
+pub fn repeated(alloc: Global, bytes: &[u8], times: usize, end: &[u8]) -> Made<Vec<u8>> {
     let mut all = Vec::new(alloc);
     for _ in 0..times {
         all.extend_from_slice(bytes)?;
@@ -21,7 +16,7 @@ pub fn repeated(
 }
 
 /// Fails unless a run reads all of `input` and writes `expected`, with at most 40 requests for memory.
-pub fn expect_output(alloc: Global, input: &[u8], expected: &[u8]) -> Result<(), Failed> {
+pub fn expect_output(alloc: Global, input: &[u8], expected: &[u8]) -> Check {
     let heap = Refusing::new(alloc, u64::MAX);
     let mut rest = input;
     let mut out = Vec::new(alloc);
@@ -42,31 +37,24 @@ fn expect_repeated(
     times: usize,
     (bytes, end): (&[u8], &[u8]),
     (dump, end_dump): (&[u8], &[u8]),
-) -> Result<(), Failed> {
-    let Ok(input) = repeated(alloc, bytes, times, end) else {
-        return Err(Failed::by(Wrong::Memory));
-    };
-    let Ok(expected) = repeated(alloc, dump, times, end_dump) else {
-        return Err(Failed::by(Wrong::Memory));
-    };
+) -> Check {
+    let input = made!(repeated(alloc, bytes, times, end));
+    let expected = made!(repeated(alloc, dump, times, end_dump));
     expect_output(alloc, &input, &expected)
 }
 
 /// Fails unless a run on a line of `letters` words "0061" and four others, and an empty line, writes their dumps.
-fn expect_letters(alloc: Global, letters: usize) -> Result<(), Failed> {
+fn expect_letters(alloc: Global, letters: usize) -> Check {
     let line = (
         b"0061 ".as_slice(),
         b"-999999 D83D DCA9 /999999\n\n".as_slice(),
     );
     let dump = (b"61 ".as_slice(), b"F0 9F 92 A9 !2\n\n".as_slice());
-    match expect_repeated(alloc, letters, line, dump) {
-        Ok(()) => Ok(()),
-        Err(failed) => Err(failed.in_row(letters)),
-    }
+    in_row(letters, expect_repeated(alloc, letters, line, dump))
 }
 
 #[test]
-fn lines_of_each_length(rt: HostRuntime) -> Result<(), Failed> {
+fn lines_of_each_length(rt: HostRuntime) -> Check {
     for letters in 0..=300 {
         expect_letters(rt.alloc(), letters)?;
     }
@@ -77,7 +65,7 @@ fn lines_of_each_length(rt: HostRuntime) -> Result<(), Failed> {
 }
 
 #[test]
-fn an_input_of_many_lines_is_read_in_pieces(rt: HostRuntime) -> Result<(), Failed> {
+fn an_input_of_many_lines_is_read_in_pieces(rt: HostRuntime) -> Check {
     expect_repeated(rt.alloc(), 2000, (b"0061\n", b""), (b"61\n", b""))
 }
 
@@ -91,19 +79,14 @@ static INPUTS: [(&str, &str); 6] = [
 ];
 
 #[test]
-fn the_last_line_needs_no_newline(rt: HostRuntime) -> Result<(), Failed> {
-    let mut row = 0usize;
-    for (input, expected) in &INPUTS {
-        if let Err(failed) = expect_output(rt.alloc(), input.as_bytes(), expected.as_bytes()) {
-            return Err(failed.in_row(row));
-        }
-        row = row.wrapping_add(1);
-    }
-    Ok(())
+fn the_last_line_needs_no_newline(rt: HostRuntime) -> Check {
+    each_row!((input, expected) in INPUTS => {
+        expect_output(rt.alloc(), input.as_bytes(), expected.as_bytes())
+    })
 }
 
 #[test]
-fn a_newline_inside_a_line_is_malformed(rt: HostRuntime) -> Result<(), Failed> {
+fn a_newline_inside_a_line_is_malformed(rt: HostRuntime) -> Check {
     match dump_line(rt.alloc(), b"0061\n0062") {
         Ok(output) => expect(output.as_slice() == b"?".as_slice(), Wrong::Bytes),
         Err(_) => Err(Failed::by(Wrong::Memory)),

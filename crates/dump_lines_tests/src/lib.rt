@@ -11,5 +11,3 @@ mod memory;
 mod reading;
 #[cfg(test)]
 mod writing;
-#[cfg(test)]
-mod wrong;

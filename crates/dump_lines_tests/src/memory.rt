@@ -1,79 +1,34 @@
 // Each request for memory refused in turn, with all after it or alone.
 use crate::inputs::repeated;
-use crate::wrong::{Failed, Wrong, expect};
 use dump_lines::{Fault, dump_line, run};
 use refusing::{Lent, REFUSALS, Refusal, Refusing};
 use std::alloc::Global;
+use wtf8_tests::wrong::{Check, Failed, Wrong, each_row, expect, made};
 
-/// A line, its output, and what it requests.
-struct Row {
-    line: &'static str,
-    output: &'static str,
-    requests: u64,
-    bytes: usize,
-}
+/// A line, its output, and the number of requests, and of the bytes in them.
+type Row = (&'static str, &'static str, u64, usize);
 
 /// Requests are for the list of calls, of 24 bytes each, whose capacity is four at first and then doubles; for the string,
 /// eight bytes at first; for the dump, all at once; and two for a count, one for its text and one to append it. A
 /// malformed line needs its list and its output alone.
 static ROWS: [Row; 8] = [
-    Row {
-        line: "",
-        output: "",
-        requests: 0,
-        bytes: 0,
-    },
-    Row {
-        line: "0061",
-        output: "61",
-        requests: 3,
-        bytes: 96 + 8 + 8,
-    },
-    Row {
-        line: "D83D DCA9",
-        output: "F0 9F 92 A9",
-        requests: 3,
-        bytes: 96 + 8 + 12,
-    },
-    Row {
-        line: "-1",
-        output: "!1",
-        requests: 3,
-        bytes: 96 + 8 + 8,
-    },
-    Row {
-        line: "0061 00E9 0020 D83D DCA9",
-        output: "61 C3 A9 20 F0 9F 92 A9",
-        requests: 4,
-        bytes: 96 + 192 + 8 + 24,
-    },
-    Row {
-        line: "?",
-        output: "?",
-        requests: 1,
-        bytes: 8,
-    },
-    Row {
-        line: "0061 D83D DCA9 -1 ?",
-        output: "?",
-        requests: 2,
-        bytes: 96 + 8,
-    },
-    Row {
-        line: "0061 D83D DCA9 -1 /1 ?",
-        output: "?",
-        requests: 3,
-        bytes: 96 + 192 + 8,
-    },
+    ("", "", 0, 0),
+    ("0061", "61", 3, 96 + 8 + 8),
+    ("D83D DCA9", "F0 9F 92 A9", 3, 96 + 8 + 12),
+    ("-1", "!1", 3, 96 + 8 + 8),
+    (
+        "0061 00E9 0020 D83D DCA9",
+        "61 C3 A9 20 F0 9F 92 A9",
+        4,
+        96 + 192 + 8 + 24,
+    ),
+    ("?", "?", 1, 8),
+    ("0061 D83D DCA9 -1 ?", "?", 2, 96 + 8),
+    ("0061 D83D DCA9 -1 /1 ?", "?", 3, 96 + 192 + 8),
 ];
 
 /// Fails unless `line` ends with an error at the request after `granted` ones, after which no other is made.
-fn expect_refused(
-    heap: Lent<'_>,
-    line: &[u8],
-    granted: u64,
-    refusal: Refusal,
-) -> Result<(), Failed> {
+fn expect_refused(heap: Lent<'_>, line: &[u8], granted: u64, refusal: Refusal) -> Check {
     heap.refuse_after(granted, refusal);
     let is_refused = dump_line(heap, line).is_err();
     let is_counted = heap.requests() == granted.wrapping_add(1);
@@ -87,11 +42,9 @@ fn expect_granted(
     expected: &[u8],
     requests: u64,
     bytes: usize,
-) -> Result<(), Failed> {
+) -> Check {
     heap.grant(99);
-    let Ok(output) = dump_line(heap, line) else {
-        return Err(Failed::by(Wrong::Outcome));
-    };
+    let output = made!(dump_line(heap, line), Err(Failed::by(Wrong::Outcome)));
     if output.as_slice() != expected {
         return Err(Failed::by(Wrong::Bytes));
     }
@@ -107,7 +60,7 @@ fn expect_requests(
     expected: &[u8],
     requests: u64,
     bytes: usize,
-) -> Result<(), Failed> {
+) -> Check {
     for refusal in REFUSALS {
         for granted in 0..requests {
             expect_refused(heap, line, granted, refusal)?;
@@ -117,29 +70,20 @@ fn expect_requests(
 }
 
 /// Fails unless the row's line does what `expect_requests` requires.
-fn expect_row(heap: Lent<'_>, row: &Row) -> Result<(), Failed> {
-    let (line, output) = (row.line.as_bytes(), row.output.as_bytes());
-    expect_requests(heap, line, output, row.requests, row.bytes)
+fn expect_row(heap: Lent<'_>, (line, output, requests, bytes): Row) -> Check {
+    let (line, output) = (line.as_bytes(), output.as_bytes());
+    expect_requests(heap, line, output, requests, bytes)
 }
 
 #[test]
-fn dump_line_ends_at_a_refused_request(rt: HostRuntime) -> Result<(), Failed> {
+fn dump_line_ends_at_a_refused_request(rt: HostRuntime) -> Check {
     let heap = Refusing::new(rt.alloc(), 0);
-    let mut index = 0usize;
-    for row in &ROWS {
-        if let Err(failed) = expect_row(&heap, row) {
-            return Err(failed.in_row(index));
-        }
-        index = index.wrapping_add(1);
-    }
-    Ok(())
+    each_row!(row in ROWS => expect_row(&heap, row))
 }
 
 #[test]
-fn a_long_malformed_line_needs_its_list_and_its_output(rt: HostRuntime) -> Result<(), Failed> {
-    let Ok(line) = repeated(rt.alloc(), b"0061 ", 1000, b"061") else {
-        return Err(Failed::by(Wrong::Memory));
-    };
+fn a_long_malformed_line_needs_its_list_and_its_output(rt: HostRuntime) -> Check {
+    let line = made!(repeated(rt.alloc(), b"0061 ", 1000, b"061"));
     let heap = Refusing::new(rt.alloc(), 0);
     // The list has a capacity of 4, 8 and so on up to 1,024 calls, which is nine requests, and the output is the tenth.
     expect_requests(&heap, line.as_slice(), b"?", 10, 24 * 2044 + 8)
@@ -190,7 +134,7 @@ fn expect_ends(
     expected: &[u8],
     least: u64,
     refusal: Refusal,
-) -> Result<(), Failed> {
+) -> Check {
     let made = requests_of(alloc, input, expected, refusal)?;
     expect(least <= made, Wrong::Requests)
 }
@@ -206,20 +150,14 @@ static INPUTS: [(&str, &str); 3] = [
 ];
 
 /// Fails unless a run on each of `INPUTS` makes four requests or more, and ends at each that is refused.
-fn expect_all_end(alloc: Global, refusal: Refusal) -> Result<(), Failed> {
-    let mut row = 0usize;
-    for (input, output) in &INPUTS {
-        let ended = expect_ends(alloc, input.as_bytes(), output.as_bytes(), 4, refusal);
-        if let Err(failed) = ended {
-            return Err(failed.in_row(row));
-        }
-        row = row.wrapping_add(1);
-    }
-    Ok(())
+fn expect_all_end(alloc: Global, refusal: Refusal) -> Check {
+    each_row!((input, output) in INPUTS => {
+        expect_ends(alloc, input.as_bytes(), output.as_bytes(), 4, refusal)
+    })
 }
 
 #[test]
-fn a_run_ends_at_a_refused_request_with_nothing_written(rt: HostRuntime) -> Result<(), Failed> {
+fn a_run_ends_at_a_refused_request_with_nothing_written(rt: HostRuntime) -> Check {
     for refusal in REFUSALS {
         expect_all_end(rt.alloc(), refusal)?;
         // One request each: the input, the list of calls, the string and the output.
@@ -230,13 +168,9 @@ fn a_run_ends_at_a_refused_request_with_nothing_written(rt: HostRuntime) -> Resu
 }
 
 #[test]
-fn a_run_on_a_long_line_ends_at_a_refused_request(rt: HostRuntime) -> Result<(), Failed> {
-    let Ok(line) = repeated(rt.alloc(), b"0061 ", 66, b"-999 D83D DCA9 -999\n") else {
-        return Err(Failed::by(Wrong::Memory));
-    };
-    let Ok(expected) = repeated(rt.alloc(), b"61 ", 66, b"F0 9F 92 A9 !2\n") else {
-        return Err(Failed::by(Wrong::Memory));
-    };
+fn a_run_on_a_long_line_ends_at_a_refused_request(rt: HostRuntime) -> Check {
+    let line = made!(repeated(rt.alloc(), b"0061 ", 66, b"-999 D83D DCA9 -999\n"));
+    let expected = made!(repeated(rt.alloc(), b"61 ", 66, b"F0 9F 92 A9 !2\n"));
     for refusal in REFUSALS {
         expect_ends(rt.alloc(), &line, &expected, 7, refusal)?;
     }
@@ -244,10 +178,8 @@ fn a_run_on_a_long_line_ends_at_a_refused_request(rt: HostRuntime) -> Result<(),
 }
 
 #[test]
-fn a_run_on_a_long_input_ends_at_a_refused_request(rt: HostRuntime) -> Result<(), Failed> {
-    let Ok(input) = repeated(rt.alloc(), b"none ", 1000, b"") else {
-        return Err(Failed::by(Wrong::Memory));
-    };
+fn a_run_on_a_long_input_ends_at_a_refused_request(rt: HostRuntime) -> Check {
+    let input = made!(repeated(rt.alloc(), b"none ", 1000, b""));
     for refusal in REFUSALS {
         expect_ends(rt.alloc(), &input, b"?\n", 2, refusal)?;
     }

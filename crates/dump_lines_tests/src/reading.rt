@@ -1,10 +1,10 @@
 // Readers that fail.
-use crate::wrong::{Failed, Wrong, expect};
 use dump_lines::{Fault, run};
 use refusing::{Refusal, Refusing};
 use std::alloc::Global;
 use std::io;
 use std::io::{Error, ErrorKind, Read};
+use wtf8_tests::wrong::{Check, Failed, Wrong, each_row, expect};
 
 /// Returns its bytes two at a time and fails at one call, counted from 1; later calls would succeed.
 #[derive(Drop)]
@@ -39,7 +39,7 @@ fn expect_fault(
     granted: u64,
     fault: Fault,
     calls: u32,
-) -> Result<(), Failed> {
+) -> Check {
     let heap = Refusing::new(alloc, 0);
     heap.refuse_after(granted, Refusal::Once);
     let mut reader = FailingReader {
@@ -70,20 +70,14 @@ static READS: [(&str, u32); 7] = [
 ];
 
 /// Fails unless each of `READS` that fails with this error ends a run.
-fn expect_reads(alloc: Global, error: ErrorKind) -> Result<(), Failed> {
-    let mut row = 0usize;
-    for (given, failing) in &READS {
-        let read = (*given, error, *failing);
-        if let Err(failed) = expect_fault(alloc, read, 99, Fault::Read, *failing) {
-            return Err(failed.in_row(row));
-        }
-        row = row.wrapping_add(1);
-    }
-    Ok(())
+fn expect_reads(alloc: Global, error: ErrorKind) -> Check {
+    each_row!((given, failing) in READS => {
+        expect_fault(alloc, (given, error, failing), 99, Fault::Read, failing)
+    })
 }
 
 #[test]
-fn a_failed_read_ends_the_run_with_nothing_written(rt: HostRuntime) -> Result<(), Failed> {
+fn a_failed_read_ends_the_run_with_nothing_written(rt: HostRuntime) -> Check {
     expect_reads(rt.alloc(), ErrorKind::Other)?;
     expect_reads(rt.alloc(), ErrorKind::Interrupted)?;
     expect_reads(rt.alloc(), ErrorKind::WouldBlock)
@@ -97,14 +91,9 @@ static FIRST: [(u32, u64, Fault, u32); 3] = [
 ];
 
 #[test]
-fn the_first_of_two_faults_is_the_result(rt: HostRuntime) -> Result<(), Failed> {
-    let mut row = 0usize;
-    for (failing, granted, fault, calls) in &FIRST {
-        let read = ("0061\n", ErrorKind::Other, *failing);
-        if let Err(failed) = expect_fault(rt.alloc(), read, *granted, *fault, *calls) {
-            return Err(failed.in_row(row));
-        }
-        row = row.wrapping_add(1);
-    }
-    Ok(())
+fn the_first_of_two_faults_is_the_result(rt: HostRuntime) -> Check {
+    each_row!((failing, granted, fault, calls) in FIRST => {
+        let read = ("0061\n", ErrorKind::Other, failing);
+        expect_fault(rt.alloc(), read, granted, fault, calls)
+    })
 }

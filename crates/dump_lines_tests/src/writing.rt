@@ -1,10 +1,10 @@
 // Writers that fail.
 use crate::inputs::repeated;
-use crate::wrong::{Failed, Wrong, expect};
 use dump_lines::{Fault, run};
 use std::alloc::Global;
 use std::io;
 use std::io::{Error, ErrorKind, Write};
+use wtf8_tests::wrong::{Check, Failed, Wrong, each_row, expect, made};
 
 /// What a writer does at one of its calls.
 #[derive(Clone, Copy)]
@@ -70,30 +70,23 @@ fn writer_of(
 
 /// What a run into a writer came to: the fault, if there was one, the bytes that the writer took, and the numbers of its calls
 /// and flushes.
-#[derive(Clone, Copy)]
-struct Ran<'a> {
-    fault: Option<Fault>,
-    taken: &'a [u8],
-    calls: u32,
-    flushes: u32,
-}
+type Ran<'a> = (Option<Fault>, &'a [u8], (u32, u32));
 
 /// Fails unless a run on `given` into the writer comes to this.
 fn expect_ran(
     alloc: Global,
     given: &[u8],
     writer: &mut FailingWriter,
-    ran: Ran<'_>,
-) -> Result<(), Failed> {
+    (fault, taken, made): Ran<'_>,
+) -> Check {
     let mut rest = given;
-    if run(alloc, &mut rest, writer).err() != ran.fault {
+    if run(alloc, &mut rest, writer).err() != fault {
         return Err(Failed::by(Wrong::Outcome));
     }
-    if writer.taken.as_slice() != ran.taken {
+    if writer.taken.as_slice() != taken {
         return Err(Failed::by(Wrong::Bytes));
     }
-    let are_made = writer.calls == ran.calls && writer.flushes == ran.flushes;
-    expect(are_made, Wrong::Calls)
+    expect((writer.calls, writer.flushes) == made, Wrong::Calls)
 }
 
 /// An input, the number of bytes that the writer takes a call, the call at which it fails, and what it took before.
@@ -109,26 +102,16 @@ static WRITES: [(&str, usize, u32, &str); 8] = [
 ];
 
 /// Fails unless each of `WRITES` that fails like this ends a run.
-fn expect_writes(alloc: Global, how: Failing) -> Result<(), Failed> {
-    let mut row = 0usize;
-    for (given, most, failing, taken) in &WRITES {
-        let mut writer = writer_of(alloc, *most, *failing, how, None);
-        let ran = Ran {
-            fault: Some(Fault::Write),
-            taken: taken.as_bytes(),
-            calls: *failing,
-            flushes: 0,
-        };
-        if let Err(failed) = expect_ran(alloc, given.as_bytes(), &mut writer, ran) {
-            return Err(failed.in_row(row));
-        }
-        row = row.wrapping_add(1);
-    }
-    Ok(())
+fn expect_writes(alloc: Global, how: Failing) -> Check {
+    each_row!((given, most, failing, taken) in WRITES => {
+        let mut writer = writer_of(alloc, most, failing, how, None);
+        let ran = (Some(Fault::Write), taken.as_bytes(), (failing, 0));
+        expect_ran(alloc, given.as_bytes(), &mut writer, ran)
+    })
 }
 
 #[test]
-fn a_failed_write_ends_the_run(rt: HostRuntime) -> Result<(), Failed> {
+fn a_failed_write_ends_the_run(rt: HostRuntime) -> Check {
     expect_writes(rt.alloc(), Failing::Fails(ErrorKind::Interrupted))?;
     expect_writes(rt.alloc(), Failing::Fails(ErrorKind::Other))?;
     expect_writes(rt.alloc(), Failing::TakesNothing)
@@ -142,55 +125,31 @@ static FLUSHES: [(&str, usize, u32, &str); 3] = [
 ];
 
 /// Fails unless each of `FLUSHES` whose flush has this error comes to this fault.
-fn expect_flushes(
-    alloc: Global,
-    flush_error: Option<ErrorKind>,
-    fault: Option<Fault>,
-) -> Result<(), Failed> {
-    let mut row = 0usize;
-    for (given, most, calls, taken) in &FLUSHES {
-        let mut writer = writer_of(alloc, *most, 0, Failing::TakesNothing, flush_error);
-        let ran = Ran {
-            fault,
-            taken: taken.as_bytes(),
-            calls: *calls,
-            flushes: 1,
-        };
-        if let Err(failed) = expect_ran(alloc, given.as_bytes(), &mut writer, ran) {
-            return Err(failed.in_row(row));
-        }
-        row = row.wrapping_add(1);
-    }
-    Ok(())
+fn expect_flushes(alloc: Global, flush_error: Option<ErrorKind>, fault: Option<Fault>) -> Check {
+    each_row!((given, most, calls, taken) in FLUSHES => {
+        let mut writer = writer_of(alloc, most, 0, Failing::TakesNothing, flush_error);
+        let ran = (fault, taken.as_bytes(), (calls, 1));
+        expect_ran(alloc, given.as_bytes(), &mut writer, ran)
+    })
 }
 
 #[test]
-fn a_failed_flush_ends_the_run(rt: HostRuntime) -> Result<(), Failed> {
+fn a_failed_flush_ends_the_run(rt: HostRuntime) -> Check {
     expect_flushes(rt.alloc(), None, None)?;
     expect_flushes(rt.alloc(), Some(ErrorKind::Interrupted), Some(Fault::Write))?;
     expect_flushes(rt.alloc(), Some(ErrorKind::Other), Some(Fault::Write))
 }
 
 /// Fails unless a writer that takes 70 KiB a call is called twice for `given`, and takes `expected`.
-fn expect_called_twice(alloc: Global, given: &[u8], expected: &[u8]) -> Result<(), Failed> {
+fn expect_called_twice(alloc: Global, given: &[u8], expected: &[u8]) -> Check {
     let mut writer = writer_of(alloc, 70 * 1024, 0, Failing::TakesNothing, None);
-    let ran = Ran {
-        fault: None,
-        taken: expected,
-        calls: 2,
-        flushes: 1,
-    };
-    expect_ran(alloc, given, &mut writer, ran)
+    expect_ran(alloc, given, &mut writer, (None, expected, (2, 1)))
 }
 
 #[test]
-fn a_writer_of_seventy_kibibytes_is_called_twice(rt: HostRuntime) -> Result<(), Failed> {
+fn a_writer_of_seventy_kibibytes_is_called_twice(rt: HostRuntime) -> Check {
     let alloc = rt.alloc();
-    let Ok(input) = repeated(alloc, b"1F4A9 ", 6515, b"1F4A9\n0061\n") else {
-        return Err(Failed::by(Wrong::Memory));
-    };
-    let Ok(expected) = repeated(alloc, b"F0 9F 92 A9 ", 6515, b"F0 9F 92 A9\n61\n") else {
-        return Err(Failed::by(Wrong::Memory));
-    };
+    let input = made!(repeated(alloc, b"1F4A9 ", 6515, b"1F4A9\n0061\n"));
+    let expected = made!(repeated(alloc, b"F0 9F 92 A9 ", 6515, b"F0 9F 92 A9\n61\n"));
     expect_called_twice(alloc, &input, &expected)
 }
