@@ -1,4 +1,5 @@
 pub mod AsciiFronts
+pub mod Entries
 pub mod Copies
 pub mod Mismatch
 pub mod Moves

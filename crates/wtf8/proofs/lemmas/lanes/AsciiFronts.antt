@@ -18,10 +18,7 @@ map-saturated [] = refl
 map-saturated (x ∷ u) = λ i. lane i ∷ map-saturated u i
   where
     lane : leb 0x80 (min x 0xFF) ≡ leb 0x80 x
-    lane = elim (cases_lt x 0x80) [
-      | inl l ↦ rw (lt-leb 0x80 x l, lt-leb 0x80 (min x 0xFF) (omega (arith, l))) refl
-      | inr g ↦ rw (le-leb 0x80 x g, le-leb 0x80 (min x 0xFF) (omega (arith, g))) refl
-    ]
+    lane = grind (arith, cases_lt, lt-leb, le-leb)
 
 -- the lanes before the first set bit of the mask of non-ASCII lanes are ASCII
 module _ (w : Width) (n : ℕ) (xs : List ℕ) (few : n ≤ 64) (long : length xs ≡ n) where
@@ -168,7 +165,4 @@ ascii_greater (x ∷ xs) (y ∷ ys) e h =
     ((omega (arith, h.0, greater.0), rest.0), (omega (arith, h.0, greater.1), rest.1))
   where
     greater : (x ≤ cond (top 15 (cond (ltb x y) 0xFFFF 0)) y x) × (y ≤ cond (top 15 (cond (ltb x y) 0xFFFF 0)) y x)
-    greater = elim (cases_lt x y) [
-      | inl l ↦ rw (lt-ltb x y l) (omega (arith, l), omega arith)
-      | inr g ↦ rw (le-ltb x y g) (omega arith, omega (arith, g))
-    ]
+    greater = grind (arith, cases_lt, lt-ltb, le-ltb)

@@ -1,6 +1,6 @@
 -- Bytes compared in lanes: the mask of a block, and lists without a mismatch.
 use Rattle.wtf8.proofs.Common.{◌≡◌, ◌≢◌, ◌↔◌, ℕ, zero, suc, ◌+◌, ◌<◌, ◌≤◌, eqb, Bool, true, false, IsTrue, cond, not, inl, inr, refl, sym}
-use Rattle.wtf8.proofs.Common.{ap, subst, arith, List, [], ◌∷◌, ◌∙◌, map, length, get_or, nat_eq, take, take_all, cases_Bool, both_ways}
+use Rattle.wtf8.proofs.Common.{ap, arith, List, [], ◌∷◌, ◌∙◌, map, length, get_or, nat_eq, take, take_all, cases_Bool, both_ways}
 use Rattle.wtf8.proofs.Common.{eq-eqb, eqb-true, length-chunk, get_or-chunk, get_or-zip2, length-zip2, tops_compared, mask_l, w8, None}
 use Rattle.wtf8.proofs.Common.{Some, Option, ◌%◌, ◌^◌, pointwise, bytes_decides, chunk, zip2, top, IsLeast, NoneIn, not-true, MatchOption}
 use Rattle.wtf8.proofs.Common.{DifferAt, DecidesNone, IsFirstSet, IsSet, false_from_ne_true}
@@ -27,10 +27,7 @@ module _ (n : ℕ) (w v : List ℕ) (i : ℕ) (few : n ≤ 64) (own : i + n ≤ 
   unequal_mask-mask_l = ap (λ ms. mask_l ms % 2 ^ 64) (tops_compared w8 is_unequal (chunk i n w) (chunk i n v))
 
   IsSet-unequal_lanes : (k : ℕ) → k < n → IsSet unequal_lanes k ↔ DifferAt w v (i + k)
-  IsSet-unequal_lanes k l =
-      let here = get_or-zip2 is_unequal (chunk i n w) (chunk i n v) k 0 0 false (omega (arith, length-chunk i n w own, l))
-      (omega (arith, length-chunk i n v others, l)) in
-      subst (λ b. IsTrue b ↔ DifferAt w v (i + k)) (sym here) (rw (get_or-chunk i n w k 0 l, get_or-chunk i n v k 0 l) (is_unequal_iff _ _))
+  IsSet-unequal_lanes k l = grind (arith, get_or-zip2, length-chunk, get_or-chunk, is_unequal_iff)
 
   pub first_unequal_lane : (r : Option ℕ) → IsFirstSet unequal_mask r
       → MatchOption r (NoneIn (DifferAt w v) i (i + n)) (λ k. IsLeast (DifferAt w v) i (i + k) × (i + k < i + n))

@@ -1,13 +1,14 @@
 -- Bytes and zeros after them as the lanes of a vector.
 use Rattle.wtf8.proofs.Common.{◌≡◌, ℕ, zero, suc, ◌+◌, ◌-◌, ◌*◌, ◌<◌, ◌≤◌, List, ◌∷◌, [], ◌++◌, length, take, drop, replicate, refl, sym, ap}
-use Rattle.wtf8.proofs.Common.{◌∙◌, arith, subst, w8, swz_l, pick_l_whole, rules, cases_lt, inl, inr, length-append, length-replicate, length-drop}
-use Rattle.wtf8.proofs.Common.{put_chunk_is, length-chunk, chunk, take_all, drop-append-le, drop-drop, append_assoc, append-nil, take-append-drop}
+use Rattle.wtf8.proofs.Common.{◌∙◌, arith, subst, w8, swz_l, pick_l_whole, rules, cases_lt, inl, inr, length-append, length-replicate}
+use Rattle.wtf8.proofs.Common.{put_chunk_is, length-chunk, chunk, append_assoc, append-nil, take-append-drop}
 use Rattle.std.proofs.lemmas.List.{drop-replicate, replicate-append-replicate}
 use Rattle.std.proofs.lemmas.Simd.{SwzOk}
 use Rattle.std.specs.Prelude.{⊤}
 use Rattle.std.specs.List.{range_with_len}
 use lib.Lanes.{pick_l, put_chunk}
 use Rattle.wtf8.specs.declared.lanes.padding.TheConstants.{BYTE_SHIFTS}
+use Rattle.std.proofs.lemmas.List.{places, same_lists}
 
 -- a fact of each number below `n`
 abbrev pub Below : (ℕ → Type 0) → ℕ → Type 0
@@ -52,19 +53,7 @@ stored n w few long =
 pub others : (n : ℕ) (w : List ℕ) → n ≤ 16 → n ≤ length w → length w ≤ 2 * n
     → drop (2 * n - length w) (take n (take (length w - (length w - n)) (drop (length w - n) w)) ++ replicate (16 - n) 0)
     ++ replicate (2 * n - length w) 0 ≡ drop n w ++ replicate (16 + n - length w) 0
-others n w few least most =
-    let k = 2 * n - length w in
-    let end = drop (length w - n) w in
-    let count : length end ≡ n = omega (arith, length-drop (length w - n) w, least) in
-    let all : take n (take (length w - (length w - n)) end) ≡ end =
-    ap (take n) (take_all (length w - (length w - n)) end (omega (arith, count, least))) ∙ take_all n end (omega (arith, count)) in
-    let sum : (length w - n) + k ≡ n = omega (arith, least, most) in
-    let zeros : 16 - n + k ≡ 16 + n - length w = omega (arith, few, least, most) in
-    ap (λ v. drop k (v ++ replicate (16 - n) 0) ++ replicate k 0) all
-    ∙ (ap (λ v. v ++ replicate k 0) (drop-append-le k end (replicate (16 - n) 0) (omega (arith, count, least)))
-    ∙ (append_assoc (drop k end) (replicate (16 - n) 0) (replicate k 0)
-    ∙ ((λ i. drop k end ++ replicate-append-replicate (16 - n) k 0 i)
-    ∙ (λ i. (drop-drop k (length w - n) w ∙ ap (λ m. drop m w) sum) i ++ replicate (zeros i) 0))))
+others n w few least most = same_lists _ _ (search (rules, places)) (λ k d l. grind (arith, places))
 
 -- the first `n` bytes, then the others, picked from two vectors
 abbrev Joined : ℕ → List ℕ → List ℕ → Type 0

@@ -1,22 +1,11 @@
-use Rattle.wtf8.proofs.Common.{◌≡◌, ◌+◌, ◌-◌, ◌≤◌, ◌∙◌, ◌++◌, ap, sym, subst, arith, length, length-drop, drop, take, drop-drop, refl, append-nil, take_all}
+use Rattle.wtf8.proofs.Common.{◌≡◌, ◌+◌, ◌-◌, ◌≤◌, ◌∙◌, ◌++◌, ap, subst, arith, length, length-drop, drop, take, drop-drop, append-nil, take_all}
 use Rattle.std.proofs.lemmas.Simd.{put_chunk_is, length-chunk}
 use Rattle.wtf8.proofs.lemmas.lanes.Moves.{MovedDown, moved_down, paste_is}
 use Rattle.wtf8.proofs.lanes.moves.move_blocks_down.Goals.{After-copy_within}
 use Rattle.wtf8.proofs.lanes.moves.move_blocks_down.Goals as goal
 
 pub loop-bytes-init : goal.loop-bytes-init
-loop-bytes-init c =
-    let w = c.args.bytes.now in
-    let zero_left : 0 ≡ c.args.from - c.args.from = omega arith in (
-      omega arith,
-      c.requires.within,
-      record {
-        len = refl;
-        front = sym (append-nil (take (c.args.from - c.args.by) w))
-            ∙ ap (λ k. take (c.args.from - c.args.by) w ++ take k (drop c.args.from w)) zero_left;
-        back = refl;
-      },
-    )
+loop-bytes-init c = grind (arith, append-nil)
 
 pub loop-bytes-preserved : goal.loop-bytes-preserved
 loop-bytes-preserved c =

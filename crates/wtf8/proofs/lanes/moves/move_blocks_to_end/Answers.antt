@@ -1,23 +1,11 @@
-use Rattle.wtf8.proofs.Common.{◌≡◌, ◌+◌, ◌-◌, ◌≤◌, ◌∙◌, ◌++◌, ap, sym, arith, length, length-drop, length-take-le, drop, take, drop-drop, refl, drop_all, take_all}
+use Rattle.wtf8.proofs.Common.{◌≡◌, ◌+◌, ◌-◌, ◌≤◌, ◌∙◌, ◌++◌, ap, arith, length, length-drop, length-take-le, drop, take, drop-drop, drop_all, take_all}
 use Rattle.std.proofs.lemmas.Simd.{put_chunk_is, length-chunk}
 use Rattle.wtf8.proofs.lemmas.lanes.Moves.{MovedUp, moved_up, paste_is}
 use Rattle.wtf8.proofs.lanes.moves.move_blocks_to_end.Goals.{After-copy_within}
 use Rattle.wtf8.proofs.lanes.moves.move_blocks_to_end.Goals as goal
 
 pub loop-at-init : goal.loop-at-init
-loop-at-init c =
-    let w = c.args.bytes.now in
-    let all : take (length w) w ≡ w = take_all (length w) w (omega arith) in (
-      omega (arith, c.requires),
-      omega (arith, c.requires),
-      record {
-        len = refl;
-        front = refl;
-        back = ap (λ k. drop k w) (omega (arith, c.requires)) ∙ (drop_all (length w) w (omega arith)
-            ∙ sym (drop_all (length w - c.args.by) (take (length w - c.args.by) w)
-            (omega (arith, length-take-le (length w - c.args.by) w (omega arith)))));
-      },
-    )
+loop-at-init c = grind (arith, take_all, drop_all, length-take-le)
 
 pub loop-at-preserved : goal.loop-at-preserved
 loop-at-preserved c =

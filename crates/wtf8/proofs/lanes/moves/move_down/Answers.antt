@@ -1,4 +1,4 @@
-use Rattle.wtf8.proofs.Common.{◌≡◌, ◌-◌, ◌∙◌, ◌++◌, ap, arith, length, length-drop, length-append, length-take-le, drop, take, take_all}
+use Rattle.wtf8.proofs.Common.{ℕ, ◌≡◌, ◌-◌, ◌∙◌, ◌++◌, ap, arith, length, length-drop, length-append, length-take-le, drop, take, take_all}
 use Rattle.std.proofs.lemmas.Simd.{put_chunk_is}
 use Rattle.wtf8.proofs.lemmas.lanes.Moves.{first_stored}
 use Rattle.wtf8.proofs.lanes.moves.move_down.Goals as goal
@@ -20,13 +20,4 @@ returns-clause-items c =
     let first_len : length (take 64 (drop from w)) ≡ 64 = length-take-le 64 (drop from w) (omega (arith, length-drop from w, long)) in
     first_stored w q (take (length w - begin) (drop begin w)) z _ from by begin all size order (omega (arith, near.near))
     (omega (arith, near.within)) (omega (arith, long)) c.move_blocks_down-2.ensures.items
-    (put_chunk_is (from - by) now (take 64 (drop from w)) (omega (
-      arith,
-      first_len,
-      length-append (take begin w) (q ++ z),
-      length-append q z,
-      length-take-le begin w (omega (arith, near.within, long)),
-      size,
-      long,
-      order,
-    )))
+    (put_chunk_is (from - by) now (take 64 (drop from w)) (omega (arith, length-append {A = ℕ}, length-take-le {A = ℕ})))

@@ -3,9 +3,7 @@ use Rattle.wtf8.proofs.lemmas.lanes.SurrogateLanes.{first_surrogate_at_offset}
 use Rattle.wtf8.proofs.lanes.search.surrogate_in_block.Goals as goal
 
 pub overflow_add-result : goal.overflow_add-result
-overflow_add-result c =
-    let first = first_surrogate_at_offset c.args.bytes.now c.args.at c.requires (Some c.in_ok-lane.lane) c.in_ok-lane.ensures in
-    omega (arith, first.1, c.requires)
+overflow_add-result c = grind (arith, first_surrogate_at_offset)
 
 pub returns-in_err-lane : goal.returns-in_err-lane
 returns-in_err-lane c =
