@@ -42,37 +42,11 @@ cuts_before_pair {c} {n} {k} {p} l clean d e =
 pub cuts_before_lead : {c : List ℕ} {n k : ℕ} (x : Undivided c n k) (f : List ℕ) (l : ℕ) → x.front ≡ f ++ l ∷ [] → IsLead l
     → (3 ≤ k) × CutsBefore c n (k - 3) (l ∷ [])
 cuts_before_lead {c} {n} {k} x f l e lead =
-    let three = length-surrogate l (omega (arith, lead), omega (arith, lead)) in
-    let size : length (bytes f) + 3 ≡ k = omega (
-      arith,
-      x.front_len,
-      ap (λ d. length (bytes d)) e,
-      ap length (bytes-pushed f l),
-      length-append (bytes f) (encoding l),
-      three,
-    ) in (
-      omega (arith, size),
-      record {
-        front = f;
-        back = l ∷ x.back;
-        joined = x.joined ∙ (ap (λ d. d ++ x.back) e ∙ append_assoc f (l ∷ []) x.back);
-        front_len = omega (arith, size);
-        kept = ap (λ u. units f ++ u) (sym (units_one l (omega (arith, lead)))) ∙ (sym (units-pushed f l)
-            ∙ (ap units (sym e) ∙ sym x.kept));
-        apart = λ y. unpaired-before_no_trail l y (λ t. omega (arith, lead, t));
-      },
-    )
+    grind (arith, length-surrogate, bytes-pushed, length-append, append_assoc, units_one, units-pushed, unpaired-before_no_trail)
 
 pub cuts_before_none : {c : List ℕ} {n k : ℕ} (x : Undivided c n k)
     → ((f : List ℕ) (l : ℕ) → IsLead l → x.front ≡ f ++ l ∷ [] → ⊥) → CutsBefore c n k []
-cuts_before_none x none = record {
-  front = x.front;
-  back = x.back;
-  joined = x.joined;
-  front_len = x.front_len;
-  kept = append-nil (units x.front) ∙ sym x.kept;
-  apart = λ y m. let last = lead_last x.front m.front m.lead m.is_lead m.ends in none last.0 m.lead m.is_lead last.1;
-}
+cuts_before_none x none = grind (arith, append-nil, lead_last)
 
 -- The surrogate after the cut.
 
@@ -107,16 +81,7 @@ cuts_after_trail {c} {n} {k} x t r e trail =
 
 pub cuts_after_none : {c : List ℕ} {n k : ℕ} (x : Undivided c n k) → IsClean c
     → ((t : ℕ) (r : List ℕ) → IsTrail t → x.back ≡ t ∷ r → ⊥) → CutsAfter c n k []
-cuts_after_none {c} x clean none = record {
-  front = x.front;
-  back = x.back;
-  joined = x.joined;
-  front_len = x.front_len;
-  kept = sym x.after;
-  apart = λ y m.
-      let first = trail_begins x.back m.rest m.trail (clean-back x.front x.back (subst IsClean x.joined clean)) m.is_trail m.begins in
-      none m.trail first.0 m.is_trail first.1;
-}
+cuts_after_none {c} x clean none = grind (arith, trail_begins, clean-back)
 
 -- the positions of the cuts are in the order of the numbers of units
 pub rounded_in_order : {w u : List ℕ} {k l m n begin end : ℕ} → IsForm w u → IsMark w u k m → IsMark w u l n → RoundsDownTo u begin m

@@ -1,11 +1,14 @@
 -- Lists of units compared part by part.
-use Rattle.wtf8.proofs.Common.{◌≡◌, ℕ, ◌-◌, ◌<◌, ◌≤◌, ◌↔◌, ◌⊎◌, List, [], ◌∷◌, ◌++◌, ◌∙◌, refl, sym, ap, subst, arith, length, take, drop}
+use Rattle.wtf8.proofs.Common.{◌≡◌, ℕ, ◌-◌, ◌<◌, ◌≤◌, ◌↔◌, ◌⊎◌, List, [], ◌∷◌, ◌++◌, ◌∙◌, refl, sym, ap, arith, length, take, drop}
 use Rattle.wtf8.proofs.Common.{inl, inr, true, false, min, nat_cmp, slice_cmp, ordering_then, Ordering, Less, Equal, Greater, false≢true, cases_lt}
-use Rattle.wtf8.proofs.Common.{bytes, encoding, units, IsClean, IsBoundary, IsWellFormed, length-append, length-drop, append-nil}
-use Rattle.wtf8.proofs.Common.{take-take, take_all, drop_all, take-append-drop, drop_at, drop-take, take-append-add}
-use Rattle.std.proofs.lemmas.List.{take-append-le, take_min, drop_min}
+use Rattle.wtf8.proofs.Common.{bytes, encoding, units, IsClean, IsBoundary, IsWellFormed, length-append, append-nil}
+use Rattle.std.proofs.lemmas.List.{take_min, drop_min}
 use Rattle.std.specs.Ordering.{is_ne}
 use Rattle.wtf8.proofs.lemmas.codec.Encoding.{length-encoding_bounds}
+use Rattle.std.proofs.lemmas.List.{places, same_lists}
+use Rattle.wtf8.proofs.lemmas.lanes.Entries.{get_of}
+use Rattle.wtf8.proofs.Common.{rules}
+use Rattle.wtf8.proofs.Common.{◌+◌}
 
 -- the first code point of a string that is not empty ends at a boundary
 abbrev first_of : (c w : List ℕ) → IsClean c → bytes c ≡ w → 0 < length w
@@ -54,11 +57,7 @@ undecided Greater s t = absurd (false≢true (sym t))
 module _ (a x u v : List ℕ) (n : ℕ) (whole : a ++ x ≡ u) (count : length a ≡ n) where
   cmp_by_parts : slice_cmp nat_cmp u v
       ≡ ordering_then (slice_cmp nat_cmp a (take (min n (length v)) v)) (slice_cmp nat_cmp x (drop (min n (length v)) v))
-  cmp_by_parts =
-      ap (λ l. slice_cmp nat_cmp l v) (sym whole) ∙ cmp_parts a x v
-      ∙ ap (λ k. ordering_then (slice_cmp nat_cmp a (take k v)) (slice_cmp nat_cmp x (drop k v))) count
-      ∙ ap (λ l. ordering_then (slice_cmp nat_cmp a l) (slice_cmp nat_cmp x (drop n v))) (sym (take_min n v))
-      ∙ ap (λ l. ordering_then (slice_cmp nat_cmp a (take (min n (length v)) v)) (slice_cmp nat_cmp x l)) (sym (drop_min n v))
+  cmp_by_parts = grind (arith, cmp_parts, take_min, drop_min)
 
   pub cmp_decided : (r : Ordering) → r ≡ slice_cmp nat_cmp a (take (min n (length v)) v) → is_ne r ≡ true → slice_cmp nat_cmp u v ≡ r
   cmp_decided r is t = cmp_by_parts ∙ ap (λ o. ordering_then o (slice_cmp nat_cmp x (drop (min n (length v)) v))) (sym is) ∙ decided r _ t
@@ -74,30 +73,14 @@ Begins u v = take (length v) u ≡ v
 -- whether a list begins with another is told by their first parts and by the rests after these
 module _ (a x v : List ℕ) (n : ℕ) (own : n ≤ length a) (others : n ≤ length v) (reached : (n ≡ length a) ⊎ (n ≡ length v)) where
   begins_front : Begins (a ++ x) v → take n a ≡ take n v
-  begins_front b =
-      sym (take-append-le n a x own) ∙ sym (take-take n (length v) (a ++ x) others) ∙ ap (take n) b
+  begins_front b = same_lists _ _ (search (rules, places)) (λ k d l. grind (arith, places, get_of b k d))
 
   begins_rest : take n a ≡ take n v → Begins (a ++ x) v → Begins x (drop n v)
-  begins_rest same b = elim reached [
-    | inl e ↦
-        let rest : drop n v ≡ take (length v - n) x =
-        ap (drop n) (sym b) ∙ ap (λ k. drop n (take k (a ++ x))) (omega (arith, others)) ∙ drop-take n (length v - n) (a ++ x)
-        ∙ ap (take (length v - n)) (drop_at a x n (omega (arith, e))) in
-        ap (λ k. take k x) (length-drop n v) ∙ sym rest
-    | inr e ↦
-        let none : drop n v ≡ [] = drop_all n v (omega (arith, e)) in
-        subst (λ l. Begins x l) (sym none) refl
-  ]
+  begins_rest same b = same_lists _ _ (grind (arith, places, ap length b, reached)) (λ k d l. grind (arith, places, reached, get_of b (n + k) d))
 
   begins_whole : take n a ≡ take n v → Begins x (drop n v) → Begins (a ++ x) v
-  begins_whole same b = elim reached [
-    | inl e ↦
-        ap (λ k. take k (a ++ x)) (omega (arith, others, e, length-drop n v)) ∙ take-append-add a x (length (drop n v))
-        ∙ ap (λ l. l ++ take (length (drop n v)) x) (sym (take_all n a (omega (arith, e))) ∙ same)
-        ∙ ap (λ l. take n v ++ l) b ∙ take-append-drop n v
-    | inr e ↦
-        ap (λ k. take k (a ++ x)) (sym e) ∙ take-append-le n a x own ∙ same ∙ take_all n v (omega (arith, e))
-  ]
+  begins_whole same b = same_lists _ _ (grind (arith, places, ap length b, reached))
+      (λ k d l. grind (arith, places, reached, get_of same k d, get_of b (k - n) d))
 
   begins_parts : take n a ≡ take n v → Begins (a ++ x) v ↔ Begins x (drop n v)
   begins_parts same = (begins_rest same, begins_whole same)
@@ -111,11 +94,7 @@ least_of n k l e = elim (cases_lt k l) [ inl h ↦ inl (omega (arith, e, h)) | i
 -- the same of a list `u` that is a part `a` and the rest `x`, if the parts that are compared end with one of both
 module _ (a x u v : List ℕ) (n : ℕ) (whole : a ++ x ≡ u) (least : n ≡ min (length a) (length v)) where
   pub begins_equal : take n a ≡ take n v → Begins u v ↔ Begins x (drop n v)
-  begins_equal same =
-      subst (λ l. Begins l v ↔ Begins x (drop n v)) whole
-      (begins_parts a x v n (omega (arith, least)) (omega (arith, least)) (least_of n (length a) (length v) least) same)
+  begins_equal same = grind (arith, begins_parts, least_of)
 
   pub begins_unequal : ¬ (take n a ≡ take n v) → ¬ (Begins u v)
-  begins_unequal apart =
-      subst (λ l. ¬ (Begins l v)) whole
-      (begins_apart a x v n (omega (arith, least)) (omega (arith, least)) (least_of n (length a) (length v) least) apart)
+  begins_unequal apart = grind (arith, begins_apart, least_of)

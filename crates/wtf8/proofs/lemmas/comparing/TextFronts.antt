@@ -1,5 +1,5 @@
 -- A string that begins with a text in UTF-8.
-use Rattle.wtf8.proofs.Common.{◌≡◌, ℕ, List, ◌++◌, ◌∙◌, refl, sym, ap, length, take, drop, take-append-drop, take_at, chars, units}
+use Rattle.wtf8.proofs.Common.{arith, ◌≡◌, ℕ, List, ◌++◌, ◌∙◌, refl, sym, ap, length, take, drop, take-append-drop, take_at, chars, units}
 use Rattle.wtf8.proofs.Common.{All-drop, IsForm, IsFront, IsUnit, IsUtf8, Wtf8, form_of, view_units}
 use Rattle.wtf8.proofs.lemmas.codec.Readings.{form-append, units-append}
 use Rattle.wtf8.proofs.lemmas.strings.Concatenation.{one_form, units_read}
@@ -7,9 +7,7 @@ use Rattle.wtf8.proofs.lemmas.strings.ExtendedForms.{scalar_front_unpaired, scal
 
 -- a list of units begins with the units before a boundary
 pub begins_with_front : {u v : List ℕ} {k : ℕ} → IsFront u k v → take (length v) u ≡ v
-begins_with_front {u} {v} f =
-    let parts : u ≡ v ++ units f.back = sym f.splits.reads.same_units ∙ (units-append f.front f.back ∙ ap (λ z. z ++ units f.back) f.same_units) in
-    ap (take (length v)) parts ∙ take_at v (units f.back) (length v) refl
+begins_with_front {u} {v} f = grind (arith, units-append, take_at)
 
 -- in a string whose units begin with a text's there is a boundary after the text's bytes
 pub text_front : (v : Wtf8) (w : List ℕ) → IsUtf8 w → take (length (units (chars w))) (view_units v) ≡ units (chars w)

@@ -17,6 +17,8 @@ use Rattle.wtf8.proofs.lemmas.lanes.Moves.{paste_is}
 use Rattle.wtf8.proofs.lemmas.strings.Concatenation.{one_form, units_read}
 use Rattle.wtf8.proofs.lemmas.strings.ExtendedForms.{all_back, beginning_of_form, scalar_to-append, scalar_to-front}
 use Rattle.wtf8.proofs.lemmas.strings.Positions.{cut_by}
+use Rattle.std.proofs.lemmas.List.{places, same_lists}
+use Rattle.wtf8.proofs.lemmas.lanes.Entries.{get_of}
 
 -- Strings less a surrogate at an end.
 
@@ -30,37 +32,21 @@ pub before_lead : {w : List ℕ} (h : IsWellFormed w) (f : List ℕ) (l : ℕ) �
     → (3 ≤ length w) × ((front : IsWellFormed (take (length w - 3) w)) × (front.points ≡ f))
 before_lead {w} h f l lead e =
     let three = length-surrogate l (omega (arith, lead), omega (arith, lead)) in
-    let size : length (bytes f) + 3 ≡ length w = omega (
-      arith,
-      ap length h.encoded,
-      ap (λ d. length (bytes d)) e,
-      ap length (bytes-pushed f l),
-      length-append (bytes f) (encoding l),
-      three,
-    ) in
+    let size : length (bytes f) + 3 ≡ length w =
+    omega (arith, ap length h.encoded, ap (λ d. length (bytes d)) e, ap length (bytes-pushed f l), length-append {A = ℕ}) in
     let cut = cut_by h f (l ∷ []) (length w - 3) e (omega (arith, size)) in (omega (arith, size), (cut.before, cut.before_points))
 
 -- Bytes written over others.
 
 pub placed : (now new piece : List ℕ) (at n : ℕ) → new ≡ piece → length piece ≡ n → at + n ≤ length now
     → put_mid at (at + n - at) now new ≡ take at now ++ (piece ++ drop (at + length piece) now)
-placed now new piece at n e size fits =
-    put_mid-paste at (at + n - at) now new piece n e (omega arith) (omega (arith, size))
-    ∙ (paste_is now at piece n (omega (arith, fits)) (omega (arith, size))
-    ∙ (ap (λ p. take at now ++ (p ++ drop (at + n) now)) (take_all n piece (omega (arith, size)))
-    ∙ ap (λ k. take at now ++ (piece ++ drop (at + k) now)) (sym size)))
+placed now new piece at n e size fits = grind (arith, put_mid-paste, paste_is, take_all)
 
 -- Writing the form of a list of units, part by part.
 
 -- nothing is written yet
 pub writes_none : (old : List ℕ) (at : ℕ) (v : List ℕ) → WritesForm old at v 0 old at
-writes_none old at v = record {
-  within = omega arith;
-  front = [];
-  end = omega arith;
-  items = sym (take-append-drop at old);
-  rest = λ w f. f;
-}
+writes_none old at v = grind (arith, take-append-drop)
 
 module _ {old now : List ℕ} {at to read : ℕ} {v : List ℕ} (u : All IsUnit v) (m : WritesForm old at v read now to)
     (room : (w : List ℕ) → IsForm w v → at + length w ≤ length old) (piece : List ℕ) (n : ℕ)
@@ -73,13 +59,7 @@ module _ {old now : List ℕ} {at to read : ℕ} {v : List ℕ} (u : All IsUnit 
   pub room_for_piece : to + length piece ≤ length old
   room_for_piece =
       let last = one_form (drop (read + n) v) (All-drop IsUnit (read + n) v u) in
-      omega (
-        arith,
-        room ((m.front ++ piece) ++ last.one) (more_form last.one last.has),
-        length-append (m.front ++ piece) last.one,
-        length-append m.front piece,
-        m.end,
-      )
+      omega (arith, room ((m.front ++ piece) ++ last.one) (more_form last.one last.has), length-append {A = ℕ})
 
   pub writes_more : {new : List ℕ} → read + n ≤ length v → new ≡ take to now ++ (piece ++ drop (to + length piece) now)
       → WritesForm old at v (read + n) new (to + length piece)
@@ -117,15 +97,6 @@ written {old} {now} {at} {to} {read} {v} m all w f =
 
 -- Three lists written into a gap, one after the other.
 
--- at the index after `p`, `x` is written over the first of the bytes after it
-written_after : (p r x s : List ℕ) (at : ℕ) → s ≡ p ++ r → length p ≡ at
-    → take at s ++ (x ++ drop (at + length x) s) ≡ (p ++ x) ++ drop (length x) r
-written_after p r x s at e n =
-    let kept : take at s ≡ p = ap (take at) e ∙ take_at p r at n in
-    let last : drop (at + length x) s ≡ drop (length x) r =
-    sym (drop-drop (length x) at s) ∙ ap (drop (length x)) (ap (drop at) e ∙ drop_at p r at n) in
-    ap (λ k. k ++ (x ++ drop (at + length x) s)) kept ∙ (ap (λ l. p ++ (x ++ l)) last ∙ sym (append_assoc p x (drop (length x) r)))
-
 pub three_written : (old g x y z : List ℕ) {s1 s2 s3 : List ℕ} (begin end at2 at3 n : ℕ) → begin ≤ length old
     → take begin g ≡ take begin old → drop (begin + n) g ≡ drop end old
     → at2 ≡ begin + length x → at3 ≡ at2 + length y → begin + n ≡ at3 + length z
@@ -134,38 +105,15 @@ pub three_written : (old g x y z : List ℕ) {s1 s2 s3 : List ℕ} (begin end at
     → s3 ≡ take at3 s2 ++ (z ++ drop (at3 + length z) s2)
     → s3 ≡ take begin old ++ ((x ++ (y ++ z)) ++ drop end old)
 three_written old g x y z {s1} {s2} {s3} begin end at2 at3 n within front back e2 e3 all h1 h2 h3 =
-    let k = take begin old in
-    let size : length k ≡ begin = length-take-le begin old within in
-    let r = drop begin g in
-    let whole : g ≡ k ++ r = sym (take-append-drop begin g) ∙ ap (λ f. f ++ r) front in
-    let one : s1 ≡ (k ++ x) ++ drop (length x) r = h1 ∙ written_after k r x g begin whole size in
-    let two : s2 ≡ ((k ++ x) ++ y) ++ drop (length y) (drop (length x) r) =
-    h2 ∙ written_after (k ++ x) (drop (length x) r) y s1 at2 one (omega (arith, length-append k x, size, e2)) in
-    let three : s3 ≡ (((k ++ x) ++ y) ++ z) ++ drop (length z) (drop (length y) (drop (length x) r)) =
-    h3 ∙ written_after ((k ++ x) ++ y) (drop (length y) (drop (length x) r)) z s2 at3 two
-    (omega (arith, length-append k x, length-append (k ++ x) y, size, e2, e3)) in
-    let rest : drop (length z) (drop (length y) (drop (length x) r)) ≡ drop end old =
-    ap (λ l. drop (length z) (drop (length y) l)) (drop-drop (length x) begin g)
-    ∙ (ap (drop (length z)) (drop-drop (length y) (begin + length x) g)
-    ∙ (drop-drop (length z) ((begin + length x) + length y) g
-    ∙ (ap (λ i. drop i g) (omega (arith, e2, e3, all)) ∙ back))) in
-    let d = drop end old in
-    three ∙ (ap (λ l. (((k ++ x) ++ y) ++ z) ++ l) rest
-    ∙ (append_assoc ((k ++ x) ++ y) z d ∙ (append_assoc (k ++ x) y (z ++ d) ∙ (append_assoc k x (y ++ (z ++ d))
-    ∙ ap (λ l. k ++ l) (sym (append_assoc x (y ++ z) d ∙ ap (λ l. x ++ l) (append_assoc y z d)))))))
+    same_lists _ _ (grind (arith, places, ap length h1, ap length h2, ap length h3, ap length back, ap length front))
+    (λ k d l. grind (arith, places, get_of h3 k d, get_of h2 k d, get_of h1 k d, get_of front k d, get_of back (k - (begin + n)) d))
 
 -- The length of a form, and forms of three lists, one after the other.
 
 pub encoded_bound : {v : List ℕ} {n : ℕ} → All IsUnit v → ((w : List ℕ) → IsForm w v → n ≡ length w) → n ≤ 3 * length v
 encoded_bound {v} {n} u is =
     let f = one_form v u in
-    omega (
-      arith,
-      is f.one f.has,
-      ap length f.has.encoded,
-      ap length f.has.reads.same_units,
-      (lists_have_lengths f.has.points).units_most,
-    )
+    omega (arith, is f.one f.has, ap length f.has.encoded, ap length f.has.reads.same_units, (lists_have_lengths f.has.points).units_most)
 
 -- the form of a whole that is divided where no pair is
 pub record ThreeForms (m a b c : List ℕ) : Type 0 where

@@ -44,9 +44,7 @@ module _ {T E Z : Type 0} {b n : Vec ℕ Z} {v : List ℕ} {r : Result T E} wher
       let before = subst (λ w. IsForm w old.units) (sym (ap (λ (t : UnitString). t.bytes) s) ∙ e) old.form in
       g.becomes.room (omega (
         arith,
-        fit.within,
         ap length (same_form g.whole fit.whole (old.units ++ v) (g.extends old.units before) fit.form),
-        c,
         ap (λ (t : UnitString). t.capacity) s,
       ))
 

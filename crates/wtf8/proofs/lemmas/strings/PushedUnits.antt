@@ -1,5 +1,5 @@
 -- Appending code units to well-formed bytes: what holds before the first unit, after all of them, and after a refusal.
-use Rattle.wtf8.proofs.Common.{◌≡◌, ◌+◌, ◌-◌, ◌<◌, ◌≤◌, ℕ, Bool, false, IsTrue, List, [], ◌∷◌, ◌++◌, length, take, drop, get_or}
+use Rattle.wtf8.proofs.Common.{◌≡◌, ◌-◌, ◌<◌, ◌≤◌, ℕ, Bool, false, IsTrue, List, [], ◌∷◌, ◌++◌, length, take, drop, get_or}
 use Rattle.wtf8.proofs.Common.{Option, Some, None, IfSome, Result, Ok, Err, IsOk, refl, sym, ap, ◌∙◌, subst, arith, append-nil}
 use Rattle.wtf8.proofs.Common.{append_assoc}
 use Rattle.wtf8.proofs.Common.{HasRoomFor, KeepsContents, UnitString, inl, inr, Fits, w16, length-append, length-take, take-append-drop}
@@ -17,6 +17,8 @@ use Rattle.wtf8.proofs.lemmas.strings.Concatenation.{form-glue, form_meeting, le
 use Rattle.wtf8.proofs.lemmas.strings.Concatenation.{paired_bytes, units_read}
 use Rattle.wtf8.proofs.lemmas.strings.ExtendedForms.{utf8_prefix_after_append, CompletedPair, CompletedPair-from_lead, all_back}
 use Rattle.wtf8.proofs.lemmas.strings.ExtendedForms.{all_scalar, beginning_of_form, scalar_front_unpaired}
+use Rattle.std.proofs.lemmas.List.{places, same_lists}
+use Rattle.wtf8.proofs.lemmas.lanes.Entries.{get_of}
 
 -- The first unit, and a lead before it.
 
@@ -120,11 +122,7 @@ module _ {T E Z : Type 0} (b n : Vec ℕ Z) {v : List ℕ} where
   pub units_refused : (r : Result T E) (h : IsWellFormed b.items) (u : All IsUnit v) → n.items ≡ b.items
       → (length (whole_form h v u) ≤ vec_capacity b → IsOk r) → ¬ (IsOk r) → vec_capacity b ≤ vec_capacity n → ExtendsFormOrKeeps b v n r
   units_refused (Ok x) h u same room refused larger = absurd (refused refl)
-  units_refused (Err e) h u same room refused larger = record {
-    whole = whole_form h v u;
-    extends = whole_form-extends h v u;
-    becomes = record { ok = tt; err = same; room = room; capacity = larger };
-  }
+  units_refused (Err e) h u same room refused larger = grind (arith, whole_form-extends)
 
 module _ {T E Z : Type 0} {b m : Vec ℕ Z} where
   -- after units were appended or refused the bytes are well-formed, with a UTF-8 prefix of `n` bytes
@@ -146,11 +144,7 @@ room_for_front s a b fit =
 
 pub room_for_back : (s t : UnitString) (a b : List ℕ) → t.units ≡ s.units ++ a → s.capacity ≤ t.capacity → HasRoomFor s (a ++ b)
     → HasRoomFor t b
-room_for_back s t a b e larger fit = record {
-  whole = fit.whole;
-  form = subst (IsForm fit.whole) (sym (append_assoc s.units a b) ∙ ap (λ u. u ++ b) (sym e)) fit.form;
-  within = omega (arith, fit.within, larger);
-}
+room_for_back s t a b e larger fit = grind (arith, append_assoc)
 
 -- equal bytes are equal contents
 pub contents_kept : {T E : Type 0} (r : Result T E) (old new : UnitString) → new.bytes ≡ old.bytes → OnErr r (KeepsContents old new)
@@ -165,14 +159,7 @@ contents_kept (Err _) old new same = record {
 -- a lead at the end has three bytes
 lead_end : {w : List ℕ} (h : IsWellFormed w) (l : ℕ) → IsLead l → (f : List ℕ) × (h.points ≡ f ++ l ∷ [])
     → (3 ≤ length w) × (take (length w - 3) w ++ encoding l ≡ w)
-lead_end {w} h l lead last =
-    let three = length-surrogate l (omega (arith, lead), omega (arith, lead)) in
-    let whole : w ≡ bytes last.0 ++ encoding l = sym h.encoded ∙ ap bytes last.1 ∙ bytes-pushed last.0 l in
-    let len : length w ≡ length (bytes last.0) + 3 =
-    ap length whole ∙ length-append (bytes last.0) (encoding l) ∙ ap (λ k. length (bytes last.0) + k) three in
-    let front : take (length w - 3) w ≡ bytes last.0 =
-    ap (take (length w - 3)) whole ∙ take_at (bytes last.0) (encoding l) (length w - 3) (omega (arith, len)) in
-    (omega (arith, len), ap (λ z. z ++ encoding l) front ∙ sym whole)
+lead_end {w} h l lead last = grind (arith, length-surrogate, bytes-pushed, length-append, take_at)
 
 pub lead_length : {w : List ℕ} (n : ℕ) (h : IsWellFormed w) (o : Option ℕ) → n ≡ length w → IfSome o IsLead
     → IfSome o (λ l. (f : List ℕ) × (h.points ≡ f ++ l ∷ [])) → IfSome o (λ l. IsLead l × (3 ≤ n))
@@ -190,10 +177,8 @@ taken_back n now h (Some l) e lead last begins before none some =
 
 -- what begins with the first `k` bytes of `a` and more, begins with these
 pub begins_before : (k : ℕ) (a b c e : List ℕ) → take (length b) c ≡ b → b ≡ take k a ++ e → k ≤ length a → take k c ≡ take k a
-begins_before k a b c e begins joined within =
-    let front : length (take k a) ≡ k = omega (arith, length-take k a, within) in
-    let count : length b ≡ length (take k a) + length e = ap length joined ∙ length-append (take k a) e in
-    sym (take-take k (length b) c (omega (arith, count, front))) ∙ ap (take k) (begins ∙ joined) ∙ take_at (take k a) e k front
+begins_before k a b c e begins joined within = same_lists _ _ (grind (arith, places, ap length begins, ap length joined))
+    (λ i d l. grind (arith, places, ap length joined, get_of begins i d, get_of joined i d))
 
 -- The bytes before and after units were appended: the old ones stay, but for a lead at their end.
 pub record KeepsFront (w now : List ℕ) (o : Option ℕ) : Type 0 where

@@ -1,14 +1,15 @@
 -- Blocks of code points of one encoded length, decoded to units.
 use Rattle.wtf8.proofs.Common.{◌≡◌, ℕ, zero, suc, ◌<◌, ◌≤◌, List, [], ◌∷◌, ◌++◌, length, take, drop, get_or, refl, sym, ap, ◌∙◌, arith, IsWellFormed, units}
 use Rattle.wtf8.proofs.Common.{encoding, length-append, units_of, ◌+◌, ◌*◌, subst, Each1, drop-drop, length-drop, length-take, take-append-add, take-append-drop}
-use Rattle.wtf8.proofs.Common.{append_assoc, get_or_append_left, drop-append-le, BeginsWithUnits, unit_of_two, unit_of_three, ◌-◌, ◌/◌, ◌%◌, AreAscii, take_at}
-use Rattle.wtf8.proofs.Common.{take-take, length-take-le, FirstPointIs}
+use Rattle.wtf8.proofs.Common.{append_assoc, get_or_append_left, drop-append-le, BeginsWithUnits, unit_of_two, unit_of_three, ◌-◌, ◌/◌, ◌%◌, AreAscii}
+use Rattle.wtf8.proofs.Common.{length-take-le, FirstPointIs}
 use Rattle.wtf8.proofs.lemmas.codec.Encoding.{encoding_cases}
 use native.Mathlib.Nat.{mul-suc}
 use Rattle.std.proofs.Math.Nat.{div-add-mod}
-use Rattle.std.proofs.lemmas.List.{append_cancel_right}
 use Rattle.wtf8.specs.private.EncodedBytes.{BeginsWithPoints, map_run, lead_of_four, trail_of_four, pairs_of_fours}
 use Rattle.wtf8.proofs.lemmas.codec.Readings.{first_of, IsWellFormed-equal_bytes, same_points, units_one, units_two}
+use Rattle.std.proofs.lemmas.List.{places, same_lists}
+use Rattle.wtf8.proofs.lemmas.lanes.Entries.{get_of}
 
 -- the string after its first `at` bytes, whose units are `v`
 pub record UnitsThenRest (w v : List ℕ) (at : ℕ) (h : IsWellFormed w) : Type 0 where
@@ -109,14 +110,12 @@ after_points w v b most n c d begins within whole same h rest =
 pub written_again : (x a f q r u v : List ℕ) (at : ℕ) → at ≤ length x → take at x ++ r ≡ a ++ u → u ≡ f ++ v → v ≡ q ++ r
     → (length q ≤ at) × (take (at - length q) x ++ v ≡ take at x ++ r) × (at - length q + length v ≡ at + length r)
 written_again x a f q r u v at within written back again =
-    let front = a ++ f in
-    let own : take at x ≡ front ++ q = append_cancel_right (take at x) (front ++ q) r (written ∙ (ap (λ u. a ++ u) (back ∙ ap (λ v. f ++ v) again)
-    ∙ (sym (append_assoc a f (q ++ r)) ∙ sym (append_assoc front q r)))) in
-    let count : length front + length q ≡ at = omega (arith, ap length own, length-append front q, length-take-le at x within) in
-    let kept : take (at - length q) x ≡ front = sym (take-take (at - length q) at x (omega arith))
-    ∙ (ap (take (at - length q)) own ∙ take_at front q (at - length q) (omega (arith, count))) in
-    let whole = ap (λ u. u ++ v) kept ∙ (ap (λ v. front ++ v) again ∙ (sym (append_assoc front q r) ∙ ap (λ u. u ++ r) (sym own))) in
-    (omega (arith, count), whole, omega (arith, count, ap length again, length-append q r))
+    let count : length a + length f + length q ≡ at =
+    omega (arith, ap length written, ap length back, ap length again, length-append {A = ℕ}, length-take {A = ℕ}) in
+    let whole : take (at - length q) x ++ v ≡ take at x ++ r =
+    same_lists _ _ (omega (arith, ap length again, length-append {A = ℕ}, length-take {A = ℕ}))
+    (λ k d l. grind (arith, places, get_of written k d, get_of back (k - length a) d)) in
+    (omega (arith, count), whole, omega (arith, ap length again, length-append {A = ℕ}))
 
 -- the units of the first code point are the next ones
 pub begins_with_first : (w v : List ℕ) (p n : ℕ) → 0 < length w → FirstPointIs w p n → units_of p ≡ v → BeginsWithUnits w v n

@@ -174,16 +174,8 @@ double_pow n =
 
 no_more : (b : Bool) (s : List Bool) → whole_len s ≡ 0 → MaskLength (mask_l s) (whole_len s) (length s)
     → MaskLength (mask_l (b ∷ s)) (whole_len (b ∷ s)) (length (b ∷ s))
-no_more false s e k =
-    let none : mask_l s ≡ 0 = omega (arith, rw e at k.above) in
-    let n : whole_len (false ∷ s) ≡ 0 = rw e refl in
-    subst (λ n. MaskLength (mask_l (false ∷ s)) n (length (false ∷ s))) (sym n)
-    (record { above = omega (arith, none); least = λ l. absurd (omega (arith, l)); within = omega arith })
-no_more true s e k =
-    let none : mask_l s ≡ 0 = omega (arith, rw e at k.above) in
-    let n : whole_len (true ∷ s) ≡ 1 = rw e refl in
-    subst (λ n. MaskLength (mask_l (true ∷ s)) n (length (true ∷ s))) (sym n)
-    (record { above = omega (arith, none); least = λ _. omega arith; within = omega arith })
+no_more false s e k = grind arith
+no_more true s e k = grind arith
 
 MaskLength-whole_len : (s : List Bool) → MaskLength (mask_l s) (whole_len s) (length s)
 MaskLength-whole_len [] = record { above = omega arith; least = λ l. absurd (omega (arith, l)); within = omega arith }

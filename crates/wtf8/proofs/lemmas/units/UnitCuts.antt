@@ -4,7 +4,6 @@ use Rattle.wtf8.proofs.Common.{length-append, append_assoc, take_at, drop_at, sl
 use Rattle.wtf8.proofs.Common.{inr, Option, get_or, same_from_push, take-append-drop, length-drop, Reads, true, false, ◌/◌, ◌%◌, lt-ltb, le-ltb, drop-drop}
 use Rattle.wtf8.proofs.Common.{append-nil, IsLead, units_of, trail_from_bytes, held_trail, after_held_trail, length-take-le, take-append-add, drop-append-add}
 use Rattle.wtf8.proofs.Common.{option_to_list, IsSome, StepsUnit, DividesPair, is_continuation, cases_lt, FirstPointIs, IsCursorOfUnit, UnitCursor, take_all}
-use Rattle.wtf8.proofs.Common.{sum_utf16_len}
 use Rattle.wtf8.proofs.lemmas.codec.Encoding.{encoding_four, bytes-append, bytes-pushed, Begins}
 use Rattle.wtf8.proofs.lemmas.codec.Encoding.{first-encoding, begins_with, BeginsWithPoint-equal_bytes}
 use Rattle.wtf8.proofs.lemmas.codec.Readings.{clean-first, clean-front, clean-back, clean-append, clean-unpaired, unpaired-before_no_trail}
@@ -177,9 +176,7 @@ divides_after u r half begin n {end} s in_u e d more in_r =
         → 0 < length (option_to_list half) + n
         → take n r ≡ [] → (g : List ℕ) (l : ℕ) → take begin u ++ option_to_list half ≡ g ++ l ∷ [] → ¬ (IsLead l)
     no_lead_before None e d more none g l q lead = absurd (omega (arith, more, ap length none, length-take-le n r in_r))
-    no_lead_before (Some t) e d more none g l q lead =
-        let m = d.0 refl in
-        omega (arith, ap (λ w. get_or w 0 0) (e ∙ m.begins), (same_from_push (take begin u) g t l q).1, lead, m.is_trail)
+    no_lead_before (Some t) e d more none g l q lead = grind (arith, same_from_push)
 
 -- Bytes that begin inside a pair or at a code point, and a step of the iterator over units.
 
@@ -298,9 +295,7 @@ trail_in_pair {w} h {n} {k} {p} d e =
 -- at the end all units are before the cursor
 pub all_before : {w : List ℕ} (h : IsWellFormed w) (n : ℕ) (cursor : UnitCursor) → IsCursorOfUnit w n cursor
     → cursor.position ≡ length w → length (units h.points) ≡ cursor.units
-all_before {w} h n cursor is e =
-    let all = take_all cursor.position w (omega (arith, e)) in
-    sym (sum_utf16_len-bytes h.points) ∙ (ap sum_utf16_len h.encoded ∙ (ap sum_utf16_len (sym all) ∙ sym is.before.counted))
+all_before {w} h n cursor is e = grind (arith, take_all, sum_utf16_len-bytes)
 
 -- at the end nothing is left
 pub nothing_held_at_end : (w : List ℕ) (h : IsWellFormed (after_held_trail w)) → length w ≡ 0 → (held_trail w ≡ []) × (h.points ≡ [])

@@ -1,8 +1,8 @@
 -- The units whose encodings end at the bytes of a block are the units of the code points that it holds whole.
 use Rattle.wtf8.proofs.Common.{◌≡◌, ℕ, ◌+◌, ◌/◌, ◌%◌, ◌<◌, ◌≤◌, List, [], ◌∷◌, ◌++◌, Bool, true, false, length, take}
-use Rattle.wtf8.proofs.Common.{drop, get_or, refl, sym, ap, ◌∙◌, subst, arith, cases_lt, lt-ltb, le-ltb, inl, inr, encoding, bytes, units, units_of}
+use Rattle.wtf8.proofs.Common.{drop, get_or, refl, sym, ap, ◌∙◌, subst, arith, cases_lt, lt-ltb, le-ltb, encoding, bytes, units, units_of}
 use Rattle.wtf8.proofs.Common.{IsClean, IsWellFormed, BeginsWithUnits, Writes, length-append, nat_tests, drop_at, take-append-drop}
-use Rattle.wtf8.proofs.Common.{AreAscii, append-nil, append_assoc, take-take, drop_all, length-replicate, length-take-le, replicate, suc, take_all, take_at, zero, ◌-◌}
+use Rattle.wtf8.proofs.Common.{AreAscii, append-nil, drop_all, length-replicate, length-take-le, replicate, suc, take_all, zero, ◌-◌}
 use Rattle.std.proofs.lemmas.Simd.{Each1-replicate}
 use Rattle.wtf8.proofs.lemmas.codec.Scalars.{bytes-ascii, clean-ascii, units-ascii}
 use Rattle.wtf8.specs.private.UnitsOut.{IsBlock}
@@ -11,6 +11,8 @@ use Rattle.wtf8.proofs.lemmas.codec.Readings.{units_one, units_two, units-append
 use Rattle.wtf8.proofs.lemmas.units.PackedWords.{whole_len, whole_len-bound}
 use Rattle.wtf8.proofs.lemmas.units.UnitLanes.{length-set_lanes, unit_at_end}
 use Rattle.wtf8.specs.private.UnitEnds.{by_position, ends_in_block, set_lanes, picked}
+use Rattle.std.proofs.lemmas.List.{places, same_lists}
+use Rattle.wtf8.proofs.lemmas.lanes.Entries.{get_of}
 
 -- The unit at the last byte of each encoding.
 
@@ -64,10 +66,7 @@ picked-unset : (n : ℕ) (u : List ℕ) (b : Bool) (s : List Bool) → b ≡ fal
 picked-unset n u b s e = rw e refl
 
 whole_len-set : (b : Bool) (s : List Bool) → b ≡ true → whole_len (b ∷ s) ≡ 1 + whole_len s
-whole_len-set b s e = elim (cases_lt 0 (whole_len s)) [
-  | inl l ↦ rw (lt-ltb 0 (whole_len s) l) refl
-  | inr g ↦ rw (e, le-ltb 0 (whole_len s) g) (omega (arith, g))
-]
+whole_len-set b s e = grind (arith, cases_lt, lt-ltb, le-ltb)
 
 whole_len-before : (b : Bool) (s : List Bool) → 0 < whole_len s → whole_len (b ∷ s) ≡ 1 + whole_len s
 whole_len-before b s l = rw (lt-ltb 0 (whole_len s) l) refl
@@ -78,10 +77,7 @@ record NoneSet (u : List ℕ) (s : List Bool) : Type 0 where
   pub len : whole_len s ≡ 0
 
 NoneSet-unset : (n : ℕ) (b : Bool) {u : List ℕ} {s : List Bool} → b ≡ false → NoneSet u s → NoneSet (n ∷ u) (b ∷ s)
-NoneSet-unset n b {u} {s} e k = record {
-  picks = picked-unset n u b s e ∙ k.picks;
-  len = rw (e, le-ltb 0 (whole_len s) (omega (arith, k.len))) refl;
-}
+NoneSet-unset n b {u} {s} e k = grind (arith, picked-unset, le-ltb)
 
 NoneSet-nil : NoneSet [] []
 NoneSet-nil = record { picks = refl; len = refl }
@@ -96,17 +92,11 @@ Takes-set n u b s e = record { picks = picked-set n u b s e; len = whole_len-set
 
 Takes-unset : (n m : ℕ) (b : Bool) {taken u v : List ℕ} {s t : List Bool} → 0 < m → b ≡ false → Takes m taken u s v t
     → Takes (1 + m) taken (n ∷ u) (b ∷ s) v t
-Takes-unset n m b {taken} {u} {v} {s} {t} l e k = record {
-  picks = picked-unset n u b s e ∙ k.picks;
-  len = omega (arith, whole_len-before b s (omega (arith, k.len, l)), k.len);
-}
+Takes-unset n m b {taken} {u} {v} {s} {t} l e k = grind (arith, picked-unset, whole_len-before)
 
 Takes-two : {n m l t : ℕ} {u : List ℕ} (b d : Bool) {s : List Bool} → n ≡ l → m ≡ t → b ≡ true → d ≡ true
     → Takes 2 (l ∷ t ∷ []) (n ∷ m ∷ u) (b ∷ d ∷ s) u s
-Takes-two {n} {m} {l} {t} {u} b d {s} e g f h = record {
-  picks = picked-set n (m ∷ u) b (d ∷ s) f ∙ (ap (λ v. n ∷ v) (picked-set m u d s h) ∙ (λ i. e i ∷ g i ∷ picked u s));
-  len = omega (arith, whole_len-set b (d ∷ s) f, whole_len-set d s h);
-}
+Takes-two {n} {m} {l} {t} {u} b d {s} e g f h = grind (arith, picked-set, whole_len-set)
 
 -- The code points that a block holds whole.
 
@@ -123,15 +113,7 @@ record HoldsPoints (z y x : ℕ) (v c : List ℕ) : Type 0 where
 -- no code point is whole if no lane is set
 HoldsPoints-none : {z y x : ℕ} (v : List ℕ) (p : ℕ) (c : List ℕ) → NoneSet (by_position unit_at_end z y x v) (set_lanes y x v)
     → length v < length (encoding p) → HoldsPoints z y x v (p ∷ c)
-HoldsPoints-none v p c k l = record {
-  front = [];
-  back = p ∷ c;
-  joined = refl;
-  picks = k.picks;
-  len = k.len;
-  some = λ h. absurd (omega (arith, h, l, length-encoding_bounds p));
-  all = λ e. absurd (omega (arith, e, l, length-append (encoding p) (bytes c)));
-}
+HoldsPoints-none v p c k l = grind (arith, length-encoding_bounds, length-append)
 
 HoldsPoints-first : {z y x d e f : ℕ} (p n : ℕ) (c v w taken : List ℕ) → length (encoding p) ≡ n → 0 < n → length v ≡ n + length w
     → units_of p ≡ taken
@@ -352,13 +334,7 @@ holds_units w block (suc k) b h =
     }
 
 pub Writes-trans : {a b d l m r : List ℕ} {i j k : ℕ} → Writes a i l b j m → Writes b j m d k r → Writes a i l d k r
-Writes-trans v w = record {
-  units = w.units ∙ v.units;
-  same_total = w.same_total ∙ v.same_total;
-  order = omega (arith, v.order, w.order);
-  len = w.len ∙ v.len;
-  later = λ n after. w.later n after ∙ v.later n (omega (arith, after, w.order));
-}
+Writes-trans v w = grind arith
 
 pub Writes-equal_left : {a b l m r : List ℕ} {i j : ℕ} → l ≡ m → Writes a i l b j r → Writes a i m b j r
 Writes-equal_left {a} {b} {r = r} {i} {j} e w = subst (λ l. Writes a i l b j r) e w
@@ -367,16 +343,12 @@ Writes-equal_left {a} {b} {r = r} {i} {j} e w = subst (λ l. Writes a i l b j r)
 pub Writes-front : {a b : List ℕ} (i j n : ℕ) (v z r : List ℕ) → length z ≡ n → i ≤ length a → Writes a i (v ++ z) b j []
     → ((m : ℕ) → i + 32 ≤ m → drop m b ≡ drop m a) → Writes a i (v ++ r) b (j - n) r
 Writes-front {a} {b} i j n v z r count within w later =
-    let front = take i a ++ v in
-    let all : take j b ≡ front ++ z = sym (append-nil (take j b)) ∙ (w.units ∙ sym (append_assoc (take i a) v z)) in
-    let long : length front ≡ j - n =
-    omega (arith, count, w.same_total, length-append v z, length-append (take i a) v, length-take-le i a within) in
-    let kept : take (j - n) b ≡ front =
-    sym (take-take (j - n) j b (omega arith)) ∙ (ap (take (j - n)) all ∙ take_at front z (j - n) long) in
+    let parts : length (v ++ z) ≡ length v + n = omega (arith, length-append {A = ℕ}) in
     record {
-      units = ap (λ u. u ++ r) kept ∙ append_assoc (take i a) v r;
-      same_total = omega (arith, count, w.same_total, length-append v z, length-append v r);
-      order = omega (arith, count, w.same_total, length-append v z);
+      units = same_lists _ _ (grind (arith, places, ap length w.units, w.same_total, parts))
+          (λ k d l. grind (arith, places, get_of w.units k d, w.same_total, parts));
+      same_total = omega (arith, w.same_total, length-append {A = ℕ});
+      order = omega (arith, w.same_total, parts);
       len = w.len;
-      later = λ m after. later m (omega (arith, after, count, w.same_total, length-append v z));
+      later = λ m after. later m (omega (arith, w.same_total, parts));
     }

@@ -142,11 +142,7 @@ any_low_lanes n two low high = sel_l (are_at_least n 0x80 two) (add (over n low 
 any_low_lane : (y low high : ℕ) → high < 256
     → cond (flag (leb 0x80 (y - 0x70))) ((low / 16 + (cond (flag (ltb high 4)) 4 high + (256 - 4)) % 256 * 16 % 256) % 256) low
     ≡ cond (ltb y 0xF0) low ((low / 16 + (high - 4) * 16 % 256) % 256)
-any_low_lane y low high l = elim (cases_lt y 0xF0) [
-  | inl h ↦ rw (lt-leb 0x80 (y - 0x70) (omega (arith, h)), lt-ltb y 0xF0 h) refl
-  | inr h ↦ rw (le-leb 0x80 (y - 0x70) (omega (arith, h)), le-ltb y 0xF0 h)
-      (λ i. (low / 16 + less_by_lane 4 high (omega arith) l i * 16 % 256) % 256)
-]
+any_low_lane y low high l = grind (arith, cases_lt, lt-leb, lt-ltb, le-leb, le-ltb, less_by_lane)
 
 any_low_lanes-by_position : (z y x : ℕ) (u : List ℕ)
     → any_low_lanes (length u) (by_position (λ z y x b. y - 0x70) z y x u) (by_position (λ z y x b. low_byte x b) z y x u)
@@ -171,14 +167,7 @@ any_high_lane : (z y high : ℕ) → high < 256
     → cond (flag (leb 0x80 (y - 0x70))) ((0xD8 + (cond (flag (ltb high 4)) 4 high + (256 - 4)) % 256 / 16) % 256)
     (cond (flag (leb 0x80 (z - 0x70))) ((0xDC + high % 4) % 256) high)
     ≡ cond (ltb y 0xF0) (cond (ltb z 0xF0) high ((0xDC + high % 4) % 256)) ((0xD8 + (high - 4) / 16) % 256)
-any_high_lane z y high l = elim (cases_lt y 0xF0) [
-  | inl h ↦ rw (lt-leb 0x80 (y - 0x70) (omega (arith, h)), lt-ltb y 0xF0 h) (elim (cases_lt z 0xF0) [
-    | inl k ↦ rw (lt-leb 0x80 (z - 0x70) (omega (arith, k)), lt-ltb z 0xF0 k) refl
-    | inr k ↦ rw (le-leb 0x80 (z - 0x70) (omega (arith, k)), le-ltb z 0xF0 k) refl
-  ])
-  | inr h ↦ rw (le-leb 0x80 (y - 0x70) (omega (arith, h)), le-ltb y 0xF0 h)
-      (λ i. (0xD8 + less_by_lane 4 high (omega arith) l i / 16) % 256)
-]
+any_high_lane z y high l = grind (arith, cases_lt, lt-leb, lt-ltb, le-leb, le-ltb, less_by_lane)
 
 any_high_lanes-by_position : (z y x : ℕ) (u : List ℕ)
     → any_high_lanes (length u) (by_position (λ z y x b. y - 0x70) z y x u) (by_position (λ z y x b. z - 0x70) z y x u)
