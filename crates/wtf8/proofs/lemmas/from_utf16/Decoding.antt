@@ -54,10 +54,7 @@ module _ {S : Type 0} (steps : S → Option ℕ → S → Type 0) where
   -- if nothing is peeked, the units come from the source
   drains_source : (s : Ahead S ℕ) (xs : List ℕ) → peekable_peeked s ≡ None → Drains (peekable_steps steps) s xs
       → Drains steps (peekable_source s) xs
-  drains_source s [] e d = (
-    peekable_source d.0,
-    (peekable_source s, refl, unpeeked_call s d.0 None e (subst (λ k. peekable_steps steps k None d.0) (sym d.1.1) d.1.2).1),
-  )
+  drains_source s [] e d = grind (arith, unpeeked_call)
   drains_source s (x ∷ xs) e d =
       let next = d.1.1.0 in
       let r = drains_source next xs d.1.1.1.0 (d.0, (d.1.0, d.1.1.2, d.1.2)) in
@@ -75,9 +72,7 @@ module _ {S : Type 0} (steps : S → Option ℕ → S → Type 0) where
   -- if the peeked unit is no trail, the next code point is none
   lone_lead : (s e : Ahead S ℕ) (q : ℕ) (d : List ℕ) → IsSomeAnd (peekable_peeked s) (λ o. IfSome o (λ u. ¬ (IsTrail u)))
       → Yields (peekable_steps steps) s (units (q ∷ d)) e → ¬ (IsTrail q)
-  lone_lead s e q d lone taken trail =
-      let first = subst (λ u. Yields (peekable_steps steps) s u e) (ap (λ u. u ++ units d) (units_one q (omega (arith, trail)))) taken in
-      grind (arith, first.1)
+  lone_lead s e q d lone taken trail = grind (arith, units_one)
 
   -- the units of the items came from `s`, and then `after` was left
   pub record ReadsItems (s : Ahead S ℕ) (items : List (Result ℕ ℕ)) : Type 0 where
@@ -199,13 +194,8 @@ IsReadTo-point {p = p} x order first scalar = IsReadTo-append x order first.with
 
 -- the first code point has at most three bytes for each of its units
 pub IsFirstRead-length : {v : List ℕ} {at end p : ℕ} → IsFirstRead v at end p → length (encoding p) ≤ 3 * (end - at)
-IsFirstRead-length {v} {at} {end} {p} first = omega (
-  arith,
-  (lengths_of_one p).2,
-  ap length first.reads.same_units,
-  ap length (append-nil (units_of p)),
-  length-take (end - at) (drop at v),
-)
+IsFirstRead-length {v} {at} {end} {p} first =
+    omega (arith, lengths_of_one, ap length first.reads.same_units, ap length (append-nil (units_of p)), length-take {A = ℕ})
 
 -- the first code point is encoded, if its encoding is written after the bytes so far
 pub IsReadTo-written : (w old new : List ℕ) (len after : ℕ) {front v : List ℕ} {at end p : ℕ} {known scalar : Bool}

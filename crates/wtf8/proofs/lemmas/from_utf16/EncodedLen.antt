@@ -178,13 +178,11 @@ IsCounted-next {u} {at} x l e = record {
   within = omega (arith, l);
   bytes = omega (
     arith,
-    x.bytes,
-    e,
-    get_or-each_more u at l,
+    get_or-each_more,
     ap (λ i. more_bytes (get_or u at 0) (get_or u i 0)) (suc_is at),
-    sum-take_add at 1 (each_more u),
-    sum-one (drop at (each_more u)),
-    get_or-drop at (each_more u) 0 0,
+    sum-take_add,
+    sum-one,
+    get_or-drop {A = ℕ},
     ap (λ i. get_or (each_more u) i 0) (add_zero at),
   );
 }
@@ -207,14 +205,7 @@ IsCounted-on {u} {from} {at} x order within e =
     let count : from.at + (at - from.at) ≡ at = omega (arith, order) in
     record {
       within = within;
-      bytes = omega (
-        arith,
-        order,
-        x.bytes,
-        e,
-        sum-take_add from.at (at - from.at) (each_more u),
-        ap (λ k. sum_l (take k (each_more u))) count,
-      );
+      bytes = omega (arith, sum-take_add, ap (λ k. sum_l (take k (each_more u))) count);
     }
 
 -- units have at most three bytes each
@@ -242,13 +233,8 @@ length-clean (p ∷ c) x =
     let rest = length-clean c (clean-rest p c x) in
     elim (cases_lt p 0x10000) [
       | inl l ↦ rw (units_one p l) (omega (arith, length-append (encoding p) (bytes c), rest, more_bytes-point p c l x))
-      | inr g ↦ rw (units_two p g) (omega (
-        arith,
-        length-append (encoding p) (bytes c),
-        rest,
-        four p g,
-        more_bytes-pair p (get_or (units c) 0 0) g (clean-first p c x),
-      ))
+      | inr g ↦ rw (units_two p g)
+          (omega (arith, length-append {A = ℕ}, four p g, more_bytes-pair p (get_or (units c) 0 0) g (clean-first p c x)))
     ]
   where
     four : (p : ℕ) → 0x10000 ≤ p → length (encoding p) ≡ 4
@@ -257,17 +243,4 @@ length-clean (p ∷ c) x =
 -- all units are counted
 pub IsCounted-all : {u : List ℕ} {counted : Counted} → IsCounted u counted → length u ≤ counted.at → (w : List ℕ) → IsForm w u
     → counted.len ≡ length w
-IsCounted-all {u} {counted} x all w form =
-    let whole = take_all counted.at (each_more u) (omega (arith, all, length-each_more u)) in
-    let same = form.reads.same_units in
-    omega (
-      arith,
-      x.within,
-      x.bytes,
-      all,
-      ap sum_l whole,
-      length-clean form.points form.reads.clean,
-      ap length form.encoded,
-      ap length same,
-      ap (λ v. sum_l (each_more v)) same,
-    )
+IsCounted-all {u} {counted} x all w form = grind (arith, take_all, length-each_more, length-clean)

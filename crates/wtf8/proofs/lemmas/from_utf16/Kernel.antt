@@ -62,10 +62,7 @@ scalar_head_lanes-map = map_lanes scalar_head_lanes lane (λ u. refl)
   where
     lane : (x : ℕ) → Fits w16 x → (((0x80E0 + x / 4096) % 65536 + x / 64 % 64 * 256 % 65536) % 65536
         + cond (top 15 (cond (ltb x 0x800) 0xFFFF 0)) 0x4000 0) % 65536 ≡ scalar_head x
-    lane x h = elim (cases_lt x 0x800) [
-      | inl l ↦ rw (lt-ltb x 0x800 l) (omega (arith, h.fits))
-      | inr g ↦ rw (le-ltb x 0x800 g) (omega (arith, h.fits))
-    ]
+    lane x h = grind (arith, cases_lt, lt-ltb, le-ltb)
 
 abbrev scalar_last_lanes : List ℕ → List ℕ
 scalar_last_lanes u =
@@ -245,9 +242,7 @@ scalar_candidates b (x ∷ u) a h =
 
 pub scalar_lanes : (own lasts m u : List ℕ) → AreScalarUnits u → own ≡ map scalar_head u → lasts ≡ map scalar_last_byte u
     → m ≡ map three_byte_flag u → AreUnitBytes (tagged_block u) own (lanes_add lasts m) × Each1 IsUnit (tagged_block u)
-scalar_lanes own lasts m u h x y z =
-    let all = scalar_candidates 0 u 0xDC00 h in
-    rw all.0 (record { head = x ∙ all.2; last = rw (y, z) all.3 }, all.1)
+scalar_lanes own lasts m u h x y z = grind (arith, scalar_candidates)
 
 -- The candidate bytes as 8-bit lanes, and the table index of their lengths.
 
@@ -265,14 +260,7 @@ bytes_fit b n = (omega arith, grind (arith, nat_tests), grind (arith, nat_tests)
 byte_digits : (m f s l t x : ℕ) → f < 256 → s < 256 → l < 256 → t ≤ 1
     → digits_l 256 (suc (suc (suc (suc m)))) ((f + s * 256) + 65536 * ((l + t * 0x8000) + 65536 * x))
     ≡ f ∷ s ∷ l ∷ (t * 0x80) ∷ digits_l 256 m x
-byte_digits m f s l t x i j k h =
-    let y = (f + s * 256) + 65536 * ((l + t * 0x8000) + 65536 * x) in
-    let a : y % 256 ≡ f = omega arith in
-    let b : y / 256 % 256 ≡ s = omega arith in
-    let c : y / 256 / 256 % 256 ≡ l = omega arith in
-    let d : y / 256 / 256 / 256 % 256 ≡ t * 0x80 = omega arith in
-    let rest : y / 256 / 256 / 256 / 256 ≡ x = omega arith in
-    λ i. a i ∷ b i ∷ c i ∷ d i ∷ digits_l 256 m (rest i)
+byte_digits m f s l t x i j k h = grind arith
 
 abbrev four_times : List ℕ → ℕ
 four_times [] = 0
@@ -333,12 +321,7 @@ last_bits-byte_count n = (grind (arith, nat_tests, cases_lt), grind (arith, nat_
 
 two_digits : (m l t x : ℕ) → l < 256 → t ≤ 1
     → digits_l 256 (suc (suc m)) ((l + t * 0x8000) + 65536 * x) ≡ l ∷ (t * 0x80) ∷ digits_l 256 m x
-two_digits m l t x i j =
-    let y = (l + t * 0x8000) + 65536 * x in
-    let a : y % 256 ≡ l = omega arith in
-    let b : y / 256 % 256 ≡ t * 0x80 = omega arith in
-    let rest : y / 256 / 256 ≡ x = omega arith in
-    λ i. a i ∷ b i ∷ digits_l 256 m (rest i)
+two_digits m l t x i j = grind arith
 
 mask-table_index : (u : List ℕ) → mask_l (map is_set (digits_l 256 (twice u) (number_l 65536 (map last u)))) ≡ units_table_index u
 mask-table_index [] = refl
@@ -364,9 +347,7 @@ first_four b [] l = absurd (omega arith)
 first_four b (x ∷ []) l = absurd (omega arith)
 first_four b (x ∷ y ∷ []) l = absurd (omega arith)
 first_four b (x ∷ y ∷ z ∷ []) l = absurd (omega arith)
-first_four before (a ∷ b ∷ c ∷ d ∷ u) l =
-    let is = IsByteCount-byte_count in
-    (omega (arith, is a, is b, is c, is d), omega (arith, is a, is b, is c, is d), simp (append_assoc, append-nil))
+first_four before (a ∷ b ∷ c ∷ d ∷ u) l = grind (arith, IsByteCount-byte_count, append_assoc, append-nil)
 
 -- the index of each quarter's row
 pub quarter_indexes : (u : List ℕ) → length u ≡ 16 → let n = units_table_index u in

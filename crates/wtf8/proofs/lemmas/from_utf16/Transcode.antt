@@ -14,6 +14,8 @@ use Rattle.std.proofs.lemmas.List.{get_or-take}
 use Rattle.std.proofs.lemmas.Simd.{bitmask_splat, map-map, Each1-get_or}
 use Rattle.wtf8.proofs.lemmas.codec.Readings.{form_append-unpaired, meets_by, unpaired-after_no_lead, unpaired-nil_left, MeetsAsPair-back}
 use Rattle.wtf8.proofs.lemmas.codec.Scalars.{IsKnownForm-ascii, scalar-append}
+use Rattle.std.proofs.lemmas.List.{places, same_lists}
+use Rattle.wtf8.proofs.lemmas.lanes.Entries.{get_of}
 
 -- Masks of blocks of units.
 
@@ -107,12 +109,7 @@ front_read {w} {long} {new} {f} {u} {low} {at} {known} k n end x few within satu
     divides : (j : ℕ) → suc j ≤ n → AreAscii (take (suc j) block) → ¬ (DividesPair u (at + suc j))
     divides j few own =
         let here : at + j + 1 ≡ at + suc j = omega arith in
-        let low = Each1-get_or (λ n. n < 0x80) (take (suc j) block) j 0 (omega (
-          arith,
-          few,
-          length-chunk at n u within,
-          length-take (suc j) block,
-        )) own in
+        let low = Each1-get_or (λ n. n < 0x80) (take (suc j) block) j 0 (omega (arith, length-chunk, length-take {A = ℕ})) own in
         let unit = get_or-take (suc j) block j 0 (omega arith) ∙ get_or-take n (drop at u) j 0 (omega (arith, few))
         ∙ get_or-drop at u j 0 in
         subst (λ k. ¬ (DividesPair u k)) here
@@ -156,6 +153,5 @@ HasRoomFrom-after old new on larger r = (r.0, on r.0 r.1, λ n w form. omega (ar
 
 -- what begins with a list that begins with `a` begins with `a`
 pub begins_after : {a b : List ℕ} (c : List ℕ) → take (length a) b ≡ a → take (length b) c ≡ b → take (length a) c ≡ a
-begins_after {a} {b} c x y =
-    let short : length a ≤ length b = omega (arith, ap length x, length-take (length a) b) in
-    sym (take-take (length a) (length b) c short) ∙ ap (take (length a)) y ∙ x
+begins_after {a} {b} c x y = same_lists _ _ (grind (arith, places, ap length x, ap length y))
+    (λ k d l. grind (arith, places, ap length x, get_of x k d, get_of y k d))

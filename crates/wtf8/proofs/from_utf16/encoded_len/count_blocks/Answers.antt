@@ -5,23 +5,10 @@ use Rattle.wtf8.proofs.lemmas.from_utf16.EncodedLen.{each_more-block, IsCounted-
 use Rattle.wtf8.proofs.from_utf16.encoded_len.count_blocks.Goals as goal
 
 pub loop-at-init : goal.loop-at-init
-loop-at-init g c = record {
-  order = omega arith;
-  within = omega (arith, c.requires.left, c.min-end.ensures);
-  lanes = length-replicate g.row.N 0;
-  sum = sum-zeros g.row.N ∙ sym (sum-none (c.args.from.at - c.args.from.at) _ (omega arith));
-}
+loop-at-init g c = grind (arith, length-replicate, sum-zeros, sum-none)
 
 pub overflow_add-lanes : goal.overflow_add-lanes
-overflow_add-lanes g c =
-    let i = c.loop-at.invariant in
-    rw c.more_bytes_of_each-lanes.ensures (lanes_take_more c.loop-at.lanes _ _ (omega (
-      arith,
-      i.sum,
-      sum-most (c.loop-at.at - c.args.from.at) c.args.from.at c.args.units.now,
-      i.within,
-      c.min-end.ensures,
-    )))
+overflow_add-lanes g c = grind (arith, lanes_take_more, sum-most)
 
 pub loop-at-preserved : goal.loop-at-preserved
 loop-at-preserved g c =
@@ -47,50 +34,23 @@ loop-at-preserved g c =
       order = omega (arith, i.order);
       within = omega (arith, c.loop-at-test.true);
       lanes = length-zip2 (λ a b. a + b) c.loop-at.lanes (zip2 more_bytes block next) (i.lanes ∙ sym more) ∙ i.lanes;
-      sum = omega (
-        arith,
-        sum-zip2 c.loop-at.lanes (zip2 more_bytes block next) (i.lanes ∙ sym more),
-        i.sum,
-        ap sum_l same,
-        ap sum_l rest,
-        sum-take_add (at - from) n (drop from all),
-        ap (λ k. sum_l (take k (drop from all))) count,
-      );
+      sum = omega (arith, sum-zip2, ap sum_l same, ap sum_l rest, sum-take_add, ap (λ k. sum_l (take k (drop from all))) count);
     })
 
 pub overflow_add-result : goal.overflow_add-result
 overflow_add-result g c = record {
-  fits = omega (
-    arith,
-    c.requires.counted.bytes,
-    sum-most c.args.from.at 0 c.args.units.now,
-    c.requires.counted.within,
-    c.loop-at.invariant.within,
-    c.min-end.ensures,
-  );
+  fits = omega (arith, sum-most c.args.from.at 0 c.args.units.now);
 }
 
 pub overflow_add-lanes-2 : goal.overflow_add-lanes-2
-overflow_add-lanes-2 g c = sum_fits w16 0 c.loop-at.lanes (omega (
-  arith,
-  c.loop-at.invariant.sum,
-  sum-most (c.loop-at.at - c.args.from.at) c.args.from.at c.args.units.now,
-  c.loop-at.invariant.within,
-  c.min-end.ensures,
-))
+overflow_add-lanes-2 g c = sum_fits w16 0 c.loop-at.lanes (omega (arith, sum-most))
 
 pub overflow_add-result-2 : goal.overflow_add-result-2
 overflow_add-result-2 g c = record {
   fits = omega (
     arith,
-    c.requires.counted.bytes,
     sum-most c.args.from.at 0 c.args.units.now,
-    c.requires.counted.within,
-    c.loop-at.invariant.within,
-    c.min-end.ensures,
-    c.from.ensures,
     fold-sum 0 c.loop-at.lanes,
-    c.loop-at.invariant.sum,
     sum-most (c.loop-at.at - c.args.from.at) c.args.from.at c.args.units.now,
   );
 }

@@ -6,12 +6,7 @@ pub overflow_add-counted-in-loop-counted-2 : goal.overflow_add-counted-in-loop-c
 overflow_add-counted-in-loop-counted-2 c = record { fits = omega (arith, IsCounted-most c.loop-counted-2.invariant) }
 
 pub overflow_add-counted-in-loop-counted-2-2 : goal.overflow_add-counted-in-loop-counted-2-2
-overflow_add-counted-in-loop-counted-2-2 c = record {
-  fits = omega (
-    arith,
-    IsCounted-most (IsCounted-next c.loop-counted-2.invariant c.loop-counted-2-test.true c.more_bytes_at.ensures),
-  );
-}
+overflow_add-counted-in-loop-counted-2-2 c = grind (arith, IsCounted-most, IsCounted-next)
 
 pub loop-counted-2-preserved : goal.loop-counted-2-preserved
 loop-counted-2-preserved c = IsCounted-next c.loop-counted-2.invariant c.loop-counted-2-test.true c.more_bytes_at.ensures

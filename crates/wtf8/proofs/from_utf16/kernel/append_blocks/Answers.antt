@@ -1,4 +1,4 @@
-use Rattle.wtf8.proofs.Common.{ap, false≢true, arith, length, length-append, length-take-le, take, common_steps}
+use Rattle.wtf8.proofs.Common.{ℕ, ap, false≢true, arith, length, length-append, length-take-le, take, common_steps}
 use Rattle.wtf8.proofs.lemmas.from_utf16.Transcode.{ReadsOn-nil}
 use Rattle.wtf8.proofs.from_utf16.kernel.append_blocks.Goals as goal
 
@@ -14,15 +14,7 @@ pub returns-in_err-extend_from_slice-clause-room : goal.returns-in_err-extend_fr
 returns-in_err-extend_from_slice-clause-room g c room =
     let read = ReadsOn-nil c.loop-bytes.bytes.items (c.write_blocks-len.ensures.read c.loop-bytes.bytes.items) room.0 (c.loop-bytes.invariant.read room.0 room.1) in
     let fits = room.2 _ _ read.form.form in
-    absurd (false≢true (c.in_err-extend_from_slice.ensures.succeeds (omega (
-      arith,
-      fits,
-      length-append c.loop-bytes.bytes.items (take c.write_blocks-len.result.0 c.write_blocks-len.new.out),
-      c.loop-bytes.invariant.capacity,
-      c.make_room.ensures.capacity,
-      ap length c.make_room.ensures.items,
-      c.make_room.new.bytes.ok.0,
-    ))))
+    absurd (false≢true (c.in_err-extend_from_slice.ensures.succeeds (omega (arith, length-append {A = ℕ}, ap length c.make_room.ensures.items))))
 
 pub returns-then-v-read-lt-QUARTER_BLOCK-clause-read : goal.returns-then-v-read-lt-QUARTER_BLOCK-clause-read
 returns-then-v-read-lt-QUARTER_BLOCK-clause-read g c front read = rw (c.in_ok-extend_from_slice.ensures.items, c.make_room.ensures.items)

@@ -1,4 +1,4 @@
-use Rattle.wtf8.proofs.Common.{◌++◌, false≢true, length, length-append, length-take, arith, subst, take, take_all, IsKnownForm}
+use Rattle.wtf8.proofs.Common.{ℕ, ◌++◌, false≢true, length, length-append, length-take, arith, subst, take, take_all, IsKnownForm}
 use Rattle.wtf8.proofs.from_utf16.on_stack.append.Goals as goal
 
 pub returns-in_err-extend_from_slice-clause-room : goal.returns-in_err-extend_from_slice-clause-room
@@ -7,14 +7,8 @@ returns-in_err-extend_from_slice-clause-room g c room =
     let end = c.write_one_by_one-len in
     let part = take end.result.0 end.new.out in
     let read = end.ensures.read old room.0 room.1 in
-    absurd (false≢true (c.in_err-extend_from_slice.ensures.succeeds (omega (
-      arith,
-      room.2 _ _ read.form.form,
-      length-append old part,
-      length-take end.result.0 end.new.out,
-      end.ensures.within,
-      c.args.bytes.now.ok.0,
-    ))))
+    absurd (false≢true (c.in_err-extend_from_slice.ensures.succeeds
+    (omega (arith, room.2 _ _ read.form.form, length-append {A = ℕ}, length-take {A = ℕ}))))
 
 pub returns-clause-ok : goal.returns-clause-ok
 returns-clause-ok g c front read =

@@ -1,4 +1,4 @@
-use Rattle.wtf8.proofs.Common.{◌≡◌, ◌∙◌, [], ap, arith, inl, inr, length, length-take, subst, take, take_all, true, refl, IsKnownForm}
+use Rattle.wtf8.proofs.Common.{ℕ, ◌≡◌, ◌∙◌, [], ap, arith, inl, inr, length, length-take, subst, take, take_all, true, refl, IsKnownForm}
 use Rattle.wtf8.proofs.lemmas.codec.Readings.{lists_have_lengths}
 use Rattle.wtf8.proofs.lemmas.from_utf16.Transcode.{read_none}
 use Rattle.wtf8.proofs.from_utf16.on_stack.write_all.Goals as goal
@@ -16,17 +16,7 @@ returns-clause-form c =
     let own = end.ensures.read.form in
     let all : end.result.1.at ≡ length v = elim end.ensures.stops [
       | inl e ↦ e
-      | inr few ↦ absurd (omega (
-        arith,
-        few,
-        c.requires.room,
-        end.ensures.len,
-        lists_have_lengths own.form.points,
-        ap length own.form.reads.same_units,
-        ap length own.form.encoded,
-        length-take end.result.0 end.new.out,
-        length-take end.result.1.at v,
-        end.ensures.within,
-      ))
+      | inr few ↦ absurd
+          (omega (arith, lists_have_lengths own.form.points, ap length own.form.reads.same_units, ap length own.form.encoded, length-take {A = ℕ}))
     ] in
     subst (λ u. IsKnownForm (take end.result.0 end.new.out) u end.result.1.is_utf8) (ap (λ n. take n v) all ∙ take_all (length v) v (omega arith)) own

@@ -1,12 +1,8 @@
-use Rattle.wtf8.proofs.Common.{◌++◌, append-nil, arith, IsReadTo, subst, sym, take}
+use Rattle.wtf8.proofs.Common.{◌++◌, append-nil, arith, IsReadTo, subst, take}
 use Rattle.wtf8.proofs.from_utf16.on_stack.write_one_by_one.Goals as goal
 
 pub loop-read-init : goal.loop-read-init
-loop-read-init c = record {
-  within = omega arith;
-  len = omega arith;
-  read = λ w front read. subst (λ z. IsReadTo z front c.args.v.now 0 c.args.is_utf8) (sym (append-nil w)) read;
-}
+loop-read-init c = grind (arith, append-nil)
 
 pub loop-read-preserved : goal.loop-read-preserved
 loop-read-preserved c = record {

@@ -10,11 +10,8 @@ low c = IsFirstRead-low c.args.v.now c.args.from.at (number c.from_unit.result) 
     (omega (arith, c.if-v-from-lt-FIRST_LEAD.true)) c.from_unit.ensures
 
 pub returns-then-v-from-lt-FIRST_LEAD-clause-end : goal.returns-then-v-from-lt-FIRST_LEAD-clause-end
-returns-then-v-from-lt-FIRST_LEAD-clause-end c = omega (
-  arith,
-  c.write_encoding-end.ensures.end,
-  IsFirstRead-length (low (goal.at.returns-then-v-from-lt-FIRST_LEAD-clause-end c).After-write_encoding-end),
-)
+returns-then-v-from-lt-FIRST_LEAD-clause-end c =
+    omega (arith, IsFirstRead-length (low (goal.at.returns-then-v-from-lt-FIRST_LEAD-clause-end c).After-write_encoding-end))
 
 pub returns-then-v-from-lt-FIRST_LEAD-clause-read : goal.returns-then-v-from-lt-FIRST_LEAD-clause-read
 returns-then-v-from-lt-FIRST_LEAD-clause-read c w front read =
@@ -24,14 +21,7 @@ returns-then-v-from-lt-FIRST_LEAD-clause-read c w front read =
     (λ _ s. omega (arith, s.0, c.if-v-from-lt-FIRST_LEAD.true, c.from_unit.ensures)) own.ensures.bytes)
 
 pub returns-clause-end : goal.returns-clause-end
-returns-clause-end c =
-    let own = c.read_point-at.ensures in
-    omega (
-      arith,
-      c.write_encoding-end-2.ensures.end,
-      IsFirstRead-length
-          (record { within = own.within; divides_no_pair = own.divides_no_pair; reads = own.reads }),
-    )
+returns-clause-end c = grind (arith, IsFirstRead-length)
 
 pub returns-clause-read : goal.returns-clause-read
 returns-clause-read c w front read =

@@ -7,6 +7,4 @@ returns-clause-room g c is_utf8 room = c.reserve.ensures.succeeds (omega (
   arith,
   rest_form-fits c.args.bytes.now [] c.type_inv.v c.requires.within (HasRoomAfter-nothing c.args.bytes.now room),
   rest_form-longer c.args.v.now c.args.at c.type_inv.v,
-  c.requires.within,
-  c.args.bytes.now.ok.0,
 ))

@@ -13,18 +13,12 @@ counted g c =
 
 pub overflow_add-encoded : goal.overflow_add-encoded
 overflow_add-encoded g c = record {
-  fits = omega (
-    arith,
-    counted g (goal.at.overflow_add-encoded g c).After-encoded_len,
-    rest_form-most c.args.v.now c.args.at c.type_inv.v,
-    c.requires.encoded,
-  );
+  fits = omega (arith, counted g (goal.at.overflow_add-encoded g c).After-encoded_len, rest_form-most c.args.v.now c.args.at c.type_inv.v);
 }
 
 pub returns-clause-room : goal.returns-clause-room
 returns-clause-room g c w e room = c.reserve.ensures.room (omega (
   arith,
-  e,
   rest_form-fits c.args.bytes.now w c.type_inv.v c.requires.within room,
   counted g (goal.at.returns-clause-room g c).After-encoded_len,
 ))

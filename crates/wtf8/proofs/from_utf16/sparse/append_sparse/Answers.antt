@@ -46,12 +46,8 @@ returns-in_default-clause-begins g c = begins_after _ (unit_begins g (goal.at.re
     c.append_ascii.ensures.begins
 
 pub append_ascii-requires-in-loop-count-clause-few : goal.append_ascii-requires-in-loop-count-clause-few
-append_ascii-requires-in-loop-count-clause-few g c = omega (
-  arith,
-  (ascii g (goal.at.append_ascii-requires-in-loop-count-clause-few g c).In-Some).0,
-  c.loop-count.invariant.order,
-  c.requires.order,
-)
+append_ascii-requires-in-loop-count-clause-few g c =
+    omega (arith, (ascii g (goal.at.append_ascii-requires-in-loop-count-clause-few g c).In-Some).0)
 
 pub append_ascii-requires-in-loop-count-clause-ascii : goal.append_ascii-requires-in-loop-count-clause-ascii
 append_ascii-requires-in-loop-count-clause-ascii g c = (ascii g (goal.at.append_ascii-requires-in-loop-count-clause-ascii g c).In-Some).1
@@ -64,12 +60,8 @@ pub bounds-v-at-in-loop-count : goal.bounds-v-at-in-loop-count
 bounds-v-at-in-loop-count g c = omega (arith, (ascii g (goal.at.bounds-v-at-in-loop-count g c).In-Some).0, c.requires.within)
 
 pub returns-then-not-is_two_or_three_bytes-clause-order : goal.returns-then-not-is_two_or_three_bytes-clause-order
-returns-then-not-is_two_or_three_bytes-clause-order g c = omega (
-  arith,
-  (ascii g (goal.at.returns-then-not-is_two_or_three_bytes-clause-order g c).In-Some).0,
-  c.requires.within,
-  c.loop-count.invariant.order,
-)
+returns-then-not-is_two_or_three_bytes-clause-order g c =
+    omega (arith, (ascii g (goal.at.returns-then-not-is_two_or_three_bytes-clause-order g c).In-Some).0)
 
 pub returns-then-not-is_two_or_three_bytes-clause-read : goal.returns-then-not-is_two_or_three_bytes-clause-read
 returns-then-not-is_two_or_three_bytes-clause-read g c front read = c.append_ascii-in-loop-count.ensures.read c.args.from.is_utf8 front

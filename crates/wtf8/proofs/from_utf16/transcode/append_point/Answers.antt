@@ -19,12 +19,8 @@ point_read g c w front read =
 pub returns-in_err-append-clause-room : goal.returns-in_err-append-clause-room
 returns-in_err-append-clause-room g c room =
     let read = point_read g (goal.at.returns-in_err-append-clause-room g c).After-append _ room.0 room.1 in
-    absurd (false≢true (c.in_err-append.ensures.room (omega (
-      arith,
-      room.2 _ _ read.form.form,
-      ap (λ b. length (b ++ encoding (number c.read_point-at.result.0))) c.make_room.ensures.items,
-      c.make_room.ensures.capacity,
-    ))))
+    absurd (false≢true (c.in_err-append.ensures.room
+    (omega (arith, room.2 _ _ read.form.form, ap (λ b. length (b ++ encoding (number c.read_point-at.result.0))) c.make_room.ensures.items))))
 
 pub returns-clause-read : goal.returns-clause-read
 returns-clause-read g c front read = rw (c.in_ok-append.ensures.ok, c.make_room.ensures.items)
