@@ -15,10 +15,4 @@ returns-clause-shorter c =
     let position = c.boundary_before-position in
     let first = first_boundary c.args.view.well_formed c.requires.nonempty in
     let reached = position.ensures.last first.0 first.4 (omega (arith, first.2, first.3, c.min.ensures, c.len.ensures.bytes, c.requires.room)) in
-    omega (
-      arith,
-      reached,
-      first.1,
-      c.requires.nonempty,
-      ap length c.slice_from.ensures.bytes ∙ length-drop position.result c.args.view.bytes.now,
-    )
+    omega (arith, ap length c.slice_from.ensures.bytes ∙ length-drop position.result c.args.view.bytes.now)

@@ -1,4 +1,4 @@
-use Rattle.wtf8.proofs.Common.{◌-◌, ◌++◌, false≢true, arith, ap, length, length-append, length-take, take}
+use Rattle.wtf8.proofs.Common.{◌-◌, ◌++◌, false≢true, arith, length, length-append, length-take, take}
 use Rattle.wtf8.proofs.Common.{refl, encoding, pair, units, IsReadTo, IsTrail, IsWellFormed, ◌<◌, false, slice_index}
 use Rattle.std.proofs.lemmas.Result.{IfOk-weaker}
 use Rattle.wtf8.proofs.lemmas.codec.Encoding.{encoding_four}
@@ -37,28 +37,10 @@ returns-in_ok-complete_pair-in-Some-clause-ok g c h =
     (rw (c.in_ok-complete_pair-in-Some.ensures.ok, c.from.ensures) read)) c.append_utf16.ensures.ok
 
 pub returns-in_ok-complete_pair-in-Some-clause-before_lead : goal.returns-in_ok-complete_pair-in-Some-clause-before_lead
-returns-in_ok-complete_pair-in-Some-clause-before_lead g c = begins_before (length c.args.bytes.now.items - 3) c.args.bytes.now.items
-    c.complete_pair.new.bytes.items c.append_utf16.new.bytes.items _ c.append_utf16.ensures.begins c.in_ok-complete_pair-in-Some.ensures.ok
-    (omega arith)
+returns-in_ok-complete_pair-in-Some-clause-before_lead g c = grind (arith, begins_before)
 
 pub returns-in_ok-complete_pair-in-Some-clause-longer : goal.returns-in_ok-complete_pair-in-Some-clause-longer
-returns-in_ok-complete_pair-in-Some-clause-longer g c =
-    let w = c.args.bytes.now.items in
-    let done = completed g (goal.at.returns-in_ok-complete_pair-in-Some-clause-longer g c).In-Some in
-    let trail = (first g (goal.at.returns-in_ok-complete_pair-in-Some-clause-longer g c).In-Some).1 in
-    let lead = rw c.in-Some.is at c.requires.lead in
-    let four = ap length (encoding_four (pair c.in-Some.lead (slice_index c.args.v.now 0)) (omega (arith, lead, trail))) in
-    omega (
-      arith,
-      ap length c.append_utf16.ensures.begins,
-      length-take (length c.complete_pair.new.bytes.items) c.append_utf16.new.bytes.items,
-      ap length c.in_ok-complete_pair-in-Some.ensures.ok,
-      length-append (take (length w - 3) w) (encoding (pair c.in-Some.lead c.from.result)),
-      length-take (length w - 3) w,
-      done.three,
-      four,
-      ap (λ t. length (encoding (pair c.in-Some.lead t))) c.from.ensures,
-    )
+returns-in_ok-complete_pair-in-Some-clause-longer g c = grind (arith, completed, In-Some, encoding_four, length-take, length-append)
 
 pub returns-in_ok-complete_pair-in-Some-clause-room : goal.returns-in_ok-complete_pair-in-Some-clause-room
 returns-in_ok-complete_pair-in-Some-clause-room g c h fits =

@@ -22,18 +22,7 @@ overflow_add-two_len-2 g c =
 -- the length of the whole
 whole_length : (old x y z : List ℕ) (begin end n : ℕ) → begin ≤ end → end ≤ length old → n ≡ (length x + length y) + length z
     → length (take begin old ++ ((x ++ (y ++ z)) ++ drop end old)) + (end - begin) ≡ length old + n
-whole_length old x y z begin end n h k e = omega (
-  arith,
-  length-append (take begin old) ((x ++ (y ++ z)) ++ drop end old),
-  length-append (x ++ (y ++ z)) (drop end old),
-  length-append x (y ++ z),
-  length-append y z,
-  length-take-le begin old (omega (arith, h, k)),
-  length-drop end old,
-  h,
-  k,
-  e,
-)
+whole_length old x y z begin end n h k e = omega (arith, length-append {A = ℕ}, length-take-le {A = ℕ}, length-drop {A = ℕ})
 
 pub returns-in_err-open_gap : goal.returns-in_err-open_gap
 returns-in_err-open_gap g c x y z fx fy fz =

@@ -1,4 +1,4 @@
-use Rattle.wtf8.proofs.Common.{◌≡◌, ◌∙◌, ◌+◌, ◌++◌, Some, ap, sym, arith, length, length-drop, drop, slice_get, units, view_units}
+use Rattle.wtf8.proofs.Common.{ℕ, ◌≡◌, ◌∙◌, ◌++◌, Some, ap, sym, arith, length, length-drop, drop, slice_get, units, view_units}
 use Rattle.wtf8.proofs.Common.{IsWellFormed, after_held_trail}
 use Rattle.std.proofs.lemmas.Option.{slice_get_past}
 use Rattle.wtf8.proofs.lemmas.codec.Readings.{lists_have_lengths, IsWellFormed-equal_bytes, same_points}
@@ -25,9 +25,7 @@ returns-then-cursor-view c =
 divided : (c : After-find_unit-cursor) → ¬ (c.find_unit-cursor.result.position ≡ length c.args.view.bytes.now)
     → ¬ (c.find_unit-cursor.result.units ≡ c.args.index)
     → InPair c.args.view.well_formed.points c.args.index c.find_unit-cursor.result
-divided c e =
-    in_pair_at_cursor (points_about_unit c.args.view.well_formed c.args.index c.find_unit-cursor.result c.find_unit-cursor.ensures)
-    (omega (arith, c.find_unit-cursor.ensures.before.within, e, ap length c.args.view.well_formed.encoded))
+divided c e = grind (arith, in_pair_at_cursor, points_about_unit)
 
 -- the cursor is between code points
 undivided : (c : After-find_unit-cursor) → c.find_unit-cursor.result.units ≡ c.args.index
@@ -42,13 +40,7 @@ split_at-requires c =
 pub read_trail-requires : goal.read_trail-requires
 read_trail-requires c =
     let d = (divided (goal.at.read_trail-requires c).After-find_unit-cursor c.if-cursor-view.false c.if-cursor-index.true).divided in
-    omega (
-      arith,
-      d.long,
-      ap length c.args.view.well_formed.encoded,
-      ap length c.split_at.ensures.back,
-      length-drop (c.find_unit-cursor.result.position + 2) c.args.view.bytes.now,
-    )
+    omega (arith, ap length c.args.view.well_formed.encoded, ap length c.split_at.ensures.back, length-drop {A = ℕ})
 
 pub returns-then-cursor-index : goal.returns-then-cursor-index
 returns-then-cursor-index c =

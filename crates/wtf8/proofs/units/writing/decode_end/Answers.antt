@@ -73,15 +73,10 @@ returns-clause-written g c =
       same_total = written.same_total ∙ own.2;
       order = omega (
         arith,
-        written.same_total,
-        own.2,
         ap length (end.encoded ∙ c.write_front.ensures.bytes),
         (lists_have_lengths end.points).units_least,
-        length-drop g.row.BYTES c.slice_from-view.result.bytes.now,
+        length-drop {A = ℕ},
         ap length c.slice_from-view.ensures.bytes,
-        length-drop (c.len-start.result - g.row.BYTES) c.args.left.view.bytes.now,
-        c.len-start.ensures.bytes,
-        c.requires.few,
       );
       len = written.len;
       later = written.later;

@@ -1,4 +1,4 @@
-use Rattle.wtf8.proofs.Common.{◌≡◌, ◌<◌, ◌-◌, ◌∙◌, ◌≤◌, ap, arith, length, length-drop, replicate, subst, sym, take, take_all, take_at, AreAscii}
+use Rattle.wtf8.proofs.Common.{◌∙◌, ap, arith, length, length-drop, take_all, take_at}
 use Rattle.std.proofs.lemmas.List.{nil_from_length}
 use Rattle.wtf8.proofs.lemmas.lanes.AsciiFronts.{Each1-take}
 use Rattle.wtf8.proofs.lemmas.codec.Readings.{lists_have_lengths}
@@ -7,17 +7,7 @@ use Rattle.wtf8.proofs.lemmas.units.UnitEnds.{IsBlock-padded}
 use Rattle.wtf8.proofs.units.writing.decode_last.Goals as goal
 
 pub write_front-requires : goal.write_front-requires
-write_front-requires c =
-    let w = c.args.left.view.bytes.now in
-    let n = c.len-len.result in
-    let count : n ≡ length w = c.len-len.ensures.bytes in
-    let block = c.widen.ensures ∙ c.padded-block.ensures in
-    let front : take n c.widen.result ≡ take n w =
-    ap (take n) block ∙ (take_at w (replicate (32 - length w) 0) n (sym count) ∙ sym (take_all n w (omega (arith, count)))) in
-    let ascii = Each1-take (λ b. b < 0x80) n c.widen.result (subst AreAscii (sym c.widen.ensures) (c.is_ascii_block.ensures c.if-is_ascii_block.true)) in
-    let begins = begins_with_ascii w (take n c.widen.result) n (omega (arith, count)) front ascii in
-    let few : n ≤ 32 = omega (arith, count, c.requires.few) in
-    (omega arith, (omega arith, (omega (arith, c.requires.room), ((few, omega (arith, count)), begins))))
+write_front-requires c = grind (arith, take_at, take_all, Each1-take, begins_with_ascii)
 
 pub returns-then-is_ascii_block-clause-all : goal.returns-then-is_ascii_block-clause-all
 returns-then-is_ascii_block-clause-all c =

@@ -16,22 +16,14 @@ record KnowsWidth (block : List ℕ) (n : ℕ) : Type 0 where
 
 knows_width : (block : List ℕ) (ends : ℕ) → length block ≡ 32 → ends ≡ mask_l (set_lanes 0 0 block)
     → KnowsWidth block (64 - count_leading_zeros 64 ends)
-knows_width block ends long e =
-    let s = set_lanes 0 0 block in
-    let set : length s ≡ 32 = length-set_lanes 0 0 block ∙ long in
-    let width = ap (λ m. 64 - count_leading_zeros 64 m) e ∙ leading_zeros-mask_l s (omega (arith, set)) in
-    record { set = set; same = width; within = omega (arith, width, whole_len-bound s, set) }
+knows_width block ends long e = grind (arith, length-set_lanes, leading_zeros-mask_l, whole_len-bound)
 
 -- all units of the block were written, and those of the zeros after its bytes
 all_written : {old new : List ℕ} {at end : ℕ} (w bytes low high : List ℕ) (padding : ℕ) (h : IsWellFormed w) (own : HoldsUnits w bytes padding h)
     → low ≡ by_position (λ z y x b. low_of_any y x b) 0 0 0 bytes → high ≡ by_position high_of_any 0 0 0 bytes
     → Writes old at (picked (joined_words low high) (set_lanes 0 0 bytes) ++ []) new end []
     → Writes old at (own.taken ++ replicate padding 0) new end []
-all_written w bytes low high padding h own e g written =
-    let words = (λ i. joined_words (e i) (g i)) ∙ joined_words-by_position 0 0 0 bytes in
-    let all = append-nil (picked (joined_words low high) (set_lanes 0 0 bytes))
-    ∙ (ap (λ u. picked u (set_lanes 0 0 bytes)) words ∙ own.picks) in
-    Writes-equal_left all written
+all_written w bytes low high padding h own e g written = grind (arith, joined_words-by_position, append-nil, Writes-equal_left)
 
 pub overflow_sub-at : goal.overflow_sub-at
 overflow_sub-at c =

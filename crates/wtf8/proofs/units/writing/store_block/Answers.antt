@@ -31,10 +31,4 @@ returns-clause-written c s rest long same =
     Writes-equal_left whole (Writes-trans first (Writes-trans second (Writes-trans third fourth)))
 
 pub returns-clause-later : goal.returns-clause-later
-returns-clause-later c n after =
-    let first = c.store_packed-after.ensures in
-    let second = c.store_packed-after-2.ensures in
-    let third = c.store_packed-after-3.ensures in
-    c.store_packed.ensures.later n (omega (arith, after, first.within, second.within, third.within))
-    ∙ (third.later n (omega (arith, after, first.within, second.within))
-    ∙ (second.later n (omega (arith, after, first.within)) ∙ first.later n (omega (arith, after))))
+returns-clause-later c n after = grind arith

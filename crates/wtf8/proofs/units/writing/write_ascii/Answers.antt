@@ -4,14 +4,10 @@ use Rattle.wtf8.proofs.lemmas.codec.Scalars.{view_units-ascii}
 use Rattle.wtf8.proofs.units.writing.write_ascii.Goals as goal
 
 pub store_units-requires : goal.store_units-requires
-store_units-requires g c =
-    let same = ap length (view_units-ascii c.args.view c.requires.ascii) in
-    (omega (arith, c.requires.lanes), (c.requires.lanes, omega (arith, same, c.requires.room, c.requires.all.0)))
+store_units-requires g c = grind (arith, view_units-ascii)
 
 pub store_units-requires-2 : goal.store_units-requires-2
-store_units-requires-2 g c =
-    let same = ap length (view_units-ascii c.args.view c.requires.ascii) in
-    (omega (arith, c.requires.lanes), (c.requires.lanes, omega (arith, same, c.requires.room, c.requires.all.0, c.store_units.ensures.len)))
+store_units-requires-2 g c = grind (arith, view_units-ascii)
 
 pub returns-clause-units : goal.returns-clause-units
 returns-clause-units g c =

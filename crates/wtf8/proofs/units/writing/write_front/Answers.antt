@@ -1,4 +1,4 @@
-use Rattle.wtf8.proofs.Common.{◌++◌, ◌∙◌, ap, sym, arith, length, length-append, take, append_assoc, units, view_units, length-take-le}
+use Rattle.wtf8.proofs.Common.{ℕ, ◌++◌, ◌∙◌, ap, sym, arith, length, length-append, take, append_assoc, units, view_units, length-take-le}
 use Rattle.wtf8.proofs.units.writing.write_front.Goals as goal
 
 pub skip_bytes-requires-clause-well_formed : goal.skip_bytes-requires-clause-well_formed
@@ -13,13 +13,7 @@ returns-clause-written g c =
     record {
       units = ap (λ u. u ++ view_units c.skip_bytes.result) (c.store_units.ensures.front c.args.count c.requires.within.0) ∙ (append_assoc
           old front (view_units c.skip_bytes.result) ∙ (ap (λ u. old ++ (front ++ u)) after ∙ ap (λ u. old ++ u) (sym begins.1)));
-      same_total = omega (
-        arith,
-        ap length begins.1,
-        length-append front (units begins.0.points),
-        ap length after,
-        length-take-le c.args.count c.args.block (omega (arith, c.requires.within.0)),
-      );
+      same_total = omega (arith, ap length begins.1, length-append {A = ℕ}, ap length after, length-take-le {A = ℕ});
       order = omega arith;
       len = c.store_units.ensures.len;
       later = λ n after. c.store_units.ensures.later n (omega (arith, after, c.requires.lanes));

@@ -104,9 +104,7 @@ returns-in_default-clause-missed g c v room =
     no_room g (goal.at.returns-in_default-clause-missed g c).In_default [] v (rw more at room)
 
 pub returns-in_default-clause-no_smaller : goal.returns-in_default-clause-no_smaller
-returns-in_default-clause-no_smaller g c all =
-    let none = call_among c.args.calls.now c.loop-done.done c.index-calls-done.result (omega arith) c.index-calls-done.is all in
-    omega (arith, c.loop-done.invariant.no_smaller all, c.in_default.ensures.capacity none)
+returns-in_default-clause-no_smaller g c all = grind (arith, call_among)
 
 pub returns-in_default-clause-room : goal.returns-in_default-clause-room
 returns-in_default-clause-room g c v all fit =
@@ -126,9 +124,7 @@ pub returns-clause-capacity : goal.returns-clause-capacity
 returns-clause-capacity g c v all = c.loop-done.invariant.no_smaller (none_truncates c.args.calls.now v all)
 
 pub returns-clause-appends : goal.returns-clause-appends
-returns-clause-appends g c v all =
-    let whole = take_all c.loop-done.done c.args.calls.now (omega arith) in
-    run_appends _ _ _ _ v c.loop-done.invariant.ran (subst (λ d. CallsAppend d v) (sym whole) all)
+returns-clause-appends g c v all = grind (arith, take_all, run_appends)
 
 -- the goals from here on are proved without an answer too, but in 15 seconds
 pub loop-done-init : goal.loop-done-init
@@ -141,12 +137,4 @@ loop-done-init g c = record {
 }
 
 pub returns-in_default-clause-stopped : goal.returns-in_default-clause-stopped
-returns-in_default-clause-stopped g c =
-    let calls = c.args.calls.now in record {
-      call = c.index-calls-done.result;
-      here = slice_get_read calls (length calls) c.loop-done.done c.index-calls-done.result refl (omega arith) c.index-calls-done.is;
-      mid = c.loop-done.self.units;
-      refused = c.loop-done.refused;
-      before = c.loop-done.invariant.ran;
-      leaves = c.in_default.ensures.refused;
-    }
+returns-in_default-clause-stopped g c = grind (arith, slice_get_read)

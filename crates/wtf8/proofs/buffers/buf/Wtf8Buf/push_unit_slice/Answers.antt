@@ -30,13 +30,7 @@ front g c =
 pub take_back-requires-clause-within : goal.take_back-requires-clause-within
 take_back-requires-clause-within g c =
     let kept = front g (goal.at.take_back-requires-clause-within g c).After-is_err in
-    omega (
-      arith,
-      kept.longer,
-      c.len-len.ensures,
-      c.self.inside.bytes.ok.0,
-      ap (λ (s : UnitString). length s.bytes) c.self-2.view_is,
-    )
+    omega (arith, ap (λ (s : UnitString). length s.bytes) c.self-2.view_is)
 
 pub take_back-requires-clause-lead : goal.take_back-requires-clause-lead
 take_back-requires-clause-lead g c = lead_length c.len-len.result c.self.inside.well_formed c.final_lead_surrogate-lead.result

@@ -15,12 +15,7 @@ use Rattle.wtf8.proofs.buffers.buf.Wtf8Buf.replace_middle.Goals as goal
 pub replace-requires-clause-order : goal.replace-requires-clause-order
 replace-requires-clause-order g c =
     let s = c.args.self.now in
-    omega (
-      arith,
-      rounded_in_order s.form c.requires.from c.requires.to c.requires.begin c.requires.end c.requires.order,
-      c.cut_before-before.ensures.order,
-      c.cut_after-after.ensures.order,
-    )
+    omega (arith, rounded_in_order s.form c.requires.from c.requires.to c.requires.begin c.requires.end c.requires.order)
 
 -- the surrogates beside the new units, and these
 abbrev middle : (g : _) → After-replace g → List ℕ

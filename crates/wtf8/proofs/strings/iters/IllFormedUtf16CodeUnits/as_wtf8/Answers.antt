@@ -12,9 +12,7 @@ none_held (a ∷ b ∷ w) e = grind (arith, cases_Bool)
 
 none_here : (c : After-split_at) → (held_trail (drop c.self.inside.position c.self.inside.bytes.now) ≡ [])
     × (after_held_trail (drop c.self.inside.position c.self.inside.bytes.now) ≡ drop c.self.inside.position c.self.inside.bytes.now)
-none_here c =
-    let held = ap (λ u. length u.held) c.self.view_is in
-    none_held _ (omega (arith, c.held_units.ensures.value, c.held_units.ensures.at_most_one, c.if-held_units-eq1.false))
+none_here c = grind (arith, none_held)
 
 pub from_well_formed-requires : goal.from_well_formed-requires
 from_well_formed-requires c = IsWellFormed-equal_bytes c.self.inside.after

@@ -21,7 +21,7 @@ read_trail-requires c =
       arith,
       long h (divided_after_mark h c.requires.mark c.requires.last c.if-mark-n.true).1,
       ap length c.split_at.ensures.back,
-      length-drop (c.args.mark.position + 2) c.args.self.bytes.now,
+      length-drop {A = ℕ},
     )
 
 pub returns-then-mark-n-clause-cut : goal.returns-then-mark-n-clause-cut
@@ -31,10 +31,7 @@ returns-then-mark-n-clause-cut c =
     (cuts_after_pair c.read_trail.result h.clean d (c.read_trail.ensures ∙ trail_in_pair h d c.split_at.ensures.back)).1
 
 pub returns-then-mark-n-clause-trail : goal.returns-then-mark-n-clause-trail
-returns-then-mark-n-clause-trail c =
-    let h = c.args.self.well_formed in
-    let d = (divided_after_mark h c.requires.mark c.requires.last c.if-mark-n.true).1 in
-    (cuts_after_pair c.read_trail.result h.clean d (c.read_trail.ensures ∙ trail_in_pair h d c.split_at.ensures.back)).0
+returns-then-mark-n-clause-trail c = grind (arith, divided_after_mark, cuts_after_pair, trail_in_pair)
 
 pub returns-then-mark-n-clause-within : goal.returns-then-mark-n-clause-within
 returns-then-mark-n-clause-within c =

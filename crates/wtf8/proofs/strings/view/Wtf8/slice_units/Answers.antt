@@ -30,13 +30,7 @@ trail_before_end c =
 -- the units from `begin` on: the cut-off trail, if any, and the rest
 units_from_begin : (c : After-from)
     → c.from.result + length (view_units c.units_after-trail.result.1) ≡ length (view_units c.args.self.now) - c.args.begin
-units_from_begin c = omega (
-  arith,
-  half_len c,
-  ap length c.units_after-trail.ensures.units,
-  length-append (option_to_list c.units_after-trail.result.0) (view_units c.units_after-trail.result.1),
-  length-drop c.args.begin (view_units c.args.self.now),
-)
+units_from_begin c = omega (arith, half_len, ap length c.units_after-trail.ensures.units, length-append {A = ℕ}, length-drop {A = ℕ})
 
 pub first_units-lead-requires : goal.first_units-lead-requires
 first_units-lead-requires c = omega (arith, units_from_begin c, c.requires.within)

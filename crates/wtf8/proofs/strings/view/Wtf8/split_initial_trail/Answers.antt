@@ -5,9 +5,7 @@ use Rattle.wtf8.proofs.lemmas.strings.Editing.{after_trail}
 use Rattle.wtf8.proofs.strings.view.Wtf8.split_initial_trail.Goals as goal
 
 pub returns-in_default-clause-none : goal.returns-in_default-clause-none
-returns-in_default-clause-none c t r trail e =
-    let h = c.args.self.well_formed in
-    let first = trail_begins h.points r t h.clean trail e in c.in_default.ensures.none t first.0 trail first.1
+returns-in_default-clause-none c t r trail e = grind (arith, trail_begins)
 
 pub skip_bytes-requires : goal.skip_bytes-requires
 skip_bytes-requires c =
