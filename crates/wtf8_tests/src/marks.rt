@@ -162,40 +162,52 @@ fn next_surrogate_after_a_position(rt: HostRuntime) {
     assert!(rt; has_next_surrogates(made), "a surrogate");
 }
 
-/// Whether these are numbers of code points of this encoded length.
-fn have_len(numbers: &[u32], len: usize) -> bool {
-    for number in numbers {
-        match CodePoint::from_u32(*number) {
-            Some(point) if point.encoded_len() == len => {}
-            _ => return false,
-        }
+/// Whether a number is that of a code point of this encoded length.
+fn has_len(number: u32, len: usize) -> bool {
+    match CodePoint::from_u32(number) {
+        Some(point) => point.encoded_len() == len,
+        None => false,
     }
-    true
 }
 
 #[test]
 fn encoded_lengths_are_those_of_table_3_6(rt: HostRuntime) {
-    assert!(rt; have_len(&[0x00, 0x7F], 1));
-    assert!(rt; have_len(&[0x80, 0x7FF], 2));
-    assert!(rt; have_len(&[0x800, 0xD800, 0xFFFF], 3));
-    assert!(rt; have_len(&[0x10000, 0x10FFFF], 4));
+    for (number, len) in [
+        (0x00, 1),
+        (0x7F, 1),
+        (0x80, 2),
+        (0x7FF, 2),
+        (0x800, 3),
+        (0xD800, 3),
+        (0xFFFF, 3),
+        (0x10000, 4),
+        (0x10FFFF, 4),
+    ] {
+        assert!(rt; has_len(number, len), "{number}");
+    }
 }
 
-/// Whether these are numbers of code points of this number of units.
-fn have_units(numbers: &[u32], units: usize) -> bool {
-    for number in numbers {
-        match CodePoint::from_u32(*number) {
-            Some(point) if point.len_utf16() == units => {}
-            _ => return false,
-        }
+/// Whether a number is that of a code point of this number of units.
+fn has_units(number: u32, units: usize) -> bool {
+    match CodePoint::from_u32(number) {
+        Some(point) => point.len_utf16() == units,
+        None => false,
     }
-    true
 }
 
 #[test]
 fn numbers_of_units_are_those_of_table_3_5(rt: HostRuntime) {
-    assert!(rt; have_units(&[0x00, 0xD7FF, 0xD800, 0xDFFF, 0xFFFF], 1));
-    assert!(rt; have_units(&[0x10000, 0x10FFFF], 2));
+    for (number, units) in [
+        (0x00, 1),
+        (0xD7FF, 1),
+        (0xD800, 1),
+        (0xDFFF, 1),
+        (0xFFFF, 1),
+        (0x10000, 2),
+        (0x10FFFF, 2),
+    ] {
+        assert!(rt; has_units(number, units), "{number}");
+    }
 }
 
 /// Whether the iterator yields `unit`, and has the size hint `hint` after it.
