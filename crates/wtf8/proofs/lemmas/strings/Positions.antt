@@ -94,7 +94,9 @@ cut_by {w} h front back k e n =
     }
 
 pub cut_at : {w : List ℕ} (h : IsWellFormed w) (k : ℕ) → IsBoundary (units h.points) k → Cut w h k
-cut_at h k b = grind (arith, cut_by, same_reading)
+cut_at h k b =
+    let reads = b.splits.reads in
+    cut_by h b.front b.back k (same_reading h.points (b.front ++ b.back) h.clean reads.clean (sym reads.same_units)) b.splits.front_len
 
 pub boundary_of : {w : List ℕ} (h : IsWellFormed w) (front back : List ℕ) (k : ℕ) → h.points ≡ front ++ back → length (bytes front) ≡ k
     → IsBoundary (units h.points) k

@@ -122,7 +122,11 @@ module _ {T E Z : Type 0} (b n : Vec ℕ Z) {v : List ℕ} where
   pub units_refused : (r : Result T E) (h : IsWellFormed b.items) (u : All IsUnit v) → n.items ≡ b.items
       → (length (whole_form h v u) ≤ vec_capacity b → IsOk r) → ¬ (IsOk r) → vec_capacity b ≤ vec_capacity n → ExtendsFormOrKeeps b v n r
   units_refused (Ok x) h u same room refused larger = absurd (refused refl)
-  units_refused (Err e) h u same room refused larger = grind (arith, whole_form-extends)
+  units_refused (Err e) h u same room refused larger = record {
+    whole = whole_form h v u;
+    extends = whole_form-extends h v u;
+    becomes = record { ok = tt; err = same; room = room; capacity = larger };
+  }
 
 module _ {T E Z : Type 0} {b m : Vec ℕ Z} where
   -- after units were appended or refused the bytes are well-formed, with a UTF-8 prefix of `n` bytes

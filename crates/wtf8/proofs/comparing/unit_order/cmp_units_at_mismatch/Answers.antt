@@ -9,7 +9,10 @@ common_front : (c : Else-supplementary_begins)
 common_front c = search (rules, common_front_at_mismatch)
 
 pub returns-then-supplementary_begins : goal.returns-then-supplementary_begins
-returns-then-supplementary_begins c = grind (arith, iff_from_equal, bytes_order)
+returns-then-supplementary_begins c =
+    let both = iff_from_equal _ _ c.supplementary_begins.ensures c.supplementary_begins-2.ensures c.if-supplementary_begins.true in
+    let bytes = bytes_order c.args.own.well_formed c.args.others.well_formed _ c.mismatch-at.ensures both in
+    c.cmp.ensures ∙ rw (c.byte_at.ensures, c.byte_at-then-supplementary_begins.ensures) bytes
 
 pub slice_from-requires : goal.slice_from-requires
 slice_from-requires c =

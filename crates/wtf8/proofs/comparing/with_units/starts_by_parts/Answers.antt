@@ -6,11 +6,16 @@ use Rattle.wtf8.proofs.comparing.with_units.starts_by_parts.Goals as goal
 
 -- the parts that are compared are the first `n` units of both, where the first of them ends
 least : (g : _) (c : After-ne g) → c.min.result ≡ min (length (take c.decode_part-count.result.0 c.decode_part-count.new.block)) (length c.loop-rest.others.now)
-least g c = grind (arith, length-take-le)
+least g c =
+    let part = c.decode_part-count in
+    c.min.ensures ∙ ap (λ k. min k (length c.loop-rest.others.now)) (sym (length-take-le part.result.0 part.new.block part.ensures.within))
 
 own_front : (g : _) (c : After-ne g) → take (length c.split_at.result.0.now) c.decode_part-count.new.block
     ≡ take c.min.result (take c.decode_part-count.result.0 c.decode_part-count.new.block)
-own_front g c = grind (arith, take-take)
+own_front g c =
+    let part = c.decode_part-count in
+    ap (λ k. take k part.new.block) c.split_at.ensures.front_len
+    ∙ sym (take-take c.min.result part.result.0 part.new.block (omega (arith, c.min.ensures)))
 
 pub returns-then-ne : goal.returns-then-ne
 returns-then-ne g c =

@@ -1,4 +1,4 @@
-use Rattle.wtf8.proofs.Common.{◌≡◌, ℕ, ◌<◌, ◌≤◌, List, length, get_or, drop, arith, sym, subst, length-drop, inr, IsWellFormed}
+use Rattle.wtf8.proofs.Common.{◌≡◌, ℕ, ◌<◌, ◌≤◌, List, length, get_or, drop, arith, sym, subst, length-drop, inl, inr, IsWellFormed}
 use Rattle.wtf8.proofs.Common.{BeginsWithPoint, after_held_trail}
 use Rattle.wtf8.proofs.lemmas.units.UnitCuts.{held_trail-two_bytes, none_held_at, steps_one, steps_lead, steps_trail}
 use Rattle.wtf8.proofs.lemmas.codec.Readings.{first_of, IsWellFormed-equal_bytes}
@@ -12,7 +12,11 @@ begins_with_point v at h same long high =
     subst BeginsWithPoint (sym same) (first_of (IsWellFormed-equal_bytes h (sym n.1)) (omega (arith, length-drop at v))).0
 
 pub returns-then-first-lt128 : goal.returns-then-first-lt128
-returns-then-first-lt128 c h = grind (arith, steps_one)
+returns-then-first-lt128 c h =
+    let low = c.if-first-lt128.true in
+    steps_one c.args.bytes.now c.args.position.now h c.from.result 1 c.split_at.ensures.back c.requires.inside
+    (record { start = inl low }) (omega (arith, c.from.ensures, low))
+    (λ b. let f = b.by_lead in (omega (arith, c.from.ensures), omega arith))
 
 pub read_two-requires-clause-front : goal.read_two-requires-clause-front
 read_two-requires-clause-front c =

@@ -17,7 +17,9 @@ part c = length-take-le c.encode_front-front.result.bytes c.encode_front-front.n
 joins : (c : After-encode_front-front) → (w : List ℕ)
     → IsForm w (drop c.encode_front-front.result.units (drop c.loop-read.read c.args.v.now))
     → IsForm (take c.encode_front-front.result.bytes c.encode_front-front.new.out ++ w) (drop c.loop-read.read c.args.v.now)
-joins c = grind (arith, take_rest)
+joins c = subst (λ l. (w : List ℕ) → IsForm w (drop c.encode_front-front.result.units l)
+    → IsForm (take c.encode_front-front.result.bytes c.encode_front-front.new.out ++ w) l) (take_rest c.args.v.now c.loop-read.read)
+    c.encode_front-front.ensures.rest
 
 room : (c : After-encode_front-front) → c.loop-read.to + c.encode_front-front.result.bytes ≤ length c.args.out.now
 room c = omega (

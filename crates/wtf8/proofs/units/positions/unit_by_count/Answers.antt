@@ -25,7 +25,9 @@ returns-then-cursor-view c =
 divided : (c : After-find_unit-cursor) → ¬ (c.find_unit-cursor.result.position ≡ length c.args.view.bytes.now)
     → ¬ (c.find_unit-cursor.result.units ≡ c.args.index)
     → InPair c.args.view.well_formed.points c.args.index c.find_unit-cursor.result
-divided c e = grind (arith, in_pair_at_cursor, points_about_unit)
+divided c e =
+    in_pair_at_cursor (points_about_unit c.args.view.well_formed c.args.index c.find_unit-cursor.result c.find_unit-cursor.ensures)
+    (omega (arith, c.find_unit-cursor.ensures.before.within, e, ap length c.args.view.well_formed.encoded))
 
 -- the cursor is between code points
 undivided : (c : After-find_unit-cursor) → c.find_unit-cursor.result.units ≡ c.args.index
