@@ -1,5 +1,5 @@
 -- Blocks of units of mixed kinds: three candidate bytes of each unit in lanes, and the shuffle that packs them.
-use Rattle.wtf8.proofs.Common.{◌≡◌, ℕ, suc, ◌+◌, ◌-◌, ◌*◌, ◌/◌, ◌%◌, ◌^◌, ◌<◌, ◌≤◌, List, [], ◌∷◌, ◌++◌, length, take, drop, get_or, map}
+use Rattle.wtf8.proofs.Common.{rules, ◌≡◌, ℕ, suc, ◌+◌, ◌-◌, ◌*◌, ◌/◌, ◌%◌, ◌^◌, ◌<◌, ◌≤◌, List, [], ◌∷◌, ◌++◌, length, take, drop, get_or, map}
 use Rattle.wtf8.proofs.Common.{replicate, zip2, Each1, cond, ltb, leb, eqb, top, Bool, false, length-append, false≢true, refl, sym}
 use Rattle.wtf8.proofs.Common.{ap, ◌∙◌, arith, lt-ltb, le-ltb, subst, cases_lt, cases_Bool, inl, inr, Fits, append-nil, append_assoc}
 use Rattle.wtf8.proofs.Common.{map-append, ◌&&◌, mask_l-mod, eq-eqb, pick_l_whole, IsSurrogate, sel_l, mask_l, w8, w16, bit_and}
@@ -73,13 +73,7 @@ pub scalar_last_lanes-map : (u : List ℕ) → length u ≡ 16 → Each1 (Fits w
 scalar_last_lanes-map = map_lanes scalar_last_lanes lane (λ u. refl)
   where
     lane : (x : ℕ) → Fits w16 x → let low = (0x80 + x % 64) % 65536 in cond (top 15 (cond (ltb x low) 0xFFFF 0)) x low ≡ scalar_last_byte x
-    lane x h = elim (cases_lt x 0x80) [
-      | inl l ↦ rw (lt-ltb x 0x80 l, lt-ltb x ((0x80 + x % 64) % 65536) (omega (arith, l))) refl
-      | inr g ↦ elim (cases_lt x ((0x80 + x % 64) % 65536)) [
-        | inl l ↦ absurd (omega (arith, g, l))
-        | inr m ↦ rw (le-ltb x 0x80 g, le-ltb x ((0x80 + x % 64) % 65536) m) (omega arith)
-      ]
-    ]
+    lane x h = search (rules, arith, cases_lt, lt-ltb, le-ltb)
 
 pub scalar_flag_lanes-map : (u : List ℕ) → length u ≡ 16 → Each1 (Fits w16) u
     → select_by ltb 0x800 u (replicate 16 0) (replicate 16 0x8000) ≡ map three_byte_flag u

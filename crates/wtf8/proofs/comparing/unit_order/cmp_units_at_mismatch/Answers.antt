@@ -1,4 +1,4 @@
-use Rattle.wtf8.proofs.Common.{arith, ◌∙◌, rules}
+use Rattle.wtf8.proofs.Common.{◌∙◌, rules}
 use Rattle.wtf8.proofs.lemmas.comparing.Order.{CommonFront, iff_from_equal, common_front_at_mismatch, bytes_order, rests_order}
 use Rattle.wtf8.proofs.lemmas.strings.Positions.{boundary_of}
 use Rattle.wtf8.proofs.comparing.unit_order.cmp_units_at_mismatch.Goals.{Else-supplementary_begins}
